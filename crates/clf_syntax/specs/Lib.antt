@@ -1,0 +1,5 @@
+pub mod Tree
+pub mod TypeTree
+pub mod Plain
+pub mod PlainTypes
+pub mod Word

@@ -1,0 +1,55 @@
+-- Plain trees of objects: what contracts see of `Obj`, `Neutral`, `Expr` and their parts.
+-- A spine is nested, as applications and projections, and an expression is a chain of steps.
+use Rattle.std.specs.Prelude.{ℕ, List, [], ◌∷◌}
+use Rattle.clf_syntax.specs.declared.tree.Mode.{Mode}
+use Rattle.clf_syntax.specs.declared.tree.Head.{Head}
+
+mutual
+  -- a normal object
+  pub data Object : Type 0 where
+    lam : Mode → Object → Object
+    pair : Object → Object → Object
+    unit : Object
+    monadic : Expression → Object
+    atomic : PlainNeutral → Object
+    hole : Object
+
+  -- a head under applications and projections
+  pub data PlainNeutral : Type 0 where
+    bare : Head → PlainNeutral
+    app : Mode → PlainNeutral → Object → PlainNeutral
+    fst : PlainNeutral → PlainNeutral
+    snd : PlainNeutral → PlainNeutral
+
+  -- steps `let {p} = R in`, each of which binds as many variables as it has modes, and a tuple at the end
+  pub data Expression : Type 0 where
+    step : List Mode → PlainNeutral → Expression → Expression
+    done : Tuple → Expression
+
+  pub data Tuple : Type 0 where
+    empty : Tuple
+    entry : Mode → Object → Tuple → Tuple
+
+-- one place of a spine
+pub data Elimination : Type 0 where
+  arg : Mode → Object → Elimination
+  first : Elimination
+  second : Elimination
+
+abbrev pub eliminated : Elimination → PlainNeutral → PlainNeutral
+eliminated (arg m o) r = app m r o
+eliminated first r = fst r
+eliminated second r = snd r
+
+-- a neutral under the eliminations of a spine, the first one innermost
+abbrev pub spine_on : List Elimination → PlainNeutral → PlainNeutral
+spine_on [] r = r
+spine_on (e ∷ es) r = spine_on es (eliminated e r)
+
+abbrev pub steps_on : List (List Mode × PlainNeutral) → Expression → Expression
+steps_on [] e = e
+steps_on (s ∷ ss) e = step s.0 s.1 (steps_on ss e)
+
+abbrev pub tuple_of : List (Mode × Object) → Tuple
+tuple_of [] = empty
+tuple_of (t ∷ ts) = entry t.0 t.1 (tuple_of ts)
