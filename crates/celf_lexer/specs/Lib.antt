@@ -1,0 +1,4 @@
+pub use Rattle.clf_syntax.specs.Word
+pub mod Gap
+pub mod Sign
+pub mod Tokens

@@ -1,0 +1,87 @@
+-- What begins at the front of some bytes: a word, a sign, or nothing.
+use Rattle.std.specs.Prelude.{ℕ, ◌+◌, ◌==◌, nat_lt, nat_le, Bool, true, false, not, ◌&&◌, ◌||◌, if◌then◌else◌, List, [], ◌∷◌, length, take, drop, codes, Option, Some, None}
+use Rattle.celf_lexer.specs.declared.token.TokenKind.{TokenKind}
+use Rattle.celf_lexer.specs.declared.token.TokenKind.TheVariants as kind
+use Rattle.clf_syntax.specs.Word.{begins_word, goes_on, name_byte_first, is_name, is_capital, same_bytes, all_digits}
+
+-- how many bytes the word has that goes on here
+abbrev pub rest_length : List ℕ → ℕ
+rest_length [] = 0
+rest_length (b ∷ bs) = if goes_on b bs then 1 + rest_length bs else 0
+
+-- how many bytes the word has that begins here, 0 where none does
+abbrev pub word_length : List ℕ → ℕ
+word_length [] = 0
+word_length (b ∷ bs) = if begins_word b then 1 + rest_length bs else 0
+
+-- Some kind, and how many bytes the token has; a word that is too long; or no token.
+pub data Front : Type 0 where
+  token : TokenKind → ℕ → Front
+  long : Front
+  bad : Front
+
+-- The keywords are type, Pi, Exists, let and in; _ is a hole; digits alone are a number; every other word is a name.
+abbrev pub word_kind : List ℕ → TokenKind
+word_kind [] = kind.Hole
+word_kind (b ∷ bs) =
+    if same_bytes (b ∷ bs) (codes "type") then kind.KwType
+    else if same_bytes (b ∷ bs) (codes "Pi") then kind.KwPi
+    else if same_bytes (b ∷ bs) (codes "Exists") then kind.KwExists
+    else if same_bytes (b ∷ bs) (codes "let") then kind.KwLet
+    else if same_bytes (b ∷ bs) (codes "in") then kind.KwIn
+    else if same_bytes (b ∷ bs) (codes "_") then kind.Hole
+    else if all_digits (b ∷ bs) then kind.Number
+    else kind.Name (is_capital b)
+
+-- o and - are one sign, but where the - belongs to -> or -@.
+abbrev pub is_back_lolli : List ℕ → List ℕ → Bool
+is_back_lolli word (b ∷ c ∷ bs) = same_bytes word (codes "o") && b == 45 && not (c == 62 || c == 64)
+is_back_lolli word (b ∷ []) = same_bytes word (codes "o") && b == 45
+is_back_lolli word [] = false
+
+-- a token whose word begins after so many bytes
+abbrev pub of_word : ℕ → List ℕ → TokenKind → Front
+of_word before word k = if nat_lt 255 (length word) then long else token k (before + length word)
+
+-- the word, and what follows it
+abbrev pub word_front : List ℕ → List ℕ → Front
+word_front word rest = if is_back_lolli word rest then token kind.BackLolli 2 else of_word 0 word (word_kind word)
+
+-- behind a $: the word has to be a name
+abbrev pub constant_front : List ℕ → Front
+constant_front word = if is_name word then of_word 1 word kind.ConstName else bad
+
+-- behind a #: a projection or a directive
+abbrev pub hash_front : List ℕ → Front
+hash_front word =
+    if length word == 0 then bad
+    else if same_bytes word (codes "1") then token kind.Proj1 2
+    else if same_bytes word (codes "2") then token kind.Proj2 2
+    else of_word 1 word kind.Directive
+
+-- the signs and their spellings, the longer ones first
+abbrev pub signs : List (List ℕ × TokenKind)
+signs =
+    (codes "<T>", kind.TopSign) ∷ (codes "->", kind.Arrow) ∷ (codes "<-", kind.BackArrow) ∷ (codes "-o", kind.Lolli) ∷ (codes "-@", kind.Affine)
+    ∷ (codes "<>", kind.UnitSign) ∷ (codes "<", kind.Less) ∷ (codes ">", kind.Greater) ∷ (codes "{", kind.LeftBrace) ∷ (codes "}", kind.RightBrace)
+    ∷ (codes "(", kind.LeftParen) ∷ (codes ")", kind.RightParen) ∷ (codes "[", kind.LeftBracket) ∷ (codes "]", kind.RightBracket)
+    ∷ (codes ",", kind.Comma) ∷ (codes ".", kind.Stop) ∷ (codes ":", kind.Colon) ∷ (codes "=", kind.Equals) ∷ (codes "\\", kind.Backslash)
+    ∷ (codes "!", kind.Bang) ∷ (codes "@", kind.AtSign) ∷ (codes "*", kind.Star) ∷ (codes "&", kind.Amp) ∷ []
+
+-- -o is a sign where no name byte follows it.
+abbrev pub fits : List ℕ → List ℕ → Bool
+fits spelling bytes = same_bytes (take (length spelling) bytes) spelling && not (same_bytes spelling (codes "-o") && name_byte_first (drop 2 bytes))
+
+-- the first sign of the table that fits, which is the longest
+abbrev pub sign_front : List (List ℕ × TokenKind) → List ℕ → Front
+sign_front [] bytes = bad
+sign_front (s ∷ ss) bytes = if fits s.0 bytes then token s.1 (length s.0) else sign_front ss bytes
+
+-- What begins at the front of the bytes.
+unfoldable pub front : List ℕ → Front
+front [] = token kind.End 0
+front (b ∷ bs) =
+    if begins_word b then word_front (take (word_length (b ∷ bs)) (b ∷ bs)) (drop (word_length (b ∷ bs)) (b ∷ bs))
+    else if b == 36 then constant_front (take (word_length bs) bs)
+    else if b == 35 then hash_front (take (word_length bs) bs)
+    else sign_front signs (b ∷ bs)
