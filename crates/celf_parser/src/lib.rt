@@ -1,0 +1,6 @@
+//! The items of a text.
+#![tactic(auto)]
+
+mod surface;
+
+pub use surface::{Arrow, Item, ItemBody, SType, Span, SyntaxFault};
