@@ -1,0 +1,4 @@
+pub use Rattle.clf_syntax.specs.Word
+pub use Rattle.clf_syntax.specs.TypeTree
+pub use Rattle.clf_syntax.specs.PlainTypes
+pub mod Entry

@@ -1,0 +1,2 @@
+//! The signature.
+#![tactic(auto)]
