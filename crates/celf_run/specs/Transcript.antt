@@ -97,8 +97,8 @@ FirstItem text at (unread start) = HasNoItem text at × (start_of text at ≢ le
 -- The bytes are the answers to some items that come first, and the front of the next one's line.
 pub data Begun (text : List ℕ) : ℕ → PlainSignature → List ℕ → Type 0 where
   nothing : {at : ℕ} {sig : PlainSignature} → Begun text at sig []
-  front : {at : ℕ} {sig : PlainSignature} {item : SourceItem} {answer : Answer} {line : List ℕ}
-      → FirstItem text at item → Allowed sig item answer → IsLine sig answer line → (n : ℕ) → Begun text at sig (take n line)
+  front : {at : ℕ} {sig : PlainSignature} {item : SourceItem} {answer : Answer} (line : List ℕ) (n : ℕ)
+      → FirstItem text at item → Allowed sig item answer → IsLine sig answer line → Begun text at sig (take n line)
   beyond : {at : ℕ} {sig : PlainSignature} {item : Declaration} {name line written : List ℕ} {entry : PlainEntry}
       → FirstItem text at (declares item) → Allowed sig (declares item) (accepted name entry) → entry_line sig name entry ≡ Some line
       → Begun text item.span.end (sig ++ (name, entry) ∷ []) written → Begun text at sig (line ++ written)
