@@ -30,6 +30,22 @@ abbrev pub is_amp : TokenKind → Bool
 is_amp Amp = true
 is_amp _ = false
 
+abbrev pub is_close : TokenKind → Bool
+is_close RightParen = true
+is_close _ = false
+
+abbrev pub is_colon : TokenKind → Bool
+is_colon Colon = true
+is_colon _ = false
+
+abbrev pub is_stop : TokenKind → Bool
+is_stop Stop = true
+is_stop _ = false
+
+abbrev pub is_name_kind : TokenKind → Bool
+is_name_kind (Name c) = true
+is_name_kind _ = false
+
 -- The next token is not of these kinds: a repetition takes as much as it can.
 abbrev pub Ends : (TokenKind → Bool) → List Lexeme → Type 0
 Ends kinds [] = Unit {0}
@@ -71,4 +87,4 @@ is_kind_or_type top = true
 pub data IsDeclaration : ℕ → List Lexeme → Declaration → List Lexeme → Type 0 where
   declared : {n m : ℕ} {x c s : Lexeme} {ts us : List Lexeme} {b : Bool} {a : Surface}
     → x.kind ≡ Name b → c.kind ≡ Colon → IsType n ts a (s ∷ us) m → s.kind ≡ Stop → is_kind_or_type a ≡ true
-    → IsDeclaration n (x ∷ c ∷ ts) (record { name = x.spelling; ty = a; span = record { start = x.start; end = s.start + 1 } }) us
+    → IsDeclaration n (x ∷ c ∷ ts) (record { name = x.spelling; ty = a; span = record { start = x.start; end = s.start + length s.spelling } }) us
