@@ -3,3 +3,4 @@ pub mod TypeTree
 pub mod Plain
 pub mod PlainTypes
 pub mod Word
+pub mod Simple
