@@ -1,7 +1,9 @@
 //! Simple types of types.
 ghost use Rattle.std.specs.Prelude.{◌≡◌, IfOk, map};
 ghost use Rattle.clf_syntax.specs.PlainTypes.{plain_ty, plain_tele_entry};
-ghost use Rattle.clf_syntax.specs.Simple.{erase as erased, erase_entry as erased_entry, plain_simple, plain_simple_entry};
+ghost use Rattle.clf_syntax.specs.Simple.{erase as erased};
+ghost use Rattle.clf_syntax.specs.Erasure.{erase_entry as erased_entry};
+ghost use Rattle.clf_syntax.specs.PlainSimple.{plain_simple, plain_simple_entry};
 
 use crate::tree::{Simple, SimpleEntry, TeleEntry, Ty};
 use sqlite_items::{Boxed, Items};
@@ -9,7 +11,7 @@ use std::alloc::{AllocError, Global};
 
 /// The simple type of a type: all indices are dropped. It fails only where memory runs out.
 #[cycle(erase)]
-#[tactic(auto, using(crate::specs::PlainTypes::plain_type_laws, crate::specs::Simple::plain_simple_laws))]
+#[tactic(auto, using(crate::specs::PlainTypes::plain_type_laws, crate::specs::PlainSimple::plain_simple_laws, crate::specs::Erasure::erasure_laws))]
 pub fn erase(alloc: Global, ty: &Ty) -> Result<Simple, AllocError>
     ensures { IfOk result (λ s. plain_simple s ≡ erased (plain_ty ty.now)) }
 {
@@ -38,7 +40,7 @@ pub fn erase(alloc: Global, ty: &Ty) -> Result<Simple, AllocError>
 }
 
 #[cycle(erase)]
-#[tactic(auto, using(crate::specs::PlainTypes::plain_type_laws, crate::specs::Simple::plain_simple_laws))]
+#[tactic(auto, using(crate::specs::PlainTypes::plain_type_laws, crate::specs::PlainSimple::plain_simple_laws, crate::specs::Erasure::erasure_laws))]
 fn erase_entries(alloc: Global, entries: &[TeleEntry]) -> Result<Items<SimpleEntry>, AllocError>
     ensures { IfOk result (λ es. map plain_simple_entry es ≡ map erased_entry (map plain_tele_entry entries.now)) }
 {
@@ -50,7 +52,7 @@ fn erase_entries(alloc: Global, entries: &[TeleEntry]) -> Result<Items<SimpleEnt
 }
 
 #[cycle(erase)]
-#[tactic(auto, using(crate::specs::PlainTypes::plain_type_laws, crate::specs::Simple::plain_simple_laws))]
+#[tactic(auto, using(crate::specs::PlainTypes::plain_type_laws, crate::specs::PlainSimple::plain_simple_laws, crate::specs::Erasure::erasure_laws))]
 fn erase_entry(alloc: Global, entry: &TeleEntry) -> Result<SimpleEntry, AllocError>
     ensures { IfOk result (λ e. plain_simple_entry e ≡ erased_entry (plain_tele_entry entry.now)) }
 {
