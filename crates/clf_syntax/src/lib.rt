@@ -2,12 +2,14 @@
 #![tactic(auto)]
 
 mod copy;
+mod erasure;
 mod fault;
 mod modes;
 mod name;
 mod tree;
 mod types;
 
+pub use erasure::erase;
 pub use fault::{Or, OrWide, TooFar, Want, Wide};
 pub use modes::Modes;
 pub use name::Name;
