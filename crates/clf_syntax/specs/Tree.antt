@@ -53,3 +53,9 @@ steps_on (s ∷ ss) e = step s.0 s.1 (steps_on ss e)
 abbrev pub tuple_of : List (Mode × Object) → Tuple
 tuple_of [] = empty
 tuple_of (t ∷ ts) = entry t.0 t.1 (tuple_of ts)
+
+abbrev pub head_of : PlainNeutral → Head
+head_of (bare h) = h
+head_of (app m r n) = head_of r
+head_of (fst r) = head_of r
+head_of (snd r) = head_of r

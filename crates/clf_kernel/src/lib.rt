@@ -1,0 +1,2 @@
+//! Typing of the concurrent logical framework.
+#![tactic(auto)]

@@ -1,0 +1,2 @@
+//! Signatures.
+#![tactic(auto)]
