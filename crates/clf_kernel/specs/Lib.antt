@@ -12,3 +12,4 @@ pub use Rattle.trace_equal.specs.Exchange
 pub use Rattle.clf_sig.specs.Entry
 pub mod Typing
 pub mod WellFormed
+pub mod Laws
