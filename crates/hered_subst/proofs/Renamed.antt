@@ -8,10 +8,7 @@ use Rattle.clf_syntax.specs.Tree.{Object, lam, pair, unit, monadic, atomic, hole
 use Rattle.clf_syntax.specs.Renaming.{Renumbering, lifted, ren_head, ren, ren_neutral, ren_expression, ren_tuple, up}
 use Rattle.clf_syntax.proofs.RenamingLaws.{composed, square_expression, lift_up, ext, cut, lift_in}
 use Rattle.hered_subst.specs.Substitution.{Image, keep, put, Environment, ren_image, under, among, putting, single, objects, Substituted, through_lam, through_pair, through_unit, through_hole, through_monadic, through_kept, through_value, KeepsHead, kept_bare, kept_app, kept_fst, kept_snd, HasValue, value_bare, value_app, value_fst, value_snd, SubstitutedExpression, through_done, step_kept, step_value, step_meta, Flattened, flat_step, flat_done, SubstitutedTuple, through_empty, through_entry}
-
--- r renames what s is applied to and t its results
-abbrev pub Fits : Renumbering → Renumbering → Environment → Environment → Type 0
-Fits r t s z = (h : Head) → z (ren_head r h) ≡ ren_image t (s h)
+use Rattle.hered_subst.specs.Laws.{Fits}
 
 pub head_comp : (r s : Renumbering) (h : Head) → ren_head r (ren_head s h) ≡ ren_head (λ i. r (s i)) h
 head_comp r s (Const c) = refl

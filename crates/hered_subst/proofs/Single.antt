@@ -5,51 +5,19 @@ use Rattle.clf_syntax.specs.declared.tree.Mode.{Mode}
 use Rattle.clf_syntax.specs.declared.tree.Head.{Head}
 use Rattle.clf_syntax.specs.declared.tree.Head.TheVariants.{Const, Var, Meta}
 use Rattle.clf_syntax.specs.Tree.{Object, lam, pair, unit, monadic, atomic, hole, PlainNeutral, bare, app, fst, snd, Expression, step, done, Tuple, empty, entry, head_of}
-use Rattle.clf_syntax.specs.Shift.{shift, shift_neutral, shift_expression, shift_tuple, shift_head}
-use Rattle.clf_syntax.specs.Renaming.{Renumbering, lifted, ren_head, ren, ren_neutral, ren_expression, ren_tuple, up}
+use Rattle.clf_syntax.specs.Renaming.{Renumbering, lifted, ren_head, ren, ren_neutral, ren_expression, ren_tuple, up, raise}
 use Rattle.clf_syntax.proofs.RenamingLaws.{ext, cut, pairs, apps, binds, entries, identity}
 use Rattle.hered_subst.specs.Substitution.{Image, keep, put, Environment, ren_image, under, single, Substituted, through_lam, through_pair, through_unit, through_hole, through_monadic, through_kept, through_value, KeepsHead, kept_bare, kept_app, kept_fst, kept_snd, SubstitutedExpression, through_done, step_kept, SubstitutedTuple, through_empty, through_entry}
-use Rattle.hered_subst.proofs.Renamed.{Fits, renamed}
+use Rattle.hered_subst.specs.Laws.{Fits, keeping}
+use Rattle.hered_subst.proofs.Renamed.{renamed}
 
--- the shift is a renaming
-abbrev pub raise : ℕ → ℕ → Renumbering
-raise by from i = if nat_le from i then i + by else i
-
-lift_raise : (n by from : ℕ) → lifted n (raise by from) ≡ raise by (from + n)
-lift_raise n by from = ext (λ i. grind arith)
-
-mutual
-  pub shift-ren : (by from : ℕ) (o : Object) → shift by from o ≡ ren (raise by from) o
-  shift-ren by from (lam m b) = ap (lam m) (shift-ren by (from + 1) b ∙ ap (λ r. ren r b) (sym (lift_raise 1 by from)))
-  shift-ren by from (pair l r) = pairs (shift-ren by from l) (shift-ren by from r)
-  shift-ren by from unit = refl
-  shift-ren by from (monadic e) = ap monadic (shift-ren_expression by from e)
-  shift-ren by from (atomic n) = ap atomic (shift-ren_neutral by from n)
-  shift-ren by from hole = refl
-
-  pub shift-ren_neutral : (by from : ℕ) (n : PlainNeutral) → shift_neutral by from n ≡ ren_neutral (raise by from) n
-  shift-ren_neutral by from (bare (Const c)) = refl
-  shift-ren_neutral by from (bare (Var i)) = refl
-  shift-ren_neutral by from (bare (Meta m)) = refl
-  shift-ren_neutral by from (app m r o) = apps m (shift-ren_neutral by from r) (shift-ren by from o)
-  shift-ren_neutral by from (fst r) = ap fst (shift-ren_neutral by from r)
-  shift-ren_neutral by from (snd r) = ap snd (shift-ren_neutral by from r)
-
-  pub shift-ren_expression : (by from : ℕ) (e : Expression) → shift_expression by from e ≡ ren_expression (raise by from) e
-  shift-ren_expression by from (step ms r e) = binds ms (shift-ren_neutral by from r) (shift-ren_expression by (from + length ms) e ∙ ap (λ r. ren_expression r e) (sym (lift_raise (length ms) by from)))
-  shift-ren_expression by from (done t) = ap done (shift-ren_tuple by from t)
-
-  pub shift-ren_tuple : (by from : ℕ) (t : Tuple) → shift_tuple by from t ≡ ren_tuple (raise by from) t
-  shift-ren_tuple by from empty = refl
-  shift-ren_tuple by from (entry m n t) = entries m (shift-ren by from n) (shift-ren_tuple by from t)
-
-single_low : (n : Object) (k i : ℕ) → i < k → single n k (Var i) ≡ keep (Var i)
+pub single_low : (n : Object) (k i : ℕ) → i < k → single n k (Var i) ≡ keep (Var i)
 single_low n k i h = grind arith
 
-single_at : (n : Object) (k : ℕ) → single n k (Var k) ≡ put n
+pub single_at : (n : Object) (k : ℕ) → single n k (Var k) ≡ put n
 single_at n k = grind arith
 
-single_high : (n : Object) (k i : ℕ) → k ≤ i → single n k (Var (i + 1)) ≡ keep (Var i)
+pub single_high : (n : Object) (k i : ℕ) → k ≤ i → single n k (Var (i + 1)) ≡ keep (Var i)
 single_high n k i h = grind arith
 
 cut3 : (k i : ℕ) → (i < k) ⊎ (i ≡ k) ⊎ (k < i)
@@ -98,9 +66,6 @@ shifted_above by from n k h p = renamed (raise by (from + 1)) (raise by from) (s
     high i g = (grind arith, grind arith)
 
 -- a renaming is a substitution
-abbrev pub keeping : Renumbering → Environment
-keeping r h = keep (ren_head r h)
-
 pub under_keeping : (n : ℕ) (r : Renumbering) → under n (keeping r) ≡ keeping (lifted n r)
 under_keeping n r = ext (λ h. at_head h)
   where
@@ -133,15 +98,16 @@ mutual
   renames_tuple r (entry m o t) = through_entry (renames r o) (renames_tuple r t)
 
 -- what does not mention the variable only falls
+stays : (k i : ℕ) → i < k → raise 1 k i ≡ i
+stays k i h = grind arith
+
+rises : (k i : ℕ) → k ≤ i → raise 1 k i ≡ i + 1
+rises k i h = grind arith
+
+pub spared_fits : (n : Object) (k : ℕ) → Fits (raise 1 k) (λ i. i) (keeping (λ i. i)) (single n k)
+spared_fits n k (Const c) = refl
+spared_fits n k (Var i) = ⊎_elim (λ h. ap (λ j. single n k (Var j)) (stays k i h) ∙ single_low n k i h) (λ h. ap (λ j. single n k (Var j)) (rises k i h) ∙ single_high n k i h) (cut i k)
+spared_fits n k (Meta m) = refl
+
 pub spared : (n : Object) (k : ℕ) (o : Object) → Substituted (single n k) (ren (raise 1 k) o) o
-spared n k o = subst (Substituted (single n k) (ren (raise 1 k) o)) (identity o) (renamed (raise 1 k) (λ i. i) (single n k) fits (subst (Substituted (keeping (λ i. i)) o) (identity o) (renames (λ i. i) o)))
-  where
-    fits : Fits (raise 1 k) (λ i. i) (keeping (λ i. i)) (single n k)
-    fits (Const c) = refl
-    fits (Var i) = ⊎_elim (λ h. ap (λ j. single n k (Var j)) (stay i h) ∙ single_low n k i h) (λ h. ap (λ j. single n k (Var j)) (rise i h) ∙ single_high n k i h) (cut i k)
-      where
-        stay : (i : ℕ) → i < k → raise 1 k i ≡ i
-        stay i h = grind arith
-        rise : (i : ℕ) → k ≤ i → raise 1 k i ≡ i + 1
-        rise i h = grind arith
-    fits (Meta m) = refl
+spared n k o = subst (Substituted (single n k) (ren (raise 1 k) o)) (identity o) (renamed (raise 1 k) (λ i. i) (single n k) (spared_fits n k) (subst (Substituted (keeping (λ i. i)) o) (identity o) (renames (λ i. i) o)))
