@@ -1,0 +1,4 @@
+pub mod Determined
+pub mod Renamed
+pub mod Single
+pub mod Types

@@ -1,0 +1,6 @@
+//! Hereditary substitution.
+#![tactic(auto)]
+
+mod laws;
+
+pub use laws::substitution;

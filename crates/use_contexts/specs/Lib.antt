@@ -1,0 +1,4 @@
+pub use Rattle.clf_syntax.specs.Renaming
+pub use Rattle.clf_syntax.specs.TypeTree
+pub mod Context
+pub mod Holding

@@ -1,0 +1,2 @@
+//! Contexts and holdings.
+#![tactic(auto)]
