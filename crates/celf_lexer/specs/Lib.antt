@@ -2,3 +2,4 @@ pub use Rattle.clf_syntax.specs.Word
 pub mod Gap
 pub mod Sign
 pub mod Tokens
+pub mod SignAt

@@ -14,6 +14,14 @@ abbrev pub word_length : List ℕ → ℕ
 word_length [] = 0
 word_length (b ∷ bs) = if begins_word b then 1 + rest_length bs else 0
 
+-- the word that begins here, empty where none does
+abbrev pub word_here : List ℕ → List ℕ
+word_here bytes = take (word_length bytes) bytes
+
+-- what follows the word that begins here
+abbrev pub after_word : List ℕ → List ℕ
+after_word bytes = drop (word_length bytes) bytes
+
 -- Some kind, and how many bytes the token has; a word that is too long; or no token.
 pub data Front : Type 0 where
   token : TokenKind → ℕ → Front
@@ -81,7 +89,7 @@ sign_front (s ∷ ss) bytes = if fits s.0 bytes then token s.1 (length s.0) else
 unfoldable pub front : List ℕ → Front
 front [] = token kind.End 0
 front (b ∷ bs) =
-    if begins_word b then word_front (take (word_length (b ∷ bs)) (b ∷ bs)) (drop (word_length (b ∷ bs)) (b ∷ bs))
-    else if b == 36 then constant_front (take (word_length bs) bs)
-    else if b == 35 then hash_front (take (word_length bs) bs)
+    if begins_word b then word_front (word_here (b ∷ bs)) (after_word (b ∷ bs))
+    else if b == 36 then constant_front (word_here bs)
+    else if b == 35 then hash_front (word_here bs)
     else sign_front signs (b ∷ bs)

@@ -1,6 +1,11 @@
 //! The tokens of a text.
 #![tactic(auto)]
 
+mod gap;
+mod scan;
+mod sign;
 mod token;
+mod word;
 
+pub use scan::next;
 pub use token::{LexFault, Token, TokenKind};
