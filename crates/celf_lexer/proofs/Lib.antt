@@ -1,1 +1,4 @@
+pub mod Cases
 pub mod Words
+pub mod Bounds
+pub mod Tokens

@@ -4,15 +4,8 @@ use Rattle.std.proofs.lemmas.Grind.{common_steps}
 use Rattle.celf_lexer.specs.declared.token.TokenKind.{TokenKind}
 use Rattle.celf_lexer.specs.declared.token.TokenKind.TheVariants.{Name}
 use Rattle.clf_syntax.specs.Word.{is_name, is_name_byte, name_byte_first, goes_on, begins_word, is_word, is_word_rest}
+use Rattle.celf_lexer.proofs.Cases.{or_left, and_both}
 use Rattle.celf_lexer.specs.Sign.{rest_length, word_length, word_here, word_kind}
-
-or_left : (x y : Bool) → (x || y) ≡ false → x ≡ false
-or_left true y e = e
-or_left false y e = refl
-
-and_both : (x y : Bool) → x ≡ true → y ≡ true → (x && y) ≡ true
-and_both true y e f = f
-and_both false y e f = e
 
 taken_more : (k c : ℕ) (cs : List ℕ) → take (1 + k) (c ∷ cs) ≡ c ∷ take k cs
 taken_more k c cs = let e : 1 + k ≡ suc k = omega arith in rw e refl
@@ -41,6 +34,14 @@ word_here_at : (b : ℕ) (bs : List ℕ) (g : Bool) → begins_word b ≡ g
     → 0 < length (take (if g then 1 + rest_length bs else 0) (b ∷ bs)) → is_word (take (if g then 1 + rest_length bs else 0) (b ∷ bs)) ≡ true
 word_here_at b bs true e h = ap is_word (taken_more (rest_length bs) b bs) ∙ and_both (begins_word b) _ e (rest_is_word bs)
 word_here_at b bs false e h = absurd (omega arith)
+
+word_begins_at : (b : ℕ) (bs : List ℕ) (g : Bool) → g ≡ true → 0 < length (take (if g then 1 + rest_length bs else 0) (b ∷ bs))
+word_begins_at b bs true e = omega (arith, ap length (taken_more (rest_length bs) b bs))
+word_begins_at b bs false e = cc
+
+-- The word that begins with a byte that begins words has that byte.
+pub word_begins : (b : ℕ) (bs : List ℕ) → begins_word b ≡ true → 0 < length (word_here (b ∷ bs))
+word_begins b bs e = word_begins_at b bs (begins_word b) e
 
 -- The word that begins here, where one does, is a word.
 pub word_here-is_word : (bytes : List ℕ) → 0 < length (word_here bytes) → is_word (word_here bytes) ≡ true

@@ -117,6 +117,11 @@ pub fn next(bytes: &[u8], at: u32) -> Result<Token, LexFault>
     requires place { at ≤ length bytes.now }
     requires size { length bytes.now ≤ 16777216 }
     ensures exact { result ≡ next_token bytes.now at }
+    ensures behind { IfOk result (λ t. at ≤ t.start) }
+    ensures ordered { IfOk result (λ t. t.start ≤ t.end) }
+    ensures within { IfOk result (λ t. t.end ≤ length bytes.now) }
+    ensures has_byte { IfOk result (λ t. t.kind ≢ TokenKind.End → t.start < t.end) }
+    ensures at_end { IfOk result (λ t. t.kind ≡ TokenKind.End → (t.start ≡ length bytes.now) × (t.end ≡ length bytes.now)) }
 {
     let rest = &bytes[at as usize..];
     let gap = gap_length(rest);
