@@ -122,7 +122,7 @@ front-grows b bs =
     if_cases P (begins_word b) (word_front (word_here (b ∷ bs)) (after_word (b ∷ bs))) _
     (λ e. word_front-grows _ (word_here (b ∷ bs)) (after_word (b ∷ bs)) (word_begins b bs e) (omega (arith, word_here-length (b ∷ bs), after_word-length (b ∷ bs))))
     (λ e. if_cases P (b == 36) (constant_front (word_here bs)) _
-        (λ f. constant_front-grows _ (word_here bs) (omega (arith, word_here-length bs, word_length-bound bs)))
+    (λ f. constant_front-grows _ (word_here bs) (omega (arith, word_here-length bs, word_length-bound bs)))
     (λ f. if_cases P (b == 35) (hash_front (word_here bs)) _
-        (λ g. hash_front-grows _ (word_here bs) (omega (arith, word_here-length bs, word_length-bound bs)))
+    (λ g. hash_front-grows _ (word_here bs) (omega (arith, word_here-length bs, word_length-bound bs)))
     (λ g. sign_front-grows signs (b ∷ bs) refl (omega arith))))

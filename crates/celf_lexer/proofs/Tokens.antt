@@ -70,9 +70,9 @@ tokens_within-enough (suc m) zero at bytes hm hn = absurd (omega arith)
 tokens_within-enough (suc m) (suc n) at bytes hm hn =
     first_same (tokens_within m) (tokens_within n) at bytes (first_of at bytes) refl
     (λ t e k.
-        let s : StandsWithin at (at + length bytes) t = first_of-stands at bytes t e in
-        let less : length (drop (t.end - at) bytes) < length bytes = omega (arith, length-drop (t.end - at) bytes, s.has_byte k) in
-        tokens_within-enough m n t.end (drop (t.end - at) bytes) (omega arith) (omega arith))
+    let s : StandsWithin at (at + length bytes) t = first_of-stands at bytes t e in
+    let less : length (drop (t.end - at) bytes) < length bytes = omega (arith, length-drop (t.end - at) bytes, s.has_byte k) in
+    tokens_within-enough m n t.end (drop (t.end - at) bytes) (omega arith) (omega arith))
 
 -- A text whose next token is at fault has no token from there on.
 pub tokens_from-err : (text : List ℕ) (at : ℕ) (f : LexFault) → next_token text at ≡ Err f → tokens_from text at ≡ []
@@ -92,13 +92,13 @@ tokens_from-ok text at t e =
     let rest : drop (t.end - at) bytes ≡ drop t.end text = dropped_again text at t.end (omega (arith, s.behind, s.ordered)) in
     let l : List ℕ → Lexeme = λ bs. record { kind = t.kind; start = t.start; spelling = take (t.end - t.start) bs } in
     let first : token_first (tokens_within (length bytes)) at bytes (first_of at bytes)
-            ≡ l (drop (t.start - at) bytes) ∷ (if is_end t.kind then [] else tokens_within (length bytes) t.end (drop (t.end - at) bytes)) =
-            ap (token_first (tokens_within (length bytes)) at bytes) e in
+    ≡ l (drop (t.start - at) bytes) ∷ (if is_end t.kind then [] else tokens_within (length bytes) t.end (drop (t.end - at) bytes)) =
+    ap (token_first (tokens_within (length bytes)) at bytes) e in
     let more : (is_end t.kind ≡ false) → tokens_within (length bytes) t.end (drop (t.end - at) bytes) ≡ tokens_from text t.end =
-            λ k.
-                let less : length (drop (t.end - at) bytes) < length bytes = omega (arith, length-drop (t.end - at) bytes, s.has_byte k, s.within, s.ordered, s.behind) in
-                tokens_within-enough (length bytes) (suc (length (drop (t.end - at) bytes))) t.end (drop (t.end - at) bytes) less (omega arith)
-                ∙ ap (λ bs. tokens_within (suc (length bs)) t.end bs) rest in
+    λ k.
+    let less : length (drop (t.end - at) bytes) < length bytes = omega (arith, length-drop (t.end - at) bytes, s.has_byte k, s.within, s.ordered, s.behind) in
+    tokens_within-enough (length bytes) (suc (length (drop (t.end - at) bytes))) t.end (drop (t.end - at) bytes) less (omega arith)
+    ∙ ap (λ bs. tokens_within (suc (length bs)) t.end bs) rest in
     first ∙ ap (λ bs. l bs ∷ (if is_end t.kind then [] else tokens_within (length bytes) t.end (drop (t.end - at) bytes))) spelled
     ∙ ap (λ (ls : List Lexeme). l (drop t.start text) ∷ ls) (else_same (is_end t.kind) [] _ _ more)
 

@@ -58,4 +58,5 @@ is_name-word_kind [] h = grind (arith, common_steps)
 is_name-word_kind (b ∷ bs) h = grind (arith, common_steps)
 
 pub ruleset word_here_is_word = (word_here-is_word)
+
 pub ruleset name_has_kind = (is_name-word_kind)

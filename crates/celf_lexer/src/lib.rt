@@ -4,6 +4,8 @@
 mod gap;
 mod scan;
 mod sign;
+#[cfg(test)]
+mod tests;
 mod token;
 mod word;
 

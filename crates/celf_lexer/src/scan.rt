@@ -17,7 +17,11 @@ fn token(kind: TokenKind, start: u32, length: u32) -> Result<Token, LexFault>
     requires { start + length < 2 ^ 32 }
     ensures { result ≡ placed start (spec.token kind length) }
 {
-    Ok(Token { kind, start, end: start + length })
+    Ok(Token {
+        kind,
+        start,
+        end: start + length,
+    })
 }
 
 /// A token whose word follows `before` bytes of it, where the word is not too long.
