@@ -8,7 +8,7 @@ use Rattle.celf_lexer.specs.declared.token.TokenKind.TheVariants as kind
 use Rattle.celf_lexer.specs.declared.token.Token.{Token}
 use Rattle.clf_syntax.specs.Word.{begins_word, goes_on, is_name, same_bytes, all_digits}
 use Rattle.celf_lexer.specs.Gap.{is_blank, gap, comment}
-use Rattle.celf_lexer.specs.Sign.{Front, token, long, bad, rest_length, word_length, word_here, after_word, word_kind, is_back_lolli, of_word, word_front, constant_front, hash_front, signs, fits, sign_front, front}
+use Rattle.celf_lexer.specs.Sign.{Front, token, long, bad, rest_length, word_length, word_here, after_word, word_kind, is_back_lolli, of_word, word_front, constant_front, hash_kind, hash_front, signs, fits, sign_front, front}
 use Rattle.celf_lexer.specs.Tokens.{placed, first_of, is_end}
 use Rattle.celf_lexer.proofs.Words.{word_begins}
 use Rattle.celf_lexer.proofs.Cases.{if_cases, and_left, and_right}
@@ -88,14 +88,14 @@ constant_front-grows : (m : ℕ) (word : List ℕ) → 1 + length word ≤ m →
 constant_front-grows m word l =
     if_cases (Grows m) (is_name word) (of_word 1 word kind.ConstName) bad (λ e. of_word-grows m 1 word kind.ConstName refl (omega arith) l) (λ e. omega arith)
 
+hash_kind-no_end : (word : List ℕ) → is_end (hash_kind word) ≡ false
+hash_kind-no_end word =
+    let P : TokenKind → Type 0 = λ k. is_end k ≡ false in
+    if_cases P (same_bytes word (codes "1")) _ _ (λ e. refl) (λ e. if_cases P (same_bytes word (codes "2")) _ _ (λ e. refl) (λ e. refl))
+
 hash_front-grows : (m : ℕ) (word : List ℕ) → 1 + length word ≤ m → Grows m (hash_front word)
 hash_front-grows m word l =
-    let one : same_bytes word (codes "1") ≡ true → length word ≡ 1 = λ e. ap length (same_bytes-equal word (codes "1") e) in
-    let two : same_bytes word (codes "2") ≡ true → length word ≡ 1 = λ e. ap length (same_bytes-equal word (codes "2") e) in
-    if_cases (Grows m) (length word == 0) bad _ (λ e. omega arith)
-    (λ e. if_cases (Grows m) (same_bytes word (codes "1")) (token kind.Proj1 2) _ (λ f. (refl, omega arith, omega (arith, one f)))
-    (λ f. if_cases (Grows m) (same_bytes word (codes "2")) (token kind.Proj2 2) _ (λ g. (refl, omega arith, omega (arith, two g)))
-    (λ g. of_word-grows m 1 word kind.Directive refl (omega arith) l)))
+    if_cases (Grows m) (length word == 0) bad _ (λ e. omega arith) (λ e. of_word-grows m 1 word (hash_kind word) (hash_kind-no_end word) (omega arith) l)
 
 -- a sign that has a byte and is not the end
 abbrev pub is_sign : List ℕ × TokenKind → Bool

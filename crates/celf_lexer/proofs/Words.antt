@@ -7,7 +7,7 @@ use Rattle.clf_syntax.specs.Word.{is_name, is_name_byte, name_byte_first, goes_o
 use Rattle.celf_lexer.proofs.Cases.{or_left, and_both}
 use Rattle.celf_lexer.specs.Sign.{rest_length, word_length, word_here, word_kind}
 
-taken_more : (k c : ℕ) (cs : List ℕ) → take (1 + k) (c ∷ cs) ≡ c ∷ take k cs
+pub taken_more : (k c : ℕ) (cs : List ℕ) → take (1 + k) (c ∷ cs) ≡ c ∷ take k cs
 taken_more k c cs = let e : 1 + k ≡ suc k = omega arith in rw e refl
 
 front_kept_at : (c : ℕ) (cs : List ℕ) (g : Bool) → goes_on c cs ≡ g → name_byte_first (take (if g then 1 + rest_length cs else 0) (c ∷ cs)) ≡ is_name_byte c

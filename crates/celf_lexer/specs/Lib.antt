@@ -3,3 +3,4 @@ pub mod Gap
 pub mod Sign
 pub mod Tokens
 pub mod SignAt
+pub mod Spelling

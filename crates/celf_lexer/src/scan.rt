@@ -71,6 +71,19 @@ fn constant_token(behind: &[u8], start: u32) -> Result<Token, LexFault>
     worded(TokenKind::ConstName, start, 1, word)
 }
 
+/// What the word behind a `#` makes of it.
+fn hash_kind(word: &[u8]) -> TokenKind
+    ensures { result ≡ spec.hash_kind word.now }
+{
+    if is_spelled(word, b"1") {
+        TokenKind::Proj1
+    } else if is_spelled(word, b"2") {
+        TokenKind::Proj2
+    } else {
+        TokenKind::Directive
+    }
+}
+
 /// The token of a `#` and the bytes behind it.
 fn hash_token(behind: &[u8], start: u32) -> Result<Token, LexFault>
     requires { start + 1 + length behind.now < 2 ^ 32 }
@@ -80,13 +93,7 @@ fn hash_token(behind: &[u8], start: u32) -> Result<Token, LexFault>
     if word.is_empty() {
         return Err(LexFault::BadByte(start));
     }
-    if is_spelled(word, b"1") {
-        return token(TokenKind::Proj1, start, 2);
-    }
-    if is_spelled(word, b"2") {
-        return token(TokenKind::Proj2, start, 2);
-    }
-    worded(TokenKind::Directive, start, 1, word)
+    worded(hash_kind(word), start, 1, word)
 }
 
 /// The token of the longest sign that fits in front.
