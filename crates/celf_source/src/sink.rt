@@ -3,6 +3,9 @@ ghost use Rattle.std.specs.Prelude.{◌≡◌, ◌<◌, ◌≤◌, ℕ, List, le
 ghost use Rattle.celf_source.specs.Count.{Rose};
 ghost use Rattle.celf_source.specs.Sink.{Appends};
 
+use crate::shelf::Failed;
+use std::alloc::AllocError;
+
 /// Why a sink took nothing.
 #[derive(Clone, Copy, Debug, PartialEq, Eq)]
 pub enum SinkFault {
@@ -10,6 +13,28 @@ pub enum SinkFault {
     Failed,
     /// A sink that keeps its bytes in memory found none.
     NoMemory,
+}
+
+impl From<Failed> for SinkFault {
+    ghost use Rattle.std.specs.Prelude.{◌≡◌};
+    ghost use Rattle.celf_source.specs.declared.sink.SinkFault.TheVariants as variant;
+
+    ghost from_gives = { λ _ e. e ≡ variant.Failed };
+
+    fn from(_failed: Failed) -> SinkFault {
+        SinkFault::Failed
+    }
+}
+
+impl From<AllocError> for SinkFault {
+    ghost use Rattle.std.specs.Prelude.{◌≡◌};
+    ghost use Rattle.celf_source.specs.declared.sink.SinkFault.TheVariants.{NoMemory};
+
+    ghost from_gives = { λ _ e. e ≡ NoMemory };
+
+    fn from(_error: AllocError) -> SinkFault {
+        SinkFault::NoMemory
+    }
 }
 
 /// Something that takes bytes in order.
