@@ -29,7 +29,7 @@ pub record BeginsWith (k : TokenKind) (text rest : List ℕ) (ts : List Lexeme) 
 -- A blank stands in front of the first token.
 
 blank-steps : (steps at b g : ℕ) (bytes : List ℕ) (f : Front)
-  → token_first (tokens_within steps) at (b ∷ bytes) (placed (at + suc g) f) ≡ token_first (tokens_within steps) (suc at) bytes (placed (suc at + g) f)
+    → token_first (tokens_within steps) at (b ∷ bytes) (placed (at + suc g) f) ≡ token_first (tokens_within steps) (suc at) bytes (placed (suc at + g) f)
 blank-steps steps at b g bytes long = refl
 blank-steps steps at b g bytes bad = refl
 blank-steps steps at b g bytes (token k n) =
@@ -50,13 +50,13 @@ unfolding first_of
 tokens-blank b bytes ts blank (from at zero _ l) = absurd (omega arith)
 tokens-blank b bytes ts blank (from at (suc steps) _ l) =
     let same : tokens_within (suc steps) at (b ∷ bytes) ≡ tokens_within (suc steps) (suc at) bytes =
-        rw (gap-blank b bytes blank) (blank-steps steps at b (gap bytes) bytes (front (drop (gap bytes) bytes))) in
+    rw (gap-blank b bytes blank) (blank-steps steps at b (gap bytes) bytes (front (drop (gap bytes) bytes))) in
     rw same (from (suc at) (suc steps) bytes (omega arith))
 
 -- A token that is no end stands first.
 
 front-steps : (steps at : ℕ) (k : TokenKind) (text rest : List ℕ) → is_end k ≡ false
-  → token_first (tokens_within steps) at (text ++ rest) (placed (at + 0) (token k (length text)))
+    → token_first (tokens_within steps) at (text ++ rest) (placed (at + 0) (token k (length text)))
     ≡ record { kind = k; start = at; spelling = text } ∷ tokens_within steps (at + length text) rest
 front-steps steps at k text rest no_end =
     let start : at + 0 ≡ at = omega arith in
@@ -65,17 +65,17 @@ front-steps steps at k text rest no_end =
     rw (start, size, none, no_end, take_at text rest (length text) refl, drop_at text rest (length text) refl)
 
 pub tokens-front : (k : TokenKind) (text rest : List ℕ) (ts : List Lexeme) → gap (text ++ rest) ≡ 0 → front (text ++ rest) ≡ token k (length text)
-  → is_end k ≡ false → 0 < length text → AreTokens ts (text ++ rest) → BeginsWith k text rest ts
+    → is_end k ≡ false → 0 < length text → AreTokens ts (text ++ rest) → BeginsWith k text rest ts
 unfolding first_of
 tokens-front k text rest ts no_gap is no_end some (from at zero _ l) = absurd (omega arith)
-tokens-front k text rest ts no_gap is no_end some (from at (suc steps) _ l) = record
-    { first = record { kind = k; start = at; spelling = text }
-    ; others = tokens_within steps (at + length text) rest
-    ; is = rw (no_gap, is) (front-steps steps at k text rest no_end)
-    ; kind_is = refl
-    ; spelled = refl
-    ; rest_tokens = from (at + length text) steps rest (omega (arith, length-append text rest))
-    }
+tokens-front k text rest ts no_gap is no_end some (from at (suc steps) _ l) = record {
+  first = record { kind = k; start = at; spelling = text };
+  others = tokens_within steps (at + length text) rest;
+  is = rw (no_gap, is) (front-steps steps at k text rest no_end);
+  kind_is = refl;
+  spelled = refl;
+  rest_tokens = from (at + length text) steps rest (omega (arith, length-append text rest));
+}
 
 -- The end stands alone.
 pub tokens-end : (ts : List Lexeme) → AreTokens ts [] → (e : Lexeme) × (ts ≡ e ∷ []) × (e.kind ≡ kind.End)
@@ -201,9 +201,8 @@ front-word (b ∷ bs) rest h short ends =
     let size : 0 + length (b ∷ bs) ≡ length (b ∷ bs) = omega arith in
     here ∙ rw (ends_word-back_lolli (b ∷ bs) rest ends, of_word-short 0 (b ∷ bs) (word_kind (b ∷ bs)) short, size)
 
-
 pub tokens-word : (word rest : List ℕ) (ts : List Lexeme) → is_word word ≡ true → length word ≤ 255 → ends_word rest ≡ true
-  → AreTokens ts (word ++ rest) → BeginsWith (word_kind word) word rest ts
+    → AreTokens ts (word ++ rest) → BeginsWith (word_kind word) word rest ts
 tokens-word [] rest ts h short ends = absurd (cc)
 tokens-word (b ∷ bs) rest ts h short ends =
     tokens-front (word_kind (b ∷ bs)) (b ∷ bs) rest ts (gap-word (b ∷ bs) rest h) (front-word (b ∷ bs) rest h short ends) (word_kind-no_end (b ∷ bs)) (omega arith)
@@ -238,15 +237,15 @@ declarable_name name h =
     let number = and_parts (is_word name && not (is_keyword name) && not (is_hole_word name)) (not (all_digits name)) size.0 in
     let hole = and_parts (is_word name && not (is_keyword name)) (not (is_hole_word name)) number.0 in
     let keyword = and_parts (is_word name) (not (is_keyword name)) hole.0 in
-    record
-    { stands = keyword.0
-    ; name = size.0
-    ; kind_is = word_kind-name name (not-true _ keyword.1) (not-true _ hole.1) (not-true _ number.1)
-    ; short = leb-true (length name) 255 size.1
+    record {
+      stands = keyword.0;
+      name = size.0;
+      kind_is = word_kind-name name (not-true _ keyword.1) (not-true _ hole.1) (not-true _ number.1);
+      short = leb-true (length name) 255 size.1;
     }
 
 pub tokens-name : (name rest : List ℕ) (ts : List Lexeme) → IsTrue (is_declarable name) → ends_word rest ≡ true
-  → AreTokens ts (name ++ rest) → (capital : Bool) × BeginsWith (kind.Name capital) name rest ts
+    → AreTokens ts (name ++ rest) → (capital : Bool) × BeginsWith (kind.Name capital) name rest ts
 tokens-name [] rest ts h ends tokens = absurd (cc)
 tokens-name (b ∷ bs) rest ts h ends tokens =
     let known = declarable_name (b ∷ bs) h in
@@ -260,5 +259,5 @@ front-constant_name name rest h ends =
     rw (take-word name rest known.stands ends, known.name, of_word-short 1 name kind.ConstName known.short, size)
 
 pub tokens-constant_name : (name rest : List ℕ) (ts : List Lexeme) → IsTrue (is_declarable name) → ends_word rest ≡ true
-  → AreTokens ts (36 ∷ name ++ rest) → BeginsWith kind.ConstName (36 ∷ name) rest ts
+    → AreTokens ts (36 ∷ name ++ rest) → BeginsWith kind.ConstName (36 ∷ name) rest ts
 tokens-constant_name name rest ts h ends = tokens-front kind.ConstName (36 ∷ name) rest ts refl (front-constant_name name rest h ends) refl (omega arith)

@@ -29,7 +29,7 @@ is_some-value None h = absurd (cc)
 is_some-value (Some x) h = (x, refl)
 
 pub combined-some : (f : PlainType → PlainType → PlainType) (o p : Option PlainType) (c : PlainType) → combined f o p ≡ Some c
-  → (a b : PlainType) × (o ≡ Some a) × (p ≡ Some b) × (f a b ≡ c)
+    → (a b : PlainType) × (o ≡ Some a) × (p ≡ Some b) × (f a b ≡ c)
 combined-some f None p c h = absurd (cc)
 combined-some f (Some a) None c h = absurd (cc)
 combined-some f (Some a) (Some b) c h = (a, b, refl, refl, cc)

@@ -35,7 +35,7 @@ place_of-none name e es h = go (same_bytes e.0 name) refl
 
 -- a name that stands behind entries of other names
 pub place_of-behind : (name : List ℕ) (front : PlainSignature) (e : List ℕ × PlainEntry) (es : PlainSignature)
-  → place_of name front ≡ None → same_bytes e.0 name ≡ true → place_of name (front ++ e ∷ es) ≡ Some (length front)
+    → place_of name front ≡ None → same_bytes e.0 name ≡ true → place_of name (front ++ e ∷ es) ≡ Some (length front)
 place_of-behind name [] e es h same = rw same
 place_of-behind name (x ∷ xs) e es h same =
     let parts = place_of-none name x xs h in
@@ -56,7 +56,7 @@ slice_get-place name [] k h = absurd (cc)
 slice_get-place name (x ∷ xs) k h = go (same_bytes x.0 name) refl (slice_get-place name xs)
   where
     go : (b : Bool) → same_bytes x.0 name ≡ b → ((n : ℕ) → place_of name xs ≡ Some n → (e : List ℕ × PlainEntry) × (slice_get xs n ≡ Some e) × (e.0 ≡ name))
-      → (e : List ℕ × PlainEntry) × (slice_get (x ∷ xs) k ≡ Some e) × (e.0 ≡ name)
+        → (e : List ℕ × PlainEntry) × (slice_get (x ∷ xs) k ≡ Some e) × (e.0 ≡ name)
     go true t again =
         let zero_is : Some 0 ≡ Some k = sym (place_of-first name x xs t) ∙ h in
         let k_is : 0 ≡ k = cc in

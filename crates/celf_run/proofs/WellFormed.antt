@@ -81,12 +81,13 @@ class_of-well_formed sig (named n d s) c h at = constant-well_formed sig (named 
 class_of-well_formed sig top c h at = constant-well_formed sig top c h at
 
 pair-unknown : (sig : PlainSignature) (f : PlainType → PlainType → PlainType) (l r : Surface) (u : Occurrence)
-  → (unknown_name sig l ≡ Some u → type_of sig l ≡ None) → (unknown_name sig r ≡ Some u → type_of sig r ≡ None)
-  → option_or (unknown_name sig l) (unknown_name sig r) ≡ Some u → combined f (type_of sig l) (type_of sig r) ≡ None
+    → (unknown_name sig l ≡ Some u → type_of sig l ≡ None) → (unknown_name sig r ≡ Some u → type_of sig r ≡ None)
+    → option_or (unknown_name sig l) (unknown_name sig r) ≡ Some u → combined f (type_of sig l) (type_of sig r) ≡ None
 pair-unknown sig f l r u left right h = ⊎_elim on_left on_right (option_or-some (unknown_name sig l) (unknown_name sig r) u h)
   where
     on_left : unknown_name sig l ≡ Some u → combined f (type_of sig l) (type_of sig r) ≡ None
     on_left g = rw (left g)
+
     on_right : (unknown_name sig l ≡ None) × (unknown_name sig r ≡ Some u) → combined f (type_of sig l) (type_of sig r) ≡ None
     on_right g = rw (right g.1) (combined-none_right f (type_of sig l))
 
@@ -147,22 +148,22 @@ class_of-unknown sig top u h = absurd (cc)
 
 -- A well-formed signature grows by an entry of a new name that can be declared.
 pub Extends-append : (front es : PlainSignature) (name : List ℕ) (entry : PlainEntry) → Extends front es → place_of name (front ++ es) ≡ None
-  → IsTrue (is_declarable name) → IsWellFormedEntry (front ++ es) entry → Extends front (es ++ (name, entry) ∷ [])
+    → IsTrue (is_declarable name) → IsWellFormedEntry (front ++ es) entry → Extends front (es ++ (name, entry) ∷ [])
 Extends-append front [] name entry h new fit formed = (rw append-nil at new, fit, rw append-nil at formed, tt)
 Extends-append front (x ∷ xs) name entry h new fit formed =
     (h.0, h.1, h.2, Extends-append (front ++ x ∷ []) xs name entry h.3 (rw (append_assoc front (x ∷ []) xs) new) fit (rw (append_assoc front (x ∷ []) xs) formed))
 
 pub well_formed-append : (sig : PlainSignature) (name : List ℕ) (entry : PlainEntry) → IsWellFormed sig → place_of name sig ≡ None
-  → IsTrue (is_declarable name) → IsWellFormedEntry sig entry → IsWellFormed (sig ++ (name, entry) ∷ [])
+    → IsTrue (is_declarable name) → IsWellFormedEntry sig entry → IsWellFormed (sig ++ (name, entry) ∷ [])
 well_formed-append sig name entry h new fit formed = Extends-append [] sig name entry h new fit formed
 
 -- An allowed answer that accepts leaves the signature well formed, and so do all answers.
 pub Allowed-well_formed : {sig : PlainSignature} {item : SourceItem} {name : List ℕ} {entry : PlainEntry}
-  → IsWellFormed sig → Allowed sig item (accepted name entry) → IsWellFormed (sig ++ (name, entry) ∷ [])
+    → IsWellFormed sig → Allowed sig item (accepted name entry) → IsWellFormed (sig ++ (name, entry) ∷ [])
 Allowed-well_formed {sig} h (declaration {item = item} {entry = e} new space fit class none formed back) = well_formed-append sig item.name e h new fit formed
 
 pub answers-well_formed : {sig last : PlainSignature} {items : List SourceItem} {written : List ℕ} {status : Status}
-  → IsWellFormed sig → Answers sig items written status last → IsWellFormed last
+    → IsWellFormed sig → Answers sig items written status last → IsWellFormed last
 answers-well_formed h no_more = h
 answers-well_formed h (accepts allowed line rest) = answers-well_formed (Allowed-well_formed h allowed) rest
 answers-well_formed h (refuses allowed) = h
