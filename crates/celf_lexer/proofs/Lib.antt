@@ -5,3 +5,4 @@ pub mod Tokens
 pub mod Splits
 pub mod Signs
 pub mod Longest
+pub mod Spelling
