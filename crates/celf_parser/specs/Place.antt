@@ -15,6 +15,11 @@ abbrev pub IfTokenOf : List ℕ → Option Token → Type 0
 IfTokenOf text None = Unit {0}
 IfTokenOf text (Some t) = IsTokenOf text t
 
+-- The next token, where there is one, begins at this byte or behind it.
+abbrev pub IsBehind : ℕ → Option Token → Type 0
+IsBehind low None = Unit {0}
+IsBehind low (Some t) = low ≤ t.start
+
 -- the tokens from the next one on, where there is one
 abbrev pub tokens_on : List ℕ → Option Token → List Lexeme
 tokens_on text None = []

@@ -2,7 +2,7 @@
 ghost use Rattle.std.specs.Prelude.{ℕ, List, ◌≡◌, ◌≤◌, IsTrue, length, IfNone, IfSome, IfOk, drop};
 ghost use Rattle.celf_lexer.specs.Tokens.{tokens_after, tokens_at, lexeme_of};
 ghost use Rattle.celf_parser.specs.Grammar.{arrow_of as arrow_of_kind, is_arrow, is_name_kind, Ends, is_amp, is_close, is_colon, is_stop};
-ghost use Rattle.celf_parser.specs.Place.{IsTokenOf, IfTokenOf, tokens_on};
+ghost use Rattle.celf_parser.specs.Place.{IsTokenOf, IfTokenOf, IsBehind, tokens_on};
 
 use crate::surface::{Arrow, Span};
 use celf_lexer::{Token, TokenKind};
@@ -18,11 +18,12 @@ pub fn following(bytes: &[u8], token: Token) -> Option<Token>
     requires token { IsTokenOf bytes.now token }
     ensures tokens { tokens_on bytes.now result ≡ tokens_after bytes.now token }
     ensures within { IfTokenOf bytes.now result }
+    ensures behind { (low : ℕ) → low ≤ token.start → IsBehind low result }
 {
-    if token.kind == TokenKind::End {
-        return None;
+    match token.kind {
+        TokenKind::End => None,
+        _ => celf_lexer::next(bytes, token.end).ok(),
     }
-    crate::stub::next(bytes, token.end).ok()
 }
 
 /// The arrow that a token is.

@@ -30,7 +30,7 @@ pub fn next_item(alloc: Global, bytes: &[u8], at: u32) -> Result<Option<Item>, S
     ensures start { (start : ℕ) → IsErrOf result (SyntaxFault.NotYet start) → start ≡ at + gap (drop at bytes.now) }
     ensures some { (start : ℕ) → IsErrOf result (SyntaxFault.NotYet start) → start < length bytes.now }
 {
-    match crate::stub::next(bytes, at) {
+    match celf_lexer::next(bytes, at) {
         Ok(first) => item_at(alloc, bytes, first),
         Err(LexFault::BadByte(start)) | Err(LexFault::LongName(start)) =>
             Err(SyntaxFault::NotYet(start)),
