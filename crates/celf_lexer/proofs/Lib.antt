@@ -5,3 +5,6 @@ pub mod Tokens
 pub mod Splits
 pub mod Signs
 pub mod Longest
+pub mod Ascii
+pub mod Unique
+pub mod Names
