@@ -9,3 +9,4 @@ pub mod Ascii
 pub mod Unique
 pub mod Names
 pub mod Spelling
+pub mod Starts

@@ -46,4 +46,11 @@ pub declaration-found : (n m end : ℕ) (x c s : Lexeme) (ts us : List Lexeme) (
 declaration-found n m end x c s ts us b name a e f g d h i j =
     let made : ℕ → List ℕ → Declaration = λ k w. record { name = w; ty = a; span = record { start = x.start; end = k } } in
     subst (λ (k : ℕ). IsDeclaration n (x ∷ c ∷ ts) (made k name) us) j
-        (subst (λ (w : List ℕ). IsDeclaration n (x ∷ c ∷ ts) (made (s.start + length s.spelling) w) us) (sym f) (declared e g d h i))
+    (subst (λ (w : List ℕ). IsDeclaration n (x ∷ c ∷ ts) (made (s.start + length s.spelling) w) us) (sym f) (declared e g d h i))
+
+-- None is there where no token is.
+pub declaration-empty : (n : ℕ) → NoDeclaration n []
+declaration-empty n item us d = without n [] item us refl d
+  where
+    without : (n : ℕ) (ts : List Lexeme) (item : Declaration) (us : List Lexeme) → ts ≡ [] → IsDeclaration n ts item us → ⊥
+    without n ts item us e (declared f g h i j) = cc

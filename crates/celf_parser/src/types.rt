@@ -6,7 +6,9 @@ ghost use Rattle.celf_parser.specs.Grammar.{IsType, IsWith, IsAtom};
 ghost use Rattle.celf_parser.specs.Absent.{NoType, NoWith, NoAtom};
 ghost use Rattle.celf_parser.specs.Place.{IsTokenOf, IfTokenOf, IsBehind, tokens_on};
 
-use crate::cursor::{MAX_BYTES, amp_at, arrow_at, close_at, constant_of, following, name_of, span_of};
+use crate::cursor::{
+    MAX_BYTES, amp_at, arrow_at, close_at, constant_of, following, name_of, span_of,
+};
 use crate::surface::SType;
 use celf_lexer::{Token, TokenKind};
 use sqlite_items::Boxed;
