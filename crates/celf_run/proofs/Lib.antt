@@ -1,6 +1,7 @@
 pub mod Options
 pub mod Places
-pub mod WellFormed
+pub mod Bare
 pub mod Standing
 pub mod Spelled
 pub mod ReadsBack
+pub mod Rules

@@ -11,7 +11,7 @@ use Rattle.clf_syntax.specs.TypeTree.{PlainType, function, both as additive_pair
 use Rattle.clf_sig.specs.Entry.{PlainClass, family_of, constant_of, PlainEntry, PlainSignature}
 use Rattle.celf_run.specs.Reading.{mode_of, type_of, class_of, Reads}
 use Rattle.celf_run.specs.Text.{whole, class_text}
-use Rattle.celf_run.specs.WellFormed.{IsWellFormed, IsWellFormedClass, IsWellFormedEntry}
+use Rattle.celf_run.specs.Bare.{IsBareSignature, IsBareClass, IsBareEntry}
 use Rattle.celf_run.specs.Transcript.{ReadsBack}
 use Rattle.celf_run.proofs.Options.{combined-some}
 use Rattle.celf_run.proofs.Spelled.{CanFollow, StandsBefore, type_text-spells}
@@ -79,7 +79,7 @@ spells-constant sig a ts rest f =
       parse = s.parse s.depth (omega arith);
     }
 
-class_text-spells : (sig : PlainSignature) (c : PlainClass) → IsWellFormed sig → IsWellFormedClass sig c → (text : List ℕ) × (class_text sig c ≡ Some text) × SpellsClass sig c text
+class_text-spells : (sig : PlainSignature) (c : PlainClass) → IsBareSignature sig → IsBareClass sig c → (text : List ℕ) × (class_text sig c ≡ Some text) × SpellsClass sig c text
 class_text-spells sig (family_of (a ∷ as')) formed h = absurd (cc)
 class_text-spells sig (family_of []) formed h = (codes "type", refl, spells-kind sig)
 class_text-spells sig (constant_of a) formed h =
@@ -122,7 +122,7 @@ line-reads sig name entry text fit spells none =
     )
 
 -- The printed line of a well-formed entry reads back as that entry.
-pub reads_back : (sig : PlainSignature) (name : List ℕ) (entry : PlainEntry) → IsWellFormed sig → IsTrue (is_declarable name) → IsWellFormedEntry sig entry → ReadsBack sig name entry
+pub reads_back : (sig : PlainSignature) (name : List ℕ) (entry : PlainEntry) → IsBareSignature sig → IsTrue (is_declarable name) → IsBareEntry sig entry → ReadsBack sig name entry
 reads_back sig name entry formed fit h =
     let t = class_text-spells sig entry.class formed h.0 in
     (name ++ codes " : " ++ t.0 ++ codes ".\n", rw t.1, line-reads sig name entry t.0 fit t.2 h.1)

@@ -16,9 +16,9 @@ use Rattle.clf_syntax.specs.TypeTree.{PlainType, family, function, both as addit
 use Rattle.clf_sig.specs.Entry.{family_of, PlainEntry, PlainSignature, class_at}
 use Rattle.celf_run.specs.Reading.{mode_of, meaning_of, type_of}
 use Rattle.celf_run.specs.Text.{Place, whole, operand, factor, arrow_text, grouped, written_name, place_text, type_text, groups_function, groups_pair}
-use Rattle.celf_run.specs.WellFormed.{IsWellFormed, IsWellFormedType}
+use Rattle.celf_run.specs.Bare.{IsBareSignature, IsBareType}
 use Rattle.celf_run.proofs.Options.{option_map-some}
-use Rattle.celf_run.proofs.WellFormed.{well_formed-get}
+use Rattle.celf_run.proofs.Bare.{bare-get}
 use Rattle.celf_run.proofs.Standing.{MayFollow, Stands, stands-atom, stands-whole, stands-at, stands-grouped, stands-pair, stands-function}
 
 -- The tokens of these bytes may follow a type at a place.
@@ -163,10 +163,10 @@ module _ (sig : PlainSignature) where
       (λ dollar. spells-constant_name k e.0 fit means) (λ none. spells-name k e.0 fit means)
 
   -- The place of a family in a well-formed signature is spelled by its name.
-  pub spells-family : (k : ℕ) → IsWellFormed sig → class_at sig k ≡ Some (family_of []) → Spells sig factor (family k []) (place_text sig k)
+  pub spells-family : (k : ℕ) → IsBareSignature sig → class_at sig k ≡ Some (family_of []) → Spells sig factor (family k []) (place_text sig k)
   spells-family k formed class =
       let found = option_map-some (λ e. e.1.class) (slice_get sig k) (family_of []) class in
-      let entry = well_formed-get sig k found.0 formed found.1 in
+      let entry = bare-get sig k found.0 formed found.1 in
       let means : meaning_of sig found.0.0 ≡ Some k = rw (entry.place, class) in
       rw (← place_text-entry sig k found.0 found.1) at (spells-written_name k found.0 entry.declarable means)
 
@@ -182,7 +182,7 @@ module _ (sig : PlainSignature) where
   spells-pair_at factor a text s = spells-grouped a text (spells-whole a text s)
 
   -- A well-formed type has a text at each place, which spells it.
-  pub type_text-spells : (p : Place) (a : PlainType) → IsWellFormed sig → IsWellFormedType sig a → (text : List ℕ) × (type_text sig p a ≡ Some text) × Spells sig p a text
+  pub type_text-spells : (p : Place) (a : PlainType) → IsBareSignature sig → IsBareType sig a → (text : List ℕ) × (type_text sig p a ≡ Some text) × Spells sig p a text
   type_text-spells p (family k (n ∷ ns)) formed h = absurd (cc)
   type_text-spells p (family k []) formed h = (place_text sig k, refl, spells-at p (family k []) (place_text sig k) (spells-family k formed h.0))
   type_text-spells p (function m a b) formed h =

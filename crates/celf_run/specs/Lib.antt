@@ -1,11 +1,15 @@
 pub use Rattle.clf_syntax.specs.Word
 pub use Rattle.clf_syntax.specs.TypeTree
 pub use Rattle.clf_sig.specs.Entry
+pub use Rattle.clf_kernel.specs.WellFormed
+pub use Rattle.celf_source.specs.Count
+pub use Rattle.celf_source.specs.Shelf
+pub use Rattle.celf_source.specs.Sink
 pub use Rattle.celf_lexer.specs.Gap
 pub use Rattle.celf_lexer.specs.Tokens
 pub use Rattle.celf_parser.specs.Surface
 pub use Rattle.celf_parser.specs.Grammar
 pub mod Reading
 pub mod Text
-pub mod WellFormed
+pub mod Bare
 pub mod Transcript

@@ -11,7 +11,7 @@ use Rattle.celf_run.specs.declared.status.Status.{Status}
 use Rattle.celf_run.specs.declared.status.Status.TheVariants.{Done, Refused}
 use Rattle.celf_run.specs.Reading.{class_of, unknown_name, Reads}
 use Rattle.celf_run.specs.Text.{entry_line}
-use Rattle.celf_run.specs.WellFormed.{IsWellFormedEntry}
+use Rattle.clf_kernel.specs.WellFormed.{WellFormedEntry}
 
 -- how many nested parts may be open at once
 abbrev pub nesting : ℕ
@@ -60,7 +60,7 @@ pub data Allowed (sig : PlainSignature) : SourceItem → Answer → Type 0 where
   unknown : {item : Declaration} {at : ℕ} {name : List ℕ} → place_of item.name sig ≡ None → length sig ≢ room
       → unknown_name sig item.ty ≡ Some (at, name) → Allowed sig (declares item) (refused at (codes "unknown name " ++ name))
   declaration : {item : Declaration} {entry : PlainEntry} → place_of item.name sig ≡ None → length sig ≢ room → IsTrue (is_declarable item.name)
-      → class_of sig item.ty ≡ Some entry.class → entry.implicit ≡ 0 → IsWellFormedEntry sig entry → ReadsBack sig item.name entry
+      → class_of sig item.ty ≡ Some entry.class → entry.implicit ≡ 0 → WellFormedEntry sig entry → ReadsBack sig item.name entry
       → Allowed sig (declares item) (accepted item.name entry)
 
 abbrev pub refusal_line : ℕ → List ℕ → List ℕ

@@ -1,0 +1,43 @@
+-- What is bare is well formed by the rules, and so is what a run holds.
+use Rattle.std.proofs.Common.{ℕ, ◌≡◌, ◌+◌, suc, zero, true, false, refl, ap, sym, ◌∙◌, subst, Option, Some, None, IsSome, option_map, List, [], ◌∷◌, ◌++◌, IsTrue, arith, Contains}
+use Rattle.clf_syntax.specs.Word.{is_declarable}
+use Rattle.clf_syntax.specs.TypeTree.{PlainType, family, function, both, top, monad}
+use Rattle.use_contexts.specs.Context.{Context}
+use Rattle.clf_sig.specs.Entry.{PlainClass, family_of, constant_of, PlainEntry, PlainSignature, place_of, class_at, kind_in, family_kind, names}
+use Rattle.clf_kernel.specs.WellFormed.{WellFormedType, WellFormedClass, WellFormedEntry, MayFollow, AllMayFollow, WellFormedSignature}
+use Rattle.clf_kernel.proofs.Signatures.{bare_families, extended}
+use Rattle.celf_run.specs.declared.status.Status.{Status}
+use Rattle.celf_run.specs.Bare.{IsBareType, IsBareClass, IsBareEntry, AreBare, IsBareSignature}
+use Rattle.celf_run.specs.Transcript.{SourceItem, accepted, Allowed, declaration, Answers, no_more, accepts, refuses}
+
+bare-family : (sig : PlainSignature) (k : ℕ) → class_at sig k ≡ Some (family_of []) → family_kind sig k ≡ Some []
+bare-family sig k e = rw e refl
+
+pub bare-type : (sig : PlainSignature) (g : Context) (a : PlainType) → IsBareType sig a → WellFormedType sig g a
+bare-type sig g (family k ns) h = rw h.1 ((bare_families sig g k).1 (bare-family sig k h.0))
+bare-type sig g (function m a b) h = (bare-type sig g a h.0, bare-type sig _ b h.1)
+bare-type sig g (both a b) h = (bare-type sig g a h.0, bare-type sig g b h.1)
+bare-type sig g top h = tt
+bare-type sig g (monad s) h = absurd h
+
+pub bare-entry : (sig : PlainSignature) (e : PlainEntry) → IsBareEntry sig e → WellFormedEntry sig e
+bare-entry sig e h = ?
+
+-- The name of no entry is not among the names.
+unnamed : (sig : PlainSignature) (name : List ℕ) → place_of name sig ≡ None → Contains (names sig) name → ⊥
+unnamed sig name h c = ?
+
+bare-after : (earlier later : PlainSignature) → AreBare earlier later → AllMayFollow earlier later
+bare-after earlier [] h = tt
+bare-after earlier (e ∷ es) h = ((h.1, unnamed earlier e.0 h.0, bare-entry earlier e.1 h.2), bare-after (earlier ++ e ∷ []) es h.3)
+
+pub bare-signature : (sig : PlainSignature) → IsBareSignature sig → WellFormedSignature sig
+bare-signature sig h = bare-after [] sig h
+
+-- A run keeps its signature well formed.
+pub answers-well_formed : {sig last : PlainSignature} {items : List SourceItem} {written : List ℕ} {status : Status}
+    → WellFormedSignature sig → Answers sig items written status last → WellFormedSignature last
+answers-well_formed h no_more = h
+answers-well_formed {sig} h (accepts {name = name} {entry = entry} (declaration new space fit class none formed back) line rest) =
+    answers-well_formed (extended sig (name, entry) h (fit, unnamed sig name new, formed)) rest
+answers-well_formed h (refuses allowed) = h
