@@ -1,6 +1,6 @@
 -- The plain signature: what contracts see of `Signature`.
 -- It is the list of the declarations in the order in which they were made; a family or constant is the number of its place.
-use Rattle.std.specs.Prelude.{ℕ, List, [], ◌∷◌, map, Option, Some, None}
+use Rattle.std.specs.Prelude.{ℕ, List, map, Option, Some, None}
 use Rattle.std.specs.List.{slice_get}
 use Rattle.clf_syntax.specs.TypeTree.{PlainType, PlainKind}
 

@@ -8,3 +8,4 @@ pub mod Shift
 pub mod Occurs
 pub mod PlainSimple
 pub mod Simple
+pub mod Laws

@@ -3,12 +3,14 @@
 
 mod copy;
 mod fault;
+mod laws;
 mod modes;
 mod name;
 mod tree;
 mod types;
 
 pub use fault::{Or, OrWide, TooFar, Want, Wide};
+pub use laws::renaming;
 pub use modes::Modes;
 pub use name::Name;
 pub use tree::{

@@ -9,5 +9,4 @@ pub fn substitution()
     ensures renamed { CommutesWithRenaming }
     ensures renaming { RenamingSubstitutes }
     ensures absent { AbsentVariable }
-{
-}
+{}

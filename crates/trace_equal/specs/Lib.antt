@@ -1,5 +1,7 @@
 pub use Rattle.clf_syntax.specs.Tree
 pub use Rattle.clf_syntax.specs.Plain
 pub use Rattle.clf_syntax.specs.Renaming
+pub use Rattle.clf_syntax.specs.Occurs
 pub mod Exchange
 pub mod Matching
+pub mod Laws
