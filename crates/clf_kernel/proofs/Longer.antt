@@ -8,7 +8,7 @@ use Rattle.clf_syntax.specs.TypeTree.{PlainType, family, function, both, top, mo
 use Rattle.clf_syntax.specs.Renaming.{ren_telescope, up}
 use Rattle.use_contexts.specs.Context.{Context, modes, with_entries}
 use Rattle.use_contexts.specs.Holding.{Holding, all_held, persistent_alone}
-use Rattle.clf_sig.specs.Entry.{PlainSignature, kind_of, type_of, family_kind, constant_type}
+use Rattle.clf_sig.specs.Entry.{PlainSignature, family_kind, constant_type}
 use Rattle.clf_kernel.specs.Typing.{HeadHasType, HasType, NeutralHasType, HasResult, TupleHasType}
 use Rattle.clf_kernel.specs.WellFormed.{IndicesHaveTypes, WellFormedType, WellFormedTelescope, WellFormedKind}
 use Rattle.clf_kernel.specs.Laws.{Weakening}
@@ -18,19 +18,16 @@ abbrev pub Kept : PlainSignature → PlainSignature → Type 0
 Kept s t = ((c : ℕ) (a : PlainType) → constant_type s c ≡ Some a → constant_type t c ≡ Some a)
     × ((f : ℕ) (k : PlainKind) → family_kind s f ≡ Some k → family_kind t f ≡ Some k)
 
-no_kind : {k : PlainKind} → kind_of None ≡ Some k → ⊥
-no_kind e = cc
-
-no_type : {a : PlainType} → type_of None ≡ Some a → ⊥
-no_type e = cc
+nothing : {X : Type 0} {x : X} → None ≡ Some x → ⊥
+nothing e = cc
 
 longer_constant : (s more : PlainSignature) (c : ℕ) (a : PlainType) → constant_type s c ≡ Some a → constant_type (s ++ more) c ≡ Some a
-longer_constant [] more c a e = absurd (no_type e)
+longer_constant [] more c a e = absurd (nothing e)
 longer_constant (d ∷ s) more zero a e = e
 longer_constant (d ∷ s) more (suc c) a e = longer_constant s more c a e
 
 longer_family : (s more : PlainSignature) (f : ℕ) (k : PlainKind) → family_kind s f ≡ Some k → family_kind (s ++ more) f ≡ Some k
-longer_family [] more f k e = absurd (no_kind e)
+longer_family [] more f k e = absurd (nothing e)
 longer_family (d ∷ s) more zero k e = e
 longer_family (d ∷ s) more (suc f) k e = longer_family s more f k e
 

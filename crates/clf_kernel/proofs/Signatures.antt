@@ -5,7 +5,7 @@ use Rattle.std.proofs.Common.{ap, sym, subst, ◌∙◌}
 use Rattle.std.proofs.lemmas.List.Elements.{Contains-push, Contains-append_left}
 use Rattle.clf_syntax.specs.TypeTree.{PlainType, family, function, both, top, monad, Telescope, end, binding, PlainKind}
 use Rattle.use_contexts.specs.Context.{Context}
-use Rattle.clf_sig.specs.Entry.{PlainSignature, Declaration, PlainClass, a_family, a_constant, kind_in, type_in, names, family_kind, constant_type}
+use Rattle.clf_sig.specs.Entry.{PlainSignature, Declaration, PlainClass, family_of, constant_of, kind_in, type_in, names, family_kind, constant_type}
 use Rattle.clf_kernel.specs.WellFormed.{IndicesHaveTypes, WellFormedType, WellFormedTelescope, WellFormedKind, WellFormedClass, MayFollow, AllMayFollow}
 use Rattle.clf_kernel.specs.Laws.{BareFamilies, CompoundTypes, without_indices, telescope_without_indices, AnyContext, Extended, EachFollows, NamesDiffer, EntriesWellFormed}
 use Rattle.clf_kernel.proofs.Longer.{longer, kept_type, kept_kind, weakening}
@@ -105,18 +105,18 @@ pub names_differ : NamesDiffer
 names_differ sig p i j w e f = differ [] sig w i j p e f
 
 kind_formed : (s : PlainSignature) (c : PlainClass) (k : PlainKind) → kind_in c ≡ Some k → WellFormedClass s c → WellFormedKind s [] k
-kind_formed s (a_family l) k e p = subst (λ x. WellFormedKind s [] x) (same_kind e) p
+kind_formed s (family_of l) k e p = subst (λ x. WellFormedKind s [] x) (same_kind e) p
   where
     same_kind : {a b : PlainKind} → Some a ≡ Some b → a ≡ b
     same_kind e = cc
-kind_formed s (a_constant a) k e p = absurd (nothing e)
+kind_formed s (constant_of a) k e p = absurd (nothing e)
 
 type_formed : (s : PlainSignature) (c : PlainClass) (a : PlainType) → type_in c ≡ Some a → WellFormedClass s c → WellFormedType s [] a
-type_formed s (a_constant b) a e p = subst (λ x. WellFormedType s [] x) (same_type e) p
+type_formed s (constant_of b) a e p = subst (λ x. WellFormedType s [] x) (same_type e) p
   where
     same_type : {a b : PlainType} → Some a ≡ Some b → a ≡ b
     same_type e = cc
-type_formed s (a_family k) a e p = absurd (nothing e)
+type_formed s (family_of k) a e p = absurd (nothing e)
 
 families_formed : (s l : PlainSignature) (f : ℕ) (k : PlainKind) → AllMayFollow s l → family_kind l f ≡ Some k → WellFormedKind (s ++ l) [] k
 families_formed s [] f k p e = absurd (nothing e)

@@ -9,7 +9,7 @@ use Rattle.clf_syntax.specs.Word.{is_declarable}
 use Rattle.use_contexts.specs.Context.{Context, modes}
 use Rattle.use_contexts.specs.Holding.{persistent_alone}
 use Rattle.hered_subst.specs.Substitution.{single, SubstitutedKind}
-use Rattle.clf_sig.specs.Entry.{PlainSignature, Declaration, PlainEntry, PlainClass, a_family, a_constant, names, family_kind}
+use Rattle.clf_sig.specs.Entry.{PlainSignature, Declaration, PlainEntry, PlainClass, family_of, constant_of, names, family_kind}
 use Rattle.clf_kernel.specs.Typing.{HasType}
 
 -- The objects are as many as the arguments of the kind. Each has the argument's type, with the earlier ones put, and uses persistent
@@ -57,13 +57,13 @@ leading_persistent (monad s) = 0
 
 -- how many arguments may be implicit: those of a kind, all of which are persistent, or the leading persistent functions of a type
 abbrev pub may_be_implicit : PlainClass → ℕ
-may_be_implicit (a_family k) = length k
-may_be_implicit (a_constant a) = leading_persistent a
+may_be_implicit (family_of k) = length k
+may_be_implicit (constant_of a) = leading_persistent a
 
 -- The kind or type is well formed without variables.
 abbrev pub WellFormedClass : PlainSignature → PlainClass → Type 0
-WellFormedClass sig (a_family k) = WellFormedKind sig [] k
-WellFormedClass sig (a_constant a) = WellFormedType sig [] a
+WellFormedClass sig (family_of k) = WellFormedKind sig [] k
+WellFormedClass sig (constant_of a) = WellFormedType sig [] a
 
 -- An entry is well formed over a signature: so is its kind or type, and it has no more implicit arguments than it can have.
 abbrev pub WellFormedEntry : PlainSignature → PlainEntry → Type 0

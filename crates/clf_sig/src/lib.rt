@@ -1,2 +1,12 @@
-//! Signatures.
+//! The signature: the list of the families and constants that are declared, oldest first, with distinct names.
 #![tactic(auto)]
+
+mod entry;
+mod item;
+mod signature;
+#[cfg(test)]
+mod tests;
+
+pub use entry::{Class, Entry};
+pub use item::Core;
+pub use signature::{AddFault, Signature};

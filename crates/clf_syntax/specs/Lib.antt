@@ -8,4 +8,5 @@ pub mod Shift
 pub mod Occurs
 pub mod PlainSimple
 pub mod Simple
+pub mod Erasure
 pub mod Laws

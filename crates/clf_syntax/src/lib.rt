@@ -2,6 +2,7 @@
 #![tactic(auto)]
 
 mod copy;
+mod erasure;
 mod fault;
 mod laws;
 mod modes;
@@ -9,6 +10,7 @@ mod name;
 mod tree;
 mod types;
 
+pub use erasure::erase;
 pub use fault::{Or, OrWide, TooFar, Want, Wide};
 pub use laws::renaming;
 pub use modes::Modes;

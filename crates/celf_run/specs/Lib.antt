@@ -1,0 +1,11 @@
+pub use Rattle.clf_syntax.specs.Word
+pub use Rattle.clf_syntax.specs.TypeTree
+pub use Rattle.clf_sig.specs.Entry
+pub use Rattle.celf_lexer.specs.Gap
+pub use Rattle.celf_lexer.specs.Tokens
+pub use Rattle.celf_parser.specs.Surface
+pub use Rattle.celf_parser.specs.Grammar
+pub mod Reading
+pub mod Text
+pub mod WellFormed
+pub mod Transcript

@@ -1,0 +1,20 @@
+//! How a run ends.
+
+/// How a run ended; `number` is the program's exit status.
+#[derive(Clone, Copy, Debug, PartialEq, Eq)]
+pub enum Status {
+    /// Every item was answered.
+    Done,
+    /// An item was refused; its line is the last.
+    Refused,
+    /// The words are not the program's name and a file's name; nothing was read or written.
+    BadWords,
+    /// The shelf failed; nothing was written.
+    ReadFault,
+    /// The sink failed; what was written is the front of what was to be written.
+    WriteFault,
+    /// Memory ran out; the answers of earlier items and the front of the next one's are written.
+    NoMemory,
+    /// The file has more than 16,777,216 bytes; nothing was written.
+    TooLarge,
+}

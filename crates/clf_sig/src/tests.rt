@@ -1,0 +1,2 @@
+//! Each call once.
+use super::*;
