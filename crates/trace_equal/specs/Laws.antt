@@ -1,10 +1,12 @@
 -- Laws of exchange, as statements; the functions of the crate's `laws` state them.
-use Rattle.std.specs.Prelude.{ℕ, ◌≡◌, ◌<◌, ◌↔◌, Bool, true, false, ◌&&◌}
+use Rattle.std.specs.Prelude.{ℕ, ◌≡◌, ◌<◌, ◌↔◌, Bool, true, false, ◌&&◌, List}
 use Rattle.clf_syntax.specs.Tree.{Object, lam, pair, unit, monadic, atomic, hole, PlainNeutral, bare, app, fst, snd, Expression, step, done, Tuple, empty, entry}
 use Rattle.clf_syntax.specs.Renaming.{ren_neutral, up}
 use Rattle.clf_syntax.specs.Occurs.{occurs_neutral}
 use Rattle.trace_equal.specs.Exchange.{Joined, JoinedNeutral, JoinedExpression, JoinedTuple}
 use Rattle.trace_equal.specs.Matching.{Matches, MatchesNeutral, MatchesExpression, MatchesTuple}
+use Rattle.trace_equal.specs.Bijection.{IsMatching, IsFirstMatching}
+use Rattle.trace_equal.specs.Search.{first, same}
 
 -- Trees are joined exactly where they match.
 abbrev pub JoinedMatches : Type 0
@@ -49,3 +51,15 @@ JoinedWithoutSteps = ((o u : Object) → without_steps o ≡ true → Joined o u
 -- Joined is an equivalence.
 abbrev pub JoinedIsEquivalence : Type 0
 JoinedIsEquivalence = ((o : Object) → Joined o o) × ((o u : Object) → Joined o u → Joined u o) × ((o u v : Object) → Joined o u → Joined u v → Joined o v)
+
+-- Expressions are joined exactly where they have a matching.
+abbrev pub JoinedHasMatching : Type 0
+JoinedHasMatching = (e f : Expression) → JoinedExpression e f ↔ ((m : List ℕ) × IsMatching m e f)
+
+-- The search answers the first matching, or none where there is none.
+abbrev pub FirstIsFound : Type 0
+FirstIsFound = (e f : Expression) → IsFirstMatching e f (first e f)
+
+-- The test tells whether two objects are joined.
+abbrev pub SameIsJoined : Type 0
+SameIsJoined = (o u : Object) → (same o u ≡ true) ↔ Joined o u

@@ -3,4 +3,4 @@
 
 mod laws;
 
-pub use laws::exchange;
+pub use laws::{exchange, matchings};
