@@ -1,18 +1,17 @@
 -- Expressions match exactly where they have a matching.
-use Rattle.std.specs.Prelude.{ℕ, zero, suc, ◌+◌, ◌-◌, ◌≡◌, ◌≢◌, ◌<◌, ◌≤◌, ◌⊎◌, ◌↔◌, List, [], ◌∷◌, length, map, refl, ⊤}
+use Rattle.std.specs.Prelude.{ℕ, zero, suc, ◌+◌, ◌-◌, ◌≡◌, ◌≢◌, ◌<◌, ◌≤◌, List, [], ◌∷◌, length, map, refl}
 use Rattle.std.proofs.Common.{ap, sym, subst, ◌∙◌, arith, ⊎_elim, add-zero}
 use Rattle.clf_syntax.proofs.RenamingLaws.{composed_neutral, composed_tuple, cut, ext, identity_tuple, pairs}
 use Rattle.clf_syntax.specs.Renaming.{Renumbering, crossed, lifted, ren_expression, ren_neutral, ren_tuple, up}
 use Rattle.clf_syntax.specs.Tree.{Expression, PlainNeutral, Tuple, done, step}
 use Rattle.clf_syntax.specs.declared.tree.Mode.{Mode}
 use Rattle.trace_equal.proofs.Closed.{alike_neutral, alike_tuple, carried, joined_neutral, joined_tuple, like_to_neutral, like_to_tuple, like_to_expression, alike_expression, joined_expression}
-use Rattle.trace_equal.proofs.Fronts.{both}
 use Rattle.trace_equal.proofs.Moves.{reflected, renamed_neutral, renamed_tuple, up_once}
 use Rattle.trace_equal.proofs.WideSteps.{back, back_there, insert_at, line_idle, lines_comp, map_comp, map_idle, outer, place, result_pull, there, wide_pull}
 use Rattle.trace_equal.specs.Bijection.{Absent, Agree, AgreeAt, Distinct, IsMatching, Paired}
 use Rattle.trace_equal.specs.Exchange.{JoinedNeutral, JoinedTuple, next, stop}
 use Rattle.trace_equal.specs.Matching.{MatchesExpression, MatchesTuple, Pulled, match_done, match_step, pulled_here, pulled_later}
-use Rattle.trace_equal.specs.Search.{first, past, same}
+use Rattle.trace_equal.specs.Search.{past, same}
 use Rattle.trace_equal.specs.Steps.{WideStep, below, ren_wide_step, result_of, size, wide_step, wide_steps}
 use Rattle.trace_equal.specs.Laws.{JoinedHasMatching}
 
@@ -89,9 +88,9 @@ paired_down i [] [] y ys h a p = ([], refl, tt)
 paired_down i [] (x ∷ xs) y ys h a p = absurd p
 paired_down i (j ∷ m) [] y ys h a p = absurd p
 paired_down i (j ∷ m) (x ∷ xs) y ys h a p =
-  let (k, e, b) = at_down i j x y ys h a.0 p.0 in
-  let (l, g, q) = paired_down i m xs y ys h a.1 p.1 in
-  (k ∷ l, both e g, (b, q))
+    let (k, e, b) = at_down i j x y ys h a.0 p.0 in
+    let (l, g, q) = paired_down i m xs y ys h a.1 p.1 in
+    (k ∷ l, both e g, (b, q))
   where
     both : {a b : ℕ} {c d : List ℕ} → a ≡ b → c ≡ d → (a ∷ c) ≡ (b ∷ d)
     both e k = cc
@@ -136,8 +135,8 @@ place_bound (pulled_later {p = p} {q = q} {e = e} {f = f} h k l u) = more (place
 
 wide_length : {q : List Mode} {v : PlainNeutral} {e f : Expression} (u : Pulled q v e f) → length (wide_steps f) ≡ suc (length (wide_steps e))
 wide_length {q = q} {v = v} {e = e} {f = f} u = ap length (wide_pull u)
-  ∙ insert_length (place u) (wide_step (map (there u) (map (up (size e)) (below (length q)))) q (ren_neutral (up (size f)) v)) (map (ren_wide_step (there u)) (wide_steps e))
-  ∙ ap suc (map_length (ren_wide_step (there u)) (wide_steps e))
+    ∙ insert_length (place u) (wide_step (map (there u) (map (up (size e)) (below (length q)))) q (ren_neutral (up (size f)) v)) (map (ren_wide_step (there u)) (wide_steps e))
+    ∙ ap suc (map_length (ren_wide_step (there u)) (wide_steps e))
 
 bound : {q : List Mode} {v : PlainNeutral} {e f : Expression} (u : Pulled q v e f) → place u ≤ length (map (ren_wide_step (there u)) (wide_steps e))
 bound {e = e} u = subst (λ k. place u ≤ k) (sym (map_length (ren_wide_step (there u)) (wide_steps e))) (place_bound u)
@@ -145,32 +144,40 @@ bound {e = e} u = subst (λ k. place u ≤ k) (sym (map_length (ren_wide_step (t
 -- from cases to a bijection
 pub extended : {p : List Mode} (r : PlainNeutral) {v : PlainNeutral} (d : Expression) {e f : Expression} (u : Pulled p v e f) → JoinedNeutral r v → (m : List ℕ) → IsMatching m d e → IsMatching (place u ∷ map (past (place u)) m) (step p r d) f
 extended {p = p} r {v = v} d {e = e} {f = f} u n m (s, out, len, dis, pairs, tup) =
-  (z, outside, sym (wide_length u ∙ ap suc (sym len)), (absent_past (place u) m, distinct_up (place u) m dis), subst (Paired (place u ∷ map (past (place u)) m) (map (ren_wide_step z) (wide_steps (step p r d)))) (sym (wide_pull u)) (first, others), last)
+    (z, outside, sym (wide_length u ∙ ap suc (sym len)), (absent_past (place u) m, distinct_up (place u) m dis), subst (Paired (place u ∷ map (past (place u)) m) (map (ren_wide_step z) (wide_steps (step p r d)))) (sym (wide_pull u)) (first, others), last)
   where
     z : Renumbering
     z = λ i. there u (s i)
+
     y : WideStep
     y = wide_step (map (there u) (map (up (size e)) (below (length p)))) p (ren_neutral (up (size f)) v)
+
     outside : (i : ℕ) → z (i + (size d + length p)) ≡ i + size f
     outside i = ap z regroup ∙ ap (there u) (out (i + length p)) ∙ ap (there u) regroup2 ∙ outer u i
       where
         regroup : i + (size d + length p) ≡ i + length p + size d
         regroup = omega arith
+
         regroup2 : i + length p + size e ≡ i + (size e + length p)
         regroup2 = omega arith
+
     names : map z (map (up (size d)) (below (length p))) ≡ map (there u) (map (up (size e)) (below (length p)))
     names = map_comp z (up (size d)) (below (length p)) ∙ ap (λ g. map g (below (length p))) (ext (λ c. ap (there u) (out c))) ∙ sym (map_comp (there u) (up (size e)) (below (length p)))
+
     side : ren_neutral z (ren_neutral (up (size d + length p)) r) ≡ ren_neutral (up (size f)) r
     side = composed_neutral z (up (size d + length p)) r ∙ ap (λ g. ren_neutral g r) (ext outside)
+
     first : AgreeAt (place u) (ren_wide_step z (wide_step (map (up (size d)) (below (length p))) p (ren_neutral (up (size d + length p)) r))) (insert_at (place u) y (map (ren_wide_step (there u)) (wide_steps e)))
     first = placed_at (place u) (ren_wide_step z (wide_step (map (up (size d)) (below (length p))) p (ren_neutral (up (size d + length p)) r))) y (map (ren_wide_step (there u)) (wide_steps e)) (bound u)
-      (names, refl, subst (λ (o : PlainNeutral). JoinedNeutral o (ren_neutral (up (size f)) v)) (sym side) (joined_renamed (up (size f)) n))
+        (names, refl, subst (λ (o : PlainNeutral). JoinedNeutral o (ren_neutral (up (size f)) v)) (sym side) (joined_renamed (up (size f)) n))
+
     others : Paired (map (past (place u)) m) (map (ren_wide_step z) (wide_steps d)) (insert_at (place u) y (map (ren_wide_step (there u)) (wide_steps e)))
     others = paired_up (place u) m (map (ren_wide_step z) (wide_steps d)) y (map (ren_wide_step (there u)) (wide_steps e)) (bound u)
-      (subst (λ o. Paired m o (map (ren_wide_step (there u)) (wide_steps e))) (lines_comp (there u) s (wide_steps d)) (paired_renamed (there u) m (map (ren_wide_step s) (wide_steps d)) (wide_steps e) pairs))
+        (subst (λ o. Paired m o (map (ren_wide_step (there u)) (wide_steps e))) (lines_comp (there u) s (wide_steps d)) (paired_renamed (there u) m (map (ren_wide_step s) (wide_steps d)) (wide_steps e) pairs))
+
     last : JoinedTuple (ren_tuple z (result_of d)) (result_of f)
     last = subst (JoinedTuple (ren_tuple z (result_of d))) (sym (result_pull u)) (subst (λ (o : Tuple). JoinedTuple o (ren_tuple (there u) (result_of e))) (composed_tuple (there u) s (result_of d))
-      (carried (ren_tuple (there u)) (λ _ _ x. renamed_tuple (there u) x) tup))
+        (carried (ren_tuple (there u)) (λ _ _ x. renamed_tuple (there u) x) tup))
 
 pub ret_matching : {t w : Tuple} → MatchesTuple t w → IsMatching [] (done t) (done w)
 ret_matching {t} {w} p = ((λ i. i), (λ i. refl), refl, tt, tt, subst (λ (o : Tuple). JoinedTuple o w) (sym (identity_tuple t)) (joined_tuple p))
@@ -185,15 +192,15 @@ reflected_chain n stop a e = (a, e, stop)
 reflected_chain n (next x p) a e = let (b, g, y) = reflected n e x in let (c, h, q) = reflected_chain n p b g in (c, h, next y q)
 
 pub pullable : (f : Expression) (i : ℕ) (us : List ℕ) (ms : List Mode) (n r : PlainNeutral) → n ≡ ren_neutral (up (size f)) r → AgreeAt i (wide_step us ms n) (wide_steps f)
-  → (q : List Mode) × (v : PlainNeutral) × (e : Expression) × (u : Pulled q v e f) × (ms ≡ q) × (place u ≡ i) × JoinedNeutral r v
+    → (q : List Mode) × (v : PlainNeutral) × (e : Expression) × (u : Pulled q v e f) × (ms ≡ q) × (place u ≡ i) × JoinedNeutral r v
 pullable (done t) i us ms n r e a = absurd a
 pullable (step q o g) zero us ms n r e a =
-  let (b, h, j) = reflected_chain (size g + length q) a.2 r e in
-  (q, o, g, pulled_here, a.1, refl, subst (JoinedNeutral r) (sym (up_once (size g + length q) h)) j)
+    let (b, h, j) = reflected_chain (size g + length q) a.2 r e in
+    (q, o, g, pulled_here, a.1, refl, subst (JoinedNeutral r) (sym (up_once (size g + length q) h)) j)
 pullable (step q o g) (suc i) us ms n r e a =
-  let (k, w, d, u, same, where_at, j) = pullable g i us ms n (ren_neutral (up (length q)) r) (e ∙ split) a in
-  let (v, h, l) = reflected_chain (length q) j r refl in
-  (k, v, step q (ren_neutral (up (length k)) o) (ren_expression (crossed (length q) (length k)) d), pulled_later h refl refl u, same, ap suc where_at, l)
+    let (k, w, d, u, same, where_at, j) = pullable g i us ms n (ren_neutral (up (length q)) r) (e ∙ split) a in
+    let (v, h, l) = reflected_chain (length q) j r refl in
+    (k, v, step q (ren_neutral (up (length k)) o) (ren_expression (crossed (length q) (length k)) d), pulled_later h refl refl u, same, ap suc where_at, l)
   where
     split : ren_neutral (up (size g + length q)) r ≡ ren_neutral (up (size g)) (ren_neutral (up (length q)) r)
     split = sym (composed_neutral (up (size g)) (up (length q)) r ∙ ap (λ m. ren_neutral m r) (ext (λ i. sum i)))
@@ -207,50 +214,66 @@ own_from f g a b (suc n) e c h = ⊎_elim (λ k. own_from f g a b n (tails e) c 
   where
     tails : {i j : ℕ} {is js : List ℕ} → (i ∷ is) ≡ (j ∷ js) → is ≡ js
     tails e = cc
+
     heads : {i j : ℕ} {is js : List ℕ} → (i ∷ is) ≡ (j ∷ js) → i ≡ j
     heads e = cc
+
     same : n ≤ c → n ≡ c
     same k = omega arith
 
 pub rest_matching : {q : List Mode} {v : PlainNeutral} (p : List Mode) (r : PlainNeutral) (d : Expression) {e f : Expression} (u : Pulled q v e f) → p ≡ q → (m : List ℕ) → IsMatching (place u ∷ m) (step p r d) f → (l : List ℕ) × (m ≡ map (past (place u)) l) × IsMatching l d e
 rest_matching {q = q} {v = v} p r d {e = e} {f = f} u same m (s, out, len, dis, pairs, tup) =
-  let (l, g, pl) = paired_down (place u) m (map (ren_wide_step s) (wide_steps d)) y ys (bound u) dis.0 all.1 in
-  (l, g, (z, outside, count (len ∙ wide_length u), distinct_down (place u) l (subst Distinct g dis.1), again l pl, last))
+    let (l, g, pl) = paired_down (place u) m (map (ren_wide_step s) (wide_steps d)) y ys (bound u) dis.0 all.1 in
+    (l, g, (z, outside, count (len ∙ wide_length u), distinct_down (place u) l (subst Distinct g dis.1), again l pl, last))
   where
     z : Renumbering
     z = λ i. back u (s i)
+
     y : WideStep
     y = wide_step (map (there u) (map (up (size e)) (below (length q)))) q (ren_neutral (up (size f)) v)
+
     ys : List WideStep
     ys = map (ren_wide_step (there u)) (wide_steps e)
+
     x : WideStep
     x = ren_wide_step s (wide_step (map (up (size d)) (below (length p))) p (ren_neutral (up (size d + length p)) r))
+
     all : Paired (place u ∷ m) (x ∷ map (ren_wide_step s) (wide_steps d)) (insert_at (place u) y ys)
     all = subst (Paired (place u ∷ m) (x ∷ map (ren_wide_step s) (wide_steps d))) (wide_pull u) pairs
+
     agree : Agree x y
     agree = found_at (place u) x y ys (bound u) all.0
+
     long : length p ≡ length q
     long = ap length same
+
     count : suc (length (wide_steps d)) ≡ suc (length (wide_steps e)) → length (wide_steps d) ≡ length (wide_steps e)
     count h = omega arith
+
     names : map s (map (up (size d)) (below (length p))) ≡ map (there u) (map (up (size e)) (below (length p)))
     names = agree.0 ∙ ap (λ k. map (there u) (map (up (size e)) (below k))) (sym long)
+
     far : (i : ℕ) → length p ≤ i → s (i + size d) ≡ there u (i + size e)
     far i h = ap s (determined h) ∙ out (i - length p) ∙ sym (ap (there u) (two long h) ∙ outer u (i - length p))
       where
         determined : length p ≤ i → i + size d ≡ i - length p + (size d + length p)
         determined h = omega arith
+
         two : length p ≡ length q → length p ≤ i → i + size e ≡ i - length p + (size e + length q)
         two k h = omega arith
+
     outside : (i : ℕ) → z (i + size d) ≡ i + size e
     outside i = ap (back u) (⊎_elim (λ h. own_from s (there u) (size d) (size e) (length p) names i h) (far i) (cut i (length p))) ∙ back_there u (i + size e)
+
     undone : map (ren_wide_step (back u)) ys ≡ wide_steps e
     undone = lines_comp (back u) (there u) (wide_steps e) ∙ ap (λ g. map (ren_wide_step g) (wide_steps e)) (ext (back_there u)) ∙ map_idle (ren_wide_step (λ i. i)) (wide_steps e) line_idle
+
     again : (l : List ℕ) → Paired l (map (ren_wide_step s) (wide_steps d)) ys → Paired l (map (ren_wide_step z) (wide_steps d)) (wide_steps e)
     again l pl = subst (Paired l (map (ren_wide_step z) (wide_steps d))) undone (subst (λ o. Paired l o (map (ren_wide_step (back u)) ys)) (lines_comp (back u) s (wide_steps d)) (paired_renamed (back u) l (map (ren_wide_step s) (wide_steps d)) ys pl))
+
     last : JoinedTuple (ren_tuple z (result_of d)) (result_of e)
     last = subst (JoinedTuple (ren_tuple z (result_of d))) (ap (ren_tuple (back u)) (result_pull u) ∙ composed_tuple (back u) (there u) (result_of e) ∙ ap (λ g. ren_tuple g (result_of e)) (ext (back_there u)) ∙ identity_tuple (result_of e))
-      (subst (λ (o : Tuple). JoinedTuple o (ren_tuple (back u) (result_of f))) (composed_tuple (back u) s (result_of d)) (carried (ren_tuple (back u)) (λ _ _ x. renamed_tuple (back u) x) tup))
+        (subst (λ (o : Tuple). JoinedTuple o (ren_tuple (back u) (result_of f))) (composed_tuple (back u) s (result_of d)) (carried (ren_tuple (back u)) (λ _ _ x. renamed_tuple (back u) x) tup))
 
 pub from_matching : (e f : Expression) (m : List ℕ) → IsMatching m e f → MatchesExpression e f
 from_matching (done t) (done w) m (s, out, len, dis, pairs, tup) = match_done (like_to_tuple (alike_tuple t) (subst (λ (o : Tuple). JoinedTuple o w) (ap (λ g. ren_tuple g t) (ext (λ i. subst (λ j. s j ≡ j) (add-zero i) (out i))) ∙ identity_tuple t) tup))
@@ -260,9 +283,9 @@ from_matching (done t) (step q o g) m (s, out, len, dis, pairs, tup) = absurd (n
     no_place e = omega arith
 from_matching (step p r d) f [] (s, out, len, dis, pairs, tup) = absurd pairs
 from_matching (step p r d) f (i ∷ m) (s, out, len, dis, pairs, tup) =
-  let (q, v, e, u, same, where_at, n) = pullable f i (map s (map (up (size d)) (below (length p)))) p (ren_neutral s (ren_neutral (up (size d + length p)) r)) r (composed_neutral s (up (size d + length p)) r ∙ ap (λ g. ren_neutral g r) (ext out)) pairs.0 in
-  let (l, g, h) = rest_matching p r d u same m (subst (λ j. IsMatching (j ∷ m) (step p r d) f) (sym where_at) (s, out, len, dis, pairs, tup)) in
-  match_step (subst (λ ms. Pulled ms v e f) (sym same) u) (like_to_neutral (alike_neutral r) n) (from_matching d e l h)
+    let (q, v, e, u, same, where_at, n) = pullable f i (map s (map (up (size d)) (below (length p)))) p (ren_neutral s (ren_neutral (up (size d + length p)) r)) r (composed_neutral s (up (size d + length p)) r ∙ ap (λ g. ren_neutral g r) (ext out)) pairs.0 in
+    let (l, g, h) = rest_matching p r d u same m (subst (λ j. IsMatching (j ∷ m) (step p r d) f) (sym where_at) (s, out, len, dis, pairs, tup)) in
+    match_step (subst (λ ms. Pulled ms v e f) (sym same) u) (like_to_neutral (alike_neutral r) n) (from_matching d e l h)
 
 pub joined_has_matching : JoinedHasMatching
 joined_has_matching e f = ((λ p. to_matching (like_to_expression (alike_expression e) p)), (λ g. joined_expression (from_matching e f g.0 g.1)))

@@ -1,5 +1,5 @@
 -- The search finds the first matching.
-use Rattle.std.specs.Prelude.{ℕ, Bool, true, false, zero, suc, ◌+◌, ◌-◌, ◌≡◌, ◌<◌, ◌≤◌, ◌⊎◌, ◌&&◌, ◌↔◌, nat_eq, if◌then◌else◌, List, [], ◌∷◌, length, map, refl, Some, None, is_some}
+use Rattle.std.specs.Prelude.{ℕ, Bool, true, false, zero, suc, ◌+◌, ◌≡◌, ◌<◌, ◌≤◌, ◌⊎◌, ◌&&◌, nat_eq, if◌then◌else◌, List, [], ◌∷◌, length, map, refl, Some, None, is_some}
 use Rattle.std.proofs.Common.{Option, ap, sym, subst, ◌∙◌, arith, inl, inr, ⊎_elim}
 use Rattle.clf_syntax.proofs.RenamingLaws.{composed_neutral, ext, pairs}
 use Rattle.clf_syntax.specs.Renaming.{ren_neutral, up}
@@ -9,7 +9,7 @@ use Rattle.clf_syntax.specs.declared.tree.Head.TheVariants.{Const, Meta, Var}
 use Rattle.clf_syntax.specs.declared.tree.Mode.{Mode}
 use Rattle.clf_syntax.specs.declared.tree.Mode.TheVariants.{Affine, Linear, Persistent}
 use Rattle.trace_equal.proofs.Bijections.{extended, from_matching, joined_has_matching, pullable, rest_matching, ret_matching, to_matching}
-use Rattle.trace_equal.proofs.Closed.{alike_neutral, joined_neutral, like_to_neutral, like_to_tuple, joined_matches}
+use Rattle.trace_equal.proofs.Closed.{alike_neutral, joined_neutral, like_to_neutral, joined_matches}
 use Rattle.trace_equal.specs.Laws.{FirstIsFound, SameIsJoined}
 use Rattle.trace_equal.proofs.Fronts.{PulledAt, both, halves, pull_complete, pull_sound}
 use Rattle.trace_equal.proofs.WideSteps.{place}
@@ -127,7 +127,7 @@ from_first p r d f (Some m) h = (h.0, λ l g. least l g)
 
 pull_of : (p : List Mode) (r : PlainNeutral) (d f : Expression) (i : ℕ) (m : List ℕ) → IsMatching (i ∷ m) (step p r d) f → (q : List Mode) × (v : PlainNeutral) × (e : Expression) × (u : Pulled q v e f) × (p ≡ q) × (place u ≡ i) × JoinedNeutral r v
 pull_of p r d f i m (s, out, len, dis, pairs, tup) = pullable f i (map s (map (up (size d)) (below (length p)))) p (ren_neutral s (ren_neutral (up (size d + length p)) r)) r
-  (composed_neutral s (up (size d + length p)) r ∙ ap (λ g. ren_neutral g r) (ext out)) pairs.0
+    (composed_neutral s (up (size d + length p)) r ∙ ap (λ g. ren_neutral g r) (ext out)) pairs.0
 
 none_some : {A : Type 0} {x : A} → None ≡ Some x → ⊥
 none_some e = cc
@@ -150,9 +150,12 @@ module _ (p : List Mode) (r : PlainNeutral) (d f : Expression) (test : PlainNeut
 
   answered : {q : List Mode} {v : PlainNeutral} {e : Expression} (u : Pulled q v e f) (i : ℕ) → place u ≡ i → p ≡ q → MatchesNeutral r v → (o : Option (List ℕ)) → IsFirstMatching d e o → At Good i (prefixed i o)
   answered u i pos eq n None h = λ m g. let (l, k, x) = rested u i pos eq m g in h l x
-  answered {v = v} {e = e} u i pos eq n (Some m) h = (map (past i) m, refl
-    , subst (λ j. IsMatching (j ∷ map (past j) m) (step p r d) f) pos (subst (λ ms. IsMatching (place u ∷ map (past (place u)) m) (step ms r d) f) (sym eq) (extended r d u (joined_neutral n) m h.0))
-    , λ k g. let (l, a, x) = rested u i pos eq k g in subst (IsAtMost (map (past i) m)) (sym a) (at_most_past i m l (h.1 l x)))
+  answered {v = v} {e = e} u i pos eq n (Some m) h = (
+    map (past i) m,
+    refl,
+    subst (λ j. IsMatching (j ∷ map (past j) m) (step p r d) f) pos (subst (λ ms. IsMatching (place u ∷ map (past (place u)) m) (step ms r d) f) (sym eq) (extended r d u (joined_neutral n) m h.0)),
+    λ k g. let (l, a, x) = rested u i pos eq k g in subst (IsAtMost (map (past i) m)) (sym a) (at_most_past i m l (h.1 l x)),
+  )
 
   tried_at : (i : ℕ) (o : Option Front) → pull_at i f ≡ o → PulledAt i f o → At Good i (attempt p test rec i o)
   tried_at i None e h = λ m g. let (q, v, x, u, eq, pos, n) = pull_of p r d f i m g in none_some (sym e ∙ ap (λ j. pull_at j f) (sym pos) ∙ pull_complete u)
@@ -161,8 +164,8 @@ module _ (p : List Mode) (r : PlainNeutral) (d f : Expression) (test : PlainNeut
       tested : (b : Bool) → (same_modes p q && test v) ≡ b → At Good i (if b then prefixed i (rec x) else None)
       tested true t = let (a, b) = halves (same_modes p q) (test v) t in answered h.0 i h.1 (modes_sound p q a) (sure v b) (rec x) (best x)
       tested false t = λ m g. let (k, w, y, u, eq, pos, n) = pull_of p r d f i m g in
-        let same_front = sym e ∙ ap (λ j. pull_at j f) (sym pos) ∙ pull_complete u in
-        false_true (sym t ∙ both (ap (same_modes p) (modes_front same_front ∙ sym eq) ∙ modes_complete p) (ap test (side_front same_front) ∙ all_found w (like_to_neutral (alike_neutral r) n)))
+          let same_front = sym e ∙ ap (λ j. pull_at j f) (sym pos) ∙ pull_complete u in
+          false_true (sym t ∙ both (ap (same_modes p) (modes_front same_front ∙ sym eq) ∙ modes_complete p) (ap test (side_front same_front) ∙ all_found w (like_to_neutral (alike_neutral r) n)))
 
   tried : (i : ℕ) → At Good i (attempt p test rec i (pull_at i f))
   tried i = tried_at i (pull_at i f) refl (pull_sound i f)
@@ -198,7 +201,7 @@ mutual
   pub sound_neutral : (a b : PlainNeutral) → same_neutral a b ≡ true → MatchesNeutral a b
   sound_neutral (bare h) (bare j) e = subst (λ i. MatchesNeutral (bare h) (bare i)) (head_sound h j e) match_bare
   sound_neutral (app m r o) (app k s u) e = let (x, y) = halves (same_mode m k) (same_neutral r s && same o u) e in let (a, b) = halves (same_neutral r s) (same o u) y in
-    subst (λ i. MatchesNeutral (app m r o) (app i s u)) (mode_sound m k x) (match_app (sound_neutral r s a) (sound o u b))
+      subst (λ i. MatchesNeutral (app m r o) (app i s u)) (mode_sound m k x) (match_app (sound_neutral r s a) (sound o u b))
   sound_neutral (fst r) (fst s) e = match_fst (sound_neutral r s e)
   sound_neutral (snd r) (snd s) e = match_snd (sound_neutral r s e)
   sound_neutral _ _ e = absurd (cc)
@@ -206,7 +209,7 @@ mutual
   pub sound_tuple : (a b : Tuple) → same_tuple a b ≡ true → MatchesTuple a b
   sound_tuple empty empty e = match_empty
   sound_tuple (entry m o t) (entry k u w) e = let (x, y) = halves (same_mode m k) (same o u && same_tuple t w) e in let (a, b) = halves (same o u) (same_tuple t w) y in
-    subst (λ i. MatchesTuple (entry m o t) (entry i u w)) (mode_sound m k x) (match_entry (sound o u a) (sound_tuple t w b))
+      subst (λ i. MatchesTuple (entry m o t) (entry i u w)) (mode_sound m k x) (match_entry (sound o u a) (sound_tuple t w b))
   sound_tuple _ _ e = absurd (cc)
 
   pub complete : (a : Object) {b : Object} → Matches a b → same a b ≡ true

@@ -1,6 +1,6 @@
 -- A step can be pulled to the front exactly where it mentions no variable of a step before it.
-use Rattle.std.specs.Prelude.{ℕ, Bool, true, false, zero, suc, ◌+◌, ◌-◌, ◌≡◌, ◌<◌, ◌≤◌, ◌⊎◌, ◌&&◌, ◌||◌, nat_lt, nat_le, nat_eq, if◌then◌else◌, List, [], ◌∷◌, length, map, refl, Some, None}
-use Rattle.std.proofs.Common.{Option, ap, sym, subst, ◌∙◌, arith, inl, inr, ⊎_elim}
+use Rattle.std.specs.Prelude.{ℕ, Bool, true, false, zero, suc, ◌+◌, ◌≡◌, ◌&&◌, ◌||◌, nat_lt, nat_le, if◌then◌else◌, List, length, refl, Some, None}
+use Rattle.std.proofs.Common.{Option, ap, sym, ◌∙◌, arith}
 use Rattle.clf_syntax.proofs.RenamingLaws.{apps, binds, composed_neutral, down_up, entries, ext, pairs, undone_neutral}
 use Rattle.clf_syntax.specs.Renaming.{Renumbering, crossed, down, lifted, ren, ren_expression, ren_neutral, ren_tuple, up}
 use Rattle.clf_syntax.specs.Tree.{Expression, Object, PlainNeutral, Tuple, app, atomic, bare, done, empty, entry, fst, hole, lam, monadic, pair, snd, step, unit}
@@ -70,7 +70,7 @@ mutual
 
   free_down_expression : (k n : ℕ) (f : Expression) → free_expression k n f ≡ true → ren_expression (lifted k (Round n)) f ≡ f
   free_down_expression k n (step ms r f) e = let (a, b) = halves (free_neutral k n r) (free_expression (length ms + k) n f) e in
-    binds ms (free_down_neutral k n r a) (ap (λ r. ren_expression r f) (lift_lift (length ms) k (Round n)) ∙ free_down_expression (length ms + k) n f b)
+      binds ms (free_down_neutral k n r a) (ap (λ r. ren_expression r f) (lift_lift (length ms) k (Round n)) ∙ free_down_expression (length ms + k) n f b)
   free_down_expression k n (done t) e = ap done (free_down_tuple k n t e)
 
   free_down_tuple : (k n : ℕ) (t : Tuple) → free_tuple k n t ≡ true → ren_tuple (lifted k (Round n)) t ≡ t
@@ -92,7 +92,7 @@ fronts q g h = cc
 pub pull_complete : {q : List Mode} {v : PlainNeutral} {e f : Expression} (u : Pulled q v e f) → pull_at (place u) f ≡ Some (front q v e)
 pull_complete pulled_here = refl
 pull_complete (pulled_later {p = p} {q = q} {r = r} {s = s} {v = v} {w = w} {e = e} {f = f} {g = g} h k l u) =
-  ap (later_front p r) (pull_complete u) ∙ rw (ap (free_neutral 0 (length p)) h ∙ up_free (length p) v)
+    ap (later_front p r) (pull_complete u) ∙ rw (ap (free_neutral 0 (length p)) h ∙ up_free (length p) v)
     (fronts q (ap (ren_neutral (down (length p))) h ∙ undone_neutral (down (length p)) (up (length p)) (down_up (length p)) v) (binds p (sym k) (sym l)))
 
 abbrev pub PulledAt : ℕ → Expression → Option Front → Type 0

@@ -1,12 +1,11 @@
 -- The list of steps of an expression with one step pulled to the front.
-use Rattle.std.specs.Prelude.{ℕ, zero, suc, ◌+◌, ◌-◌, ◌≡◌, ◌<◌, ◌≤◌, List, [], ◌∷◌, length, map, refl}
+use Rattle.std.specs.Prelude.{ℕ, zero, suc, ◌+◌, ◌-◌, ◌≡◌, ◌<◌, List, [], ◌∷◌, length, map, refl}
 use Rattle.std.proofs.Common.{ap, sym, subst, ◌∙◌, arith}
 use Rattle.clf_syntax.proofs.RenamingLaws.{composed_neutral, composed_tuple, cross_cross, cross_new, cross_old, cross_out, ext, identity_neutral, identity_tuple, lift_comp, lift_id, lift_in, lift_up, square_neutral}
 use Rattle.clf_syntax.specs.Renaming.{Renumbering, crossed, lifted, ren_expression, ren_neutral, ren_tuple, up}
 use Rattle.clf_syntax.specs.Tree.{Expression, PlainNeutral, done, step}
 use Rattle.clf_syntax.specs.declared.tree.Mode.{Mode}
 use Rattle.trace_equal.specs.Matching.{Pulled, pulled_here, pulled_later}
-use Rattle.trace_equal.specs.Search.{first, front}
 use Rattle.trace_equal.specs.Steps.{WideStep, below, ren_wide_step, result_of, size, wide_step, wide_steps}
 
 abbrev pub insert_at : {A : Type 0} → ℕ → A → List A → List A
@@ -63,13 +62,13 @@ inside : (a n c : ℕ) (r : Renumbering) → c < n → lifted (a + n) r (c + a) 
 inside a n c r h = lift_in (a + n) r (c + a) (omega arith)
 
 wide_head : (r : Renumbering) (a b n : ℕ) (ms : List Mode) (x : PlainNeutral) → b ≡ a
-  → wide_step (map (up b) (below n)) ms (ren_neutral (up (b + n)) (ren_neutral r x)) ≡ ren_wide_step (lifted (a + n) r) (wide_step (map (up a) (below n)) ms (ren_neutral (up (a + n)) x))
+    → wide_step (map (up b) (below n)) ms (ren_neutral (up (b + n)) (ren_neutral r x)) ≡ ren_wide_step (lifted (a + n) r) (wide_step (map (up a) (below n)) ms (ren_neutral (up (a + n)) x))
 wide_head r a b n ms x e = subst (λ k. wide_step (map (up k) (below n)) ms (ren_neutral (up (k + n)) (ren_neutral r x)) ≡ ren_wide_step (lifted (a + n) r) (wide_step (map (up a) (below n)) ms (ren_neutral (up (a + n)) x))) (sym e)
-  (lines ms (sym (own_to (lifted (a + n) r) a a n (λ c h. inside a n c r h))) (square_neutral (up (a + n)) r (lifted (a + n) r) (up (a + n)) (λ i. sym (lift_up (a + n) r i)) x))
+    (lines ms (sym (own_to (lifted (a + n) r) a a n (λ c h. inside a n c r h))) (square_neutral (up (a + n)) r (lifted (a + n) r) (up (a + n)) (λ i. sym (lift_up (a + n) r i)) x))
 
 pub wide_ren : (r : Renumbering) (e : Expression) → wide_steps (ren_expression r e) ≡ map (ren_wide_step (lifted (size e) r)) (wide_steps e)
 wide_ren r (step ms x e) = conses (wide_head r (size e) (size (ren_expression (lifted (length ms) r) e)) (length ms) ms x (size_ren (lifted (length ms) r) e))
-  (wide_ren (lifted (length ms) r) e ∙ ap (λ f. map (ren_wide_step f) (wide_steps e)) (lift_lift (size e) (length ms) r))
+    (wide_ren (lifted (length ms) r) e ∙ ap (λ f. map (ren_wide_step f) (wide_steps e)) (lift_lift (size e) (length ms) r))
 wide_ren r (done t) = refl
 
 pub result_ren : (r : Renumbering) (e : Expression) → result_of (ren_expression r e) ≡ ren_tuple (lifted (size e) r) (result_of e)
@@ -116,8 +115,10 @@ outer (pulled_later {p = p} {q = q} {e = e} {f = f} {g = g} h k l u) i =
   where
     first : size f ≡ size e → i + (size f + length p + length q) ≡ i + length p + length q + size e
     first a = omega arith
+
     second : i + length p + length q + size e ≡ i + length p + (size e + length q)
     second = omega arith
+
     third : i + length p + size g ≡ i + (size g + length p)
     third = omega arith
 
@@ -127,22 +128,27 @@ wide_pull (pulled_later {p = p} {q = q} {r = r} {s = s} {v = v} {w = w} {e = e} 
   where
     n : size f ≡ size e
     n = rest_size (crossed (length p) (length q)) e f l
+
     moves : Renumbering
     moves = there (pulled_later {p = p} {q = q} {r = r} {s = s} {v = v} {w = w} {e = e} {f = f} {g = g} h k l u)
+
     ap2 : {a b : WideStep} {cs bs : List WideStep} → a ≡ b → cs ≡ bs → insert_at (place u) a cs ≡ insert_at (place u) b bs
     ap2 x y = cc
+
     front : map moves (map (up (size f)) (below (length p))) ≡ map (up (size g)) (below (length p))
     front = own_to moves (size f) (size g) (length p) (λ c b. ap (λ a. there u (lifted (size e) (crossed (length q) (length p)) (c + a))) n
-      ∙ ap (there u) (lift_up (size e) (crossed (length q) (length p)) c ∙ ap (up (size e)) (cross_new (length q) (length p) c b) ∙ moved c) ∙ outer u c)
+        ∙ ap (there u) (lift_up (size e) (crossed (length q) (length p)) c ∙ ap (up (size e)) (cross_new (length q) (length p) c b) ∙ moved c) ∙ outer u c)
       where
         moved : (c : ℕ) → c + length q + size e ≡ c + (size e + length q)
         moved c = omega arith
+
     right : ren_neutral moves (ren_neutral (up (size f + length p)) s) ≡ ren_neutral (up (size g + length p)) r
     right = ap (λ o. ren_neutral moves (ren_neutral (up (size f + length p)) o)) k ∙ ap (ren_neutral moves) (composed_neutral (up (size f + length p)) (up (length q)) r) ∙ composed_neutral moves (λ i. up (size f + length p) (up (length q) i)) r
-      ∙ ap (λ m. ren_neutral m r) (ext (λ i. ap moves (sum i) ∙ outer (pulled_later {p = p} {q = q} {r = r} {s = s} {v = v} {w = w} {e = e} {f = f} {g = g} h k l u) i))
+        ∙ ap (λ m. ren_neutral m r) (ext (λ i. ap moves (sum i) ∙ outer (pulled_later {p = p} {q = q} {r = r} {s = s} {v = v} {w = w} {e = e} {f = f} {g = g} h k l u) i))
       where
         sum : (i : ℕ) → i + length q + (size f + length p) ≡ i + (size f + length p + length q)
         sum i = omega arith
+
     mine : map (there u) (map (up (size e)) (below (length q))) ≡ map moves (map (up (size f + length p)) (below (length q)))
     mine = map_comp (there u) (up (size e)) (below (length q)) ∙ sym (chosen (length q) (λ c b. b)) ∙ sym (map_comp moves (up (size f + length p)) (below (length q)))
       where
@@ -151,28 +157,32 @@ wide_pull (pulled_later {p = p} {q = q} {r = r} {s = s} {v = v} {w = w} {e = e} 
           where
             sum : size f ≡ size e → c + (size f + length p) ≡ c + length p + size e
             sum a = omega arith
+
             fall : c + length p - length p ≡ c
             fall = omega arith
+
         chosen : (m : ℕ) → ((c : ℕ) → c < m → c < length q) → map (λ c. moves (c + (size f + length p))) (below m) ≡ map (λ c. there u (c + size e)) (below m)
         chosen zero b = refl
         chosen (suc m) b = both (step m (b m (omega arith))) (chosen m (λ c a. b c (omega arith)))
           where
             both : {i j : ℕ} {is js : List ℕ} → i ≡ j → is ≡ js → (i ∷ is) ≡ (j ∷ js)
             both x y = cc
+
     over : ren_neutral (up (size g)) w ≡ ren_neutral (up (size g + length p)) v
     over = ap (ren_neutral (up (size g))) h ∙ composed_neutral (up (size g)) (up (length p)) v ∙ ap (λ m. ren_neutral m v) (ext (λ i. sum i))
       where
         sum : (i : ℕ) → i + length p + size g ≡ i + (size g + length p)
         sum i = omega arith
+
     tail : map (ren_wide_step moves) (wide_steps f) ≡ map (ren_wide_step (there u)) (wide_steps e)
     tail = ap (λ o. map (ren_wide_step moves) (wide_steps o)) l ∙ ap (map (ren_wide_step moves)) (wide_ren (crossed (length p) (length q)) e) ∙ lines_comp moves (lifted (size e) (crossed (length p) (length q))) (wide_steps e)
-      ∙ ap (λ m. map (ren_wide_step m) (wide_steps e)) (ext (λ i. ap (there u) (uncross (size e) (length p) (length q) i)))
+        ∙ ap (λ m. map (ren_wide_step m) (wide_steps e)) (ext (λ i. ap (there u) (uncross (size e) (length p) (length q) i)))
 
 pub result_pull : {q : List Mode} {v : PlainNeutral} {e f : Expression} (u : Pulled q v e f) → result_of f ≡ ren_tuple (there u) (result_of e)
 result_pull (pulled_here {e = e}) = sym (identity_tuple (result_of e))
 result_pull (pulled_later {p = p} {q = q} {e = e} {f = f} h k l u) = result_pull u ∙ sym (
-  ap (λ o. ren_tuple moves (result_of o)) l ∙ ap (ren_tuple moves) (result_ren (crossed (length p) (length q)) e) ∙ composed_tuple moves (lifted (size e) (crossed (length p) (length q))) (result_of e)
-  ∙ ap (λ m. ren_tuple m (result_of e)) (ext (λ i. ap (there u) (uncross (size e) (length p) (length q) i))))
+    ap (λ o. ren_tuple moves (result_of o)) l ∙ ap (ren_tuple moves) (result_ren (crossed (length p) (length q)) e) ∙ composed_tuple moves (lifted (size e) (crossed (length p) (length q))) (result_of e)
+    ∙ ap (λ m. ren_tuple m (result_of e)) (ext (λ i. ap (there u) (uncross (size e) (length p) (length q) i))))
   where
     moves : Renumbering
     moves = λ i. there u (lifted (size e) (crossed (length q) (length p)) i)

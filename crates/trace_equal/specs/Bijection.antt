@@ -1,7 +1,7 @@
 -- A matching of two expressions: a bijection of their steps with equal modes under which, with the variables renamed along it,
 -- the right sides and the tuples are joined. It is given by its list: for each step on the left the place of its step on the right.
-use Rattle.std.specs.Prelude.{ℕ, zero, suc, ◌+◌, ◌-◌, ◌≡◌, ◌≢◌, ◌<◌, ◌≤◌, ◌⊎◌, ◌↔◌, List, [], ◌∷◌, length, map, refl, ⊤, Bool, true, false, ◌&&◌, nat_eq, if◌then◌else◌, Some, None, is_some}
-use Rattle.std.proofs.Common.{ap, sym, subst, ◌∙◌, arith, ⊎_elim, add-zero, Option, inl, inr}
+use Rattle.std.specs.Prelude.{ℕ, zero, suc, ◌+◌, ◌≡◌, ◌≢◌, ◌<◌, ◌⊎◌, List, [], ◌∷◌, length, map, Some, None}
+use Rattle.std.proofs.Common.{Option}
 use Rattle.clf_syntax.specs.Renaming.{Renumbering, ren_tuple}
 use Rattle.clf_syntax.specs.Tree.{Expression}
 use Rattle.trace_equal.specs.Exchange.{JoinedNeutral, JoinedTuple}
@@ -38,7 +38,7 @@ Distinct (i ∷ m) = Absent i m × Distinct m
 -- and leaves the variables outside.
 abbrev pub IsMatching : List ℕ → Expression → Expression → Type 0
 IsMatching m e f = (r : Renumbering) × ((i : ℕ) → r (i + size e) ≡ i + size f) × (length (wide_steps e) ≡ length (wide_steps f)) × Distinct m
-  × Paired m (map (ren_wide_step r) (wide_steps e)) (wide_steps f) × JoinedTuple (ren_tuple r (result_of e)) (result_of f)
+    × Paired m (map (ren_wide_step r) (wide_steps e)) (wide_steps f) × JoinedTuple (ren_tuple r (result_of e)) (result_of f)
 
 -- the order of lists by their numbers
 abbrev pub IsAtMost : List ℕ → List ℕ → Type 0

@@ -1,6 +1,6 @@
 -- The search for the first matching, as functions on plain trees: an inner definition, from which the laws of the crate lead to matchings.
-use Rattle.std.specs.Prelude.{ℕ, Bool, true, false, zero, suc, ◌+◌, ◌-◌, ◌≡◌, ◌<◌, ◌≤◌, ◌⊎◌, ◌&&◌, ◌||◌, nat_lt, nat_le, nat_eq, if◌then◌else◌, List, [], ◌∷◌, length, map, refl, Some, None, ◌≢◌, ◌↔◌, ⊤, is_some}
-use Rattle.std.proofs.Common.{Option, ap, sym, subst, ◌∙◌, arith, inl, inr, ⊎_elim, add-zero}
+use Rattle.std.specs.Prelude.{ℕ, Bool, true, false, zero, suc, ◌+◌, ◌&&◌, ◌||◌, nat_lt, nat_le, nat_eq, if◌then◌else◌, List, [], ◌∷◌, length, map, Some, None, is_some}
+use Rattle.std.proofs.Common.{Option}
 use Rattle.clf_syntax.specs.Renaming.{crossed, down, ren_expression, ren_neutral, up}
 use Rattle.clf_syntax.specs.Tree.{Expression, Object, PlainNeutral, Tuple, app, atomic, bare, done, empty, entry, fst, hole, lam, monadic, pair, snd, step, unit}
 use Rattle.clf_syntax.specs.declared.tree.Head.{Head}

@@ -1,7 +1,6 @@
 -- The steps of an expression as a list. Each step stands over the variables of all of them, so that its variables have the same numbers
 -- in every step that comes later, and the steps can be compared in any order.
-use Rattle.std.specs.Prelude.{ℕ, zero, suc, ◌+◌, ◌-◌, ◌≡◌, ◌<◌, ◌≤◌, List, [], ◌∷◌, length, map, refl}
-use Rattle.std.proofs.Common.{ap, sym, subst, ◌∙◌, arith}
+use Rattle.std.specs.Prelude.{ℕ, zero, suc, ◌+◌, List, [], ◌∷◌, length, map}
 use Rattle.clf_syntax.specs.Renaming.{Renumbering, ren_neutral, up}
 use Rattle.clf_syntax.specs.Tree.{Expression, PlainNeutral, Tuple, done, step}
 use Rattle.clf_syntax.specs.declared.tree.Mode.{Mode}
