@@ -1,17 +1,17 @@
 -- Where both sides are simply typed, a substitution has a result, and the result is typed.
-use Rattle.std.specs.Prelude.{ℕ, Bool, true, false, zero, suc, ◌+◌, ◌-◌, ◌≡◌, ◌<◌, ◌≤◌, ◌⊎◌, nat_lt, if◌then◌else◌, List, [], ◌∷◌, ◌++◌, length, Option, Some, None, refl}
-use Rattle.std.proofs.Common.{ap, sym, subst, ◌∙◌, arith, inl, inr, ⊎_elim, add-one, append_assoc, append-nil}
+use Rattle.std.specs.Prelude.{ℕ, Bool, true, false, zero, suc, ◌+◌, ◌-◌, ◌≡◌, ◌<◌, ◌≤◌, ◌⊎◌, List, [], ◌∷◌, ◌++◌, length, Option, Some, refl}
+use Rattle.std.proofs.Common.{ap, sym, subst, ◌∙◌, arith, inl, inr, ⊎_elim, add-one}
 use Rattle.clf_syntax.specs.declared.tree.Mode.{Mode}
 use Rattle.clf_syntax.specs.declared.tree.Head.{Head}
 use Rattle.clf_syntax.specs.declared.tree.Head.TheVariants.{Const, Var, Meta}
-use Rattle.clf_syntax.specs.Tree.{Object, lam, pair, unit, monadic, atomic, hole, PlainNeutral, bare, app, fst, snd, Expression, step, done, Tuple, empty, entry, head_of}
-use Rattle.clf_syntax.specs.TypeTree.{SimpleType, base, arrow, product, one, lax, SimpleTelescope, last, later}
-use Rattle.clf_syntax.specs.Simple.{Assignment, extended, extended_by, simple_modes, SimplyTyped, SimplyTypedNeutral, SimplyTypedExpression, SimplyTypedTuple}
-use Rattle.clf_syntax.specs.Renaming.{Renumbering, lifted, ren_head, ren, ren_neutral, ren_expression, ren_tuple, up}
-use Rattle.clf_syntax.proofs.RenamingLaws.{ext, lift_up, lift_in, cut, identity}
+use Rattle.clf_syntax.specs.Tree.{Object, lam, pair, unit, monadic, atomic, PlainNeutral, bare, app, fst, snd, Expression, step, done, Tuple, empty, entry, head_of}
+use Rattle.clf_syntax.specs.TypeTree.{SimpleType, arrow, product, lax, SimpleTelescope, last, later}
+use Rattle.clf_syntax.specs.Simple.{Assignment, extended, extended_by, simple_modes}
+use Rattle.clf_syntax.specs.Renaming.{Renumbering, lifted, ren_head, ren, ren_expression, up}
+use Rattle.clf_syntax.proofs.RenamingLaws.{cut}
 use Rattle.hered_subst.specs.Substitution.{Image, keep, put, Environment, ren_image, under, among, putting, single, objects, Substituted, through_lam, through_pair, through_unit, through_monadic, through_kept, through_value, KeepsHead, kept_bare, kept_app, kept_fst, kept_snd, HasValue, value_bare, value_app, value_fst, value_snd, SubstitutedExpression, through_done, step_kept, step_value, step_meta, Flattened, flat_step, flat_done, SubstitutedTuple, through_empty, through_entry}
-use Rattle.hered_subst.proofs.Renamed.{under_in, under_out, single_out, image_comp, head_comp, head_renamed}
-use Rattle.hered_subst.proofs.SimpleTyping.{Typed, typed_lam, typed_pair, typed_unit, typed_monadic, typed_metavariable, typed_atomic, TypedNeutral, typed_bare, typed_app, typed_fst, typed_snd, TypedExpression, typed_step, typed_done, TypedTuple, typed_empty, typed_entry, rank, ranks, lift_zero, lift_under, under_under, under_zero, under_next, suited_all, extended_out, renamed_typed, renamed_typed_expression, among_there, among_first, among_past, length_append, tuple_length}
+use Rattle.hered_subst.proofs.Renamed.{under_in, single_out}
+use Rattle.hered_subst.proofs.SimpleTyping.{Typed, typed_lam, typed_pair, typed_unit, typed_monadic, typed_metavariable, typed_atomic, TypedNeutral, typed_bare, typed_app, typed_fst, typed_snd, TypedExpression, typed_step, typed_done, TypedTuple, typed_empty, typed_entry, rank, ranks, under_under, under_zero, under_next, suited_all, extended_out, renamed_typed, renamed_typed_expression, among_there, among_first, among_past, tuple_length}
 
 abbrev pub is_metavariable : Head → Bool
 is_metavariable (Const c) = false
@@ -30,7 +30,7 @@ TypedEnvironment w k g z s = (h : Head) → Suits w k z (g h) h (s h)
 
 abbrev pub IsTotal : Bool → ℕ → Type 0
 IsTotal w k = (g z : Assignment) (s : Environment) → TypedEnvironment w k g z s
-  → ((o : Object) (t : SimpleType) → Typed w g o t → (x : Object) × Substituted s o x × Typed w z x t) × ((e : Expression) (ts : SimpleTelescope) → TypedExpression w g e ts → (x : Expression) × SubstitutedExpression s e x × TypedExpression w z x ts)
+    → ((o : Object) (t : SimpleType) → Typed w g o t → (x : Object) × Substituted s o x × Typed w z x t) × ((e : Expression) (ts : SimpleTelescope) → TypedExpression w g e ts → (x : Expression) × SubstitutedExpression s e x × TypedExpression w z x ts)
 
 pub raised_types : (d : SimpleType) (z : Assignment) (h : Head) → extended d z (ren_head (up 1) h) ≡ z h
 raised_types d z (Const c) = refl
@@ -44,8 +44,8 @@ same_kind r (Meta m) = refl
 
 raised_suits : (w : Bool) (k : ℕ) (d : SimpleType) (z : Assignment) (t : Option SimpleType) (h : Head) (i : Image) → Suits w k z t h i → Suits w k (extended d z) t h (ren_image (up 1) i)
 raised_suits w k d z t h i c = ⊎_elim
-  (λ a. inl (ren_head (up 1) a.0, ap (ren_image (up 1)) a.1, raised_types d z a.0 ∙ a.2, same_kind (up 1) a.0 ∙ a.3))
-  (λ a. inr (ren (up 1) a.0, a.1, ap (ren_image (up 1)) a.2, a.3, renamed_typed (extended d z) (up 1) a.4 (raised_types d z), a.5)) c
+    (λ a. inl (ren_head (up 1) a.0, ap (ren_image (up 1)) a.1, raised_types d z a.0 ∙ a.2, same_kind (up 1) a.0 ∙ a.3))
+    (λ a. inr (ren (up 1) a.0, a.1, ap (ren_image (up 1)) a.2, a.3, renamed_typed (extended d z) (up 1) a.4 (raised_types d z), a.5)) c
 
 pub env_bound : (w : Bool) (k : ℕ) (d : SimpleType) (g z : Assignment) (s : Environment) → TypedEnvironment w k g z s → TypedEnvironment w k (extended d g) (extended d z) (under 1 s)
 env_bound w k d g z s f (Const c) = raised_suits w k d z (g (Const c)) (Const c) (s (Const c)) (f (Const c))
@@ -65,26 +65,31 @@ single_env w d z y p (Var (suc i)) = inl (Var i, ap (λ j. single y 0 (Var j)) (
 
 -- a typed tuple, put for the newest variables
 pub tuple_env : (w : Bool) {g : Assignment} {t : Tuple} {ts : SimpleTelescope} → TypedTuple w g t ts → (z : Assignment) (i : ℕ) → i < length (simple_modes ts)
-  → (n : Object) × (u : SimpleType) × (among (objects t) i ≡ put n) × (extended_by ts z (Var i) ≡ Some u) × Typed w g n u × (rank u ≤ ranks ts)
+    → (n : Object) × (u : SimpleType) × (among (objects t) i ≡ put n) × (extended_by ts z (Var i) ≡ Some u) × Typed w g n u × (rank u ≤ ranks ts)
 tuple_env w typed_empty z i h = absurd (omega arith)
 tuple_env w {g = g} (typed_entry {o = o} {t = t} {d = d} {ts = ts} p q) z i h = ⊎_elim (λ k. old (tuple_env w q (extended d z) i k) k) new (cut i (length (simple_modes ts)))
   where
     Goal : ℕ → Type 0
     Goal j = (n : Object) × (u : SimpleType) × (among (objects t ++ o ∷ []) j ≡ put n) × (extended_by ts (extended d z) (Var j) ≡ Some u) × Typed w g n u × (rank u ≤ rank d + ranks ts)
+
     old : (n : Object) × (u : SimpleType) × (among (objects t) i ≡ put n) × (extended_by ts (extended d z) (Var i) ≡ Some u) × Typed w g n u × (rank u ≤ ranks ts) → i < length (simple_modes ts) → Goal i
     old a k = (a.0, a.1, among_first (objects t) (o ∷ []) i (long (tuple_length q) k) ∙ a.2, a.3, a.4, wider a.1 a.5)
       where
         long : length (objects t) ≡ length (simple_modes ts) → i < length (simple_modes ts) → i < length (objects t)
         long e h = omega arith
+
         wider : (u : SimpleType) → rank u ≤ ranks ts → rank u ≤ rank d + ranks ts
         wider u h = omega arith
+
     typed : extended_by ts (extended d z) (Var (length (simple_modes ts))) ≡ Some d
     typed = ap (λ j. extended_by ts (extended d z) (Var j)) (plain (length (simple_modes ts))) ∙ extended_out ts (extended d z) 0
       where
         plain : (n : ℕ) → n ≡ 0 + n
         plain n = omega arith
+
     final : Goal (length (simple_modes ts))
     final = (o, d, ap (among (objects t ++ o ∷ [])) (sym (tuple_length q)) ∙ among_there (objects t) [] o, typed, p, omega arith)
+
     new : length (simple_modes ts) ≤ i → Goal i
     new k = subst Goal (same k) final
       where
@@ -106,6 +111,7 @@ putting_env w ts z t p (Var i) = ⊎_elim (λ h. inr (tuple_env w p z i h)) (λ 
   where
     back : length (simple_modes ts) ≤ i → i - length (simple_modes ts) + length (simple_modes ts) ≡ i
     back h = omega arith
+
     far : Suits w (ranks ts) z (extended_by ts z (Var (i - length (simple_modes ts) + length (simple_modes ts)))) (Var (i - length (simple_modes ts) + length (simple_modes ts))) (among (objects t) (i - length (simple_modes ts) + length (simple_modes ts)))
     far = inl (Var (i - length (simple_modes ts)), ap (λ n. among (objects t) (i - length (simple_modes ts) + n)) (sym (tuple_length p)) ∙ among_past (objects t) (i - length (simple_modes ts)), sym (extended_out ts z (i - length (simple_modes ts))), refl)
 
@@ -122,6 +128,7 @@ kept_kind w k f (kept_bare {h = h} e) = ⊎_elim (λ a. first_case (sym e ∙ a.
       where
         same : {i j : Head} → keep i ≡ keep j → i ≡ j
         same e = cc
+
     second_case : {i : Head} {n : Object} → keep i ≡ put n → ⊥
     second_case e = cc
 kept_kind w k f (kept_app p q) = kept_kind w k f p
@@ -137,28 +144,28 @@ module _ (w : Bool) (k : ℕ) (again : (j : ℕ) → j < k → IsTotal w j) wher
   -- the steps of a typed expression, then the rest
   pub then_total : {z : Assignment} {e : Expression} {ts : SimpleTelescope} → TypedExpression w z e ts → ranks ts < k → (f : Expression) (us : SimpleTelescope) → TypedExpression w (extended_by ts z) f us → (x : Expression) × Flattened (length (simple_modes ts)) e f x × TypedExpression w z x us
   then_total {z = z} {ts = ts} (typed_step {ms = ms} {r = r} {ts = ps} p m q) h f us t =
-    let (x, a, b) = then_total q h (ren_expression (lifted (length (simple_modes ts)) (up (length ms))) f) us
-          (renamed_typed_expression (extended_by ts (extended_by ps z)) (lifted (length (simple_modes ts)) (up (length ms))) t
-            (suited_all ts z (extended_by ps z) (up (length ms)) (subst (λ n. (h : Head) → extended_by ps z (ren_head (up n) h) ≡ z h) (sym (ap length m)) (raised_all ps z)))) in
-    (step ms r x, flat_step a, typed_step p m b)
+      let (x, a, b) = then_total q h (ren_expression (lifted (length (simple_modes ts)) (up (length ms))) f) us
+      (renamed_typed_expression (extended_by ts (extended_by ps z)) (lifted (length (simple_modes ts)) (up (length ms))) t
+      (suited_all ts z (extended_by ps z) (up (length ms)) (subst (λ n. (h : Head) → extended_by ps z (ren_head (up n) h) ≡ z h) (sym (ap length m)) (raised_all ps z)))) in
+      (step ms r x, flat_step a, typed_step p m b)
   then_total {z = z} {ts = ts} (typed_done {t = u} p) h f us t =
-    let (x, a, b) = (again (ranks ts) h (extended_by ts z) z (putting (objects u)) (putting_env w ts z u p)).1 f us t in
-    (x, flat_done (tuple_length p) a, b)
+      let (x, a, b) = (again (ranks ts) h (extended_by ts z) z (putting (objects u)) (putting_env w ts z u p)).1 f us t in
+      (x, flat_done (tuple_length p) a, b)
 
   -- what the value of a neutral at a monad does
   step_total : (s : Environment) {z : Assignment} {o : Object} {ts : SimpleTelescope} → Typed w z o (lax ts) → ranks ts < k → (ms : List Mode) → ms ≡ simple_modes ts → (n : PlainNeutral) → HasValue s n o → (e f : Expression) (us : SimpleTelescope)
-    → SubstitutedExpression (under (length ms) s) e f → TypedExpression w (extended_by ts z) f us → (x : Expression) × SubstitutedExpression s (step ms n e) x × TypedExpression w z x us
+      → SubstitutedExpression (under (length ms) s) e f → TypedExpression w (extended_by ts z) f us → (x : Expression) × SubstitutedExpression s (step ms n e) x × TypedExpression w z x us
   step_total s {z = z} {ts = ts} (typed_monadic {e = g} p) h ms m n v e f us b t = let (x, a, c) = then_total p h f us t in
-    (x, step_value v b (subst (λ i. Flattened i g f x) (sym (ap length m)) a), c)
+      (x, step_value v b (subst (λ i. Flattened i g f x) (sym (ap length m)) a), c)
   step_total s (typed_metavariable {n = q} j p i) h ms m n v e f us b t = (step ms q f, step_meta v i b, typed_step p m t)
 
   applied : (s : Environment) (z : Assignment) {n : PlainNeutral} {m : Mode} {d c : SimpleType} {i : Object} (x : Object) → HasValue s n x → Typed w z x (arrow m d c) → rank (arrow m d c) ≤ k → (y : Object) → Substituted s i y → Typed w z y d
-    → (v : Object) × HasValue s (app m n i) v × Typed w z v c × (rank c ≤ k)
+      → (v : Object) × HasValue s (app m n i) v × Typed w z v c × (rank c ≤ k)
   applied s z {d = d} {c = c} x v (typed_lam {b = b} p) h y a q = let (r, e, t) = (again (rank d) (omega arith) (extended d z) z (single y 0) (single_env w d z y q)).0 b c p in
-    (r, value_app v a e, t, omega arith)
+      (r, value_app v a e, t, omega arith)
 
   pub parts : (s : Environment) (z : Assignment) {n : PlainNeutral} {c d : SimpleType} (x : Object) → HasValue s n x → Typed w z x (product c d) → rank (product c d) ≤ k
-    → ((v : Object) × HasValue s (fst n) v × Typed w z v c × (rank c ≤ k)) × ((v : Object) × HasValue s (snd n) v × Typed w z v d × (rank d ≤ k))
+      → ((v : Object) × HasValue s (fst n) v × Typed w z v c × (rank c ≤ k)) × ((v : Object) × HasValue s (snd n) v × Typed w z v d × (rank d ≤ k))
   parts s z x v (typed_pair {l = l} {r = r} p q) h = ((l, value_fst v, p, omega arith), (r, value_snd v, q, omega arith))
 
   mutual
@@ -169,21 +176,21 @@ module _ (w : Bool) (k : ℕ) (again : (j : ℕ) → j < k → IsTotal w j) wher
     total z s (typed_monadic p) f = let (x, a, b) = total_expression z s p f in (monadic x, through_monadic a, typed_monadic b)
     total z s (typed_atomic p) f = ⊎_elim (λ u. (atomic u.0, through_kept u.1, typed_atomic u.2)) (λ u. (u.0, through_value u.1, u.2)) (total_neutral z s p f)
     total z s (typed_metavariable {n = n} j p e) f = ⊎_elim
-      (λ u. let (m, i) = meta_of (head_of u.0) (kept_kind w k f u.1 ∙ ap is_metavariable e) in (atomic u.0, through_kept u.1, typed_metavariable j u.2 i))
-      (λ u. (u.0, through_value u.1, u.2)) (total_neutral z s p f)
+        (λ u. let (m, i) = meta_of (head_of u.0) (kept_kind w k f u.1 ∙ ap is_metavariable e) in (atomic u.0, through_kept u.1, typed_metavariable j u.2 i))
+        (λ u. (u.0, through_value u.1, u.2)) (total_neutral z s p f)
 
     pub total_neutral : (z : Assignment) (s : Environment) {g : Assignment} {n : PlainNeutral} {t : SimpleType} → TypedNeutral w g n t → TypedEnvironment w k g z s → ((x : PlainNeutral) × KeepsHead s n x × TypedNeutral w z x t) ⊎ ((x : Object) × HasValue s n x × Typed w z x t × (rank t ≤ k))
     total_neutral z s (typed_bare {h = h} {t = t} e) f = ⊎_elim (λ u. inl (bare u.0, kept_bare u.1, typed_bare u.2))
-      (λ u. inr (u.0, value_bare u.2, subst (λ v. Typed w z u.0 v) (sym (the_type u.3)) u.4, subst (λ v. rank v ≤ k) (sym (the_type u.3)) u.5))
-      (subst (λ v. Suits w k z v h (s h)) e (f h))
+        (λ u. inr (u.0, value_bare u.2, subst (λ v. Typed w z u.0 v) (sym (the_type u.3)) u.4, subst (λ v. rank v ≤ k) (sym (the_type u.3)) u.5))
+        (subst (λ v. Suits w k z v h (s h)) e (f h))
     total_neutral z s (typed_app {m = m} {d = d} {c = c} p q) f = let (y, a, b) = total z s q f in ⊎_elim (λ u. inl (app m u.0 y, kept_app u.1 a, typed_app u.2 b)) (λ u. inr (applied s z u.0 u.1 u.2 u.3 y a b)) (total_neutral z s p f)
     total_neutral z s (typed_fst p) f = ⊎_elim (λ u. inl (fst u.0, kept_fst u.1, typed_fst u.2)) (λ u. inr ((parts s z u.0 u.1 u.2 u.3).0)) (total_neutral z s p f)
     total_neutral z s (typed_snd p) f = ⊎_elim (λ u. inl (snd u.0, kept_snd u.1, typed_snd u.2)) (λ u. inr ((parts s z u.0 u.1 u.2 u.3).1)) (total_neutral z s p f)
 
     total_expression : (z : Assignment) (s : Environment) {g : Assignment} {e : Expression} {us : SimpleTelescope} → TypedExpression w g e us → TypedEnvironment w k g z s → (x : Expression) × SubstitutedExpression s e x × TypedExpression w z x us
     total_expression z s {g = g} (typed_step {ms = ms} {r = n} {e = e} {ts = ts} {us = us} p m q) f =
-      let (x, a, b) = total_expression (extended_by ts z) (under (length ms) s) q (subst (λ i. TypedEnvironment w k (extended_by ts g) (extended_by ts z) (under i s)) (sym (ap length m)) (env_bounds w k ts g z s f)) in
-      ⊎_elim (λ u. (step ms u.0 x, step_kept u.1 a, typed_step u.2 m b)) (λ u. step_total s u.2 (within u.3) ms m n u.1 e x us a b) (total_neutral z s p f)
+        let (x, a, b) = total_expression (extended_by ts z) (under (length ms) s) q (subst (λ i. TypedEnvironment w k (extended_by ts g) (extended_by ts z) (under i s)) (sym (ap length m)) (env_bounds w k ts g z s f)) in
+        ⊎_elim (λ u. (step ms u.0 x, step_kept u.1 a, typed_step u.2 m b)) (λ u. step_total s u.2 (within u.3) ms m n u.1 e x us a b) (total_neutral z s p f)
       where
         within : 1 + ranks ts ≤ k → ranks ts < k
         within h = omega arith
