@@ -1,15 +1,13 @@
 -- How many bytes gaps, words and tokens have.
-use Rattle.std.proofs.Common.{◌≡◌, ◌≢◌, ◌∙◌, ℕ, ◌+◌, ◌-◌, ◌<◌, ◌≤◌, ◌==◌, Bool, true, false, not, ◌&&◌, if◌then◌else◌, nat_lt, List, [], ◌∷◌, length, take, drop, codes, Ok, Err, refl, ap, sym, arith, lit<}
+use Rattle.std.proofs.Common.{◌≡◌, ℕ, ◌+◌, ◌<◌, ◌≤◌, ◌==◌, Bool, true, false, not, ◌&&◌, if◌then◌else◌, nat_lt, List, [], ◌∷◌, length, take, codes, refl, ap, arith}
 use Rattle.std.specs.List.{list_all}
 use Rattle.std.proofs.lemmas.List.{length-take, length-drop}
-use Rattle.std.proofs.lemmas.Grind.{common_steps}
 use Rattle.celf_lexer.specs.declared.token.TokenKind.{TokenKind}
 use Rattle.celf_lexer.specs.declared.token.TokenKind.TheVariants as kind
-use Rattle.celf_lexer.specs.declared.token.Token.{Token}
 use Rattle.clf_syntax.specs.Word.{begins_word, goes_on, is_name, same_bytes, all_digits}
 use Rattle.celf_lexer.specs.Gap.{is_blank, gap, comment}
 use Rattle.celf_lexer.specs.Sign.{Front, token, long, bad, rest_length, word_length, word_here, after_word, word_kind, is_back_lolli, of_word, word_front, constant_front, hash_kind, hash_front, signs, fits, sign_front, front}
-use Rattle.celf_lexer.specs.Tokens.{placed, first_of, is_end}
+use Rattle.celf_lexer.specs.Tokens.{is_end}
 use Rattle.celf_lexer.proofs.Words.{word_begins}
 use Rattle.celf_lexer.proofs.Cases.{if_cases, and_left, and_right}
 
@@ -59,10 +57,22 @@ Grows m bad = 0 < m
 of_word-grows : (m before : ℕ) (word : List ℕ) (k : TokenKind) → is_end k ≡ false → 0 < before + length word → before + length word ≤ m → Grows m (of_word before word k)
 of_word-grows m before word k e h l = if_cases (Grows m) (nat_lt 255 (length word)) long (token k (before + length word)) (λ f. omega arith) (λ f. (e, h, l))
 
-pub word_kind-no_end : (word : List ℕ) → is_end (word_kind word) ≡ false
-word_kind-no_end [] = refl
-word_kind-no_end (b ∷ bs) =
-    let P : TokenKind → Type 0 = λ k. is_end k ≡ false in
+-- the kinds of words
+abbrev pub is_word_kind : TokenKind → Bool
+is_word_kind kind.KwType = true
+is_word_kind kind.KwPi = true
+is_word_kind kind.KwExists = true
+is_word_kind kind.KwLet = true
+is_word_kind kind.KwIn = true
+is_word_kind kind.Hole = true
+is_word_kind kind.Number = true
+is_word_kind (kind.Name c) = true
+is_word_kind _ = false
+
+pub word_kind-is_word_kind : (word : List ℕ) → is_word_kind (word_kind word) ≡ true
+word_kind-is_word_kind [] = refl
+word_kind-is_word_kind (b ∷ bs) =
+    let P : TokenKind → Type 0 = λ k. is_word_kind k ≡ true in
     if_cases P (same_bytes (b ∷ bs) (codes "type")) _ _ (λ e. refl)
     (λ e. if_cases P (same_bytes (b ∷ bs) (codes "Pi")) _ _ (λ e. refl)
     (λ e. if_cases P (same_bytes (b ∷ bs) (codes "Exists")) _ _ (λ e. refl)
@@ -70,6 +80,13 @@ word_kind-no_end (b ∷ bs) =
     (λ e. if_cases P (same_bytes (b ∷ bs) (codes "in")) _ _ (λ e. refl)
     (λ e. if_cases P (same_bytes (b ∷ bs) (codes "_")) _ _ (λ e. refl)
     (λ e. if_cases P (all_digits (b ∷ bs)) _ _ (λ e. refl) (λ e. refl)))))))
+
+no_end : (k : TokenKind) → is_word_kind k ≡ true → is_end k ≡ false
+no_end kind.End h = cc
+no_end _ h = refl
+
+word_kind-no_end : (word : List ℕ) → is_end (word_kind word) ≡ false
+word_kind-no_end word = no_end (word_kind word) (word_kind-is_word_kind word)
 
 -- where o- stands, the word is o, and bytes follow it
 pub back_lolli-word : (word after : List ℕ) → is_back_lolli word after ≡ true → (length word ≡ 1) × (0 < length after)

@@ -1,5 +1,5 @@
 -- Cases of tests.
-use Rattle.std.proofs.Common.{◌≡◌, Bool, true, false, not, ◌&&◌, ◌||◌, if◌then◌else◌, refl}
+use Rattle.std.proofs.Common.{◌≡◌, ◌⊎◌, inl, inr, Bool, true, false, not, ◌&&◌, ◌||◌, if◌then◌else◌, refl, sym, ◌∙◌}
 
 -- what holds of both branches holds of the choice
 pub if_cases : {A : Type 0} (P : A → Type 0) (b : Bool) (x y : A) → (b ≡ true → P x) → (b ≡ false → P y) → P (if b then x else y)
@@ -21,3 +21,15 @@ and_left false y e = e
 pub and_right : (x y : Bool) → (x && y) ≡ true → y ≡ true
 and_right true y e = e
 and_right false y e = cc
+
+pub or_cases : (x y : Bool) → (x || y) ≡ true → (x ≡ true) ⊎ (y ≡ true)
+or_cases true y e = inl refl
+or_cases false y e = inr e
+
+pub not_true : (x : Bool) → not x ≡ true → x ≡ false
+not_true true e = cc
+not_true false e = refl
+
+-- one Bool is not both
+pub clash : {A : Type 0} (x : Bool) → x ≡ true → x ≡ false → A
+clash x t f = absurd (let e : true ≡ false = sym t ∙ f in cc)

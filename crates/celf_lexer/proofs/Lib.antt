@@ -5,4 +5,8 @@ pub mod Tokens
 pub mod Splits
 pub mod Signs
 pub mod Longest
+pub mod Ascii
+pub mod Unique
+pub mod Names
 pub mod Spelling
+pub mod Starts

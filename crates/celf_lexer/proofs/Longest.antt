@@ -1,5 +1,5 @@
 -- What begins some bytes is the token of the longest spelling.
-use Rattle.std.proofs.Common.{◌≡◌, ◌∙◌, ℕ, zero, suc, ◌+◌, ◌<◌, ◌≤◌, ◌==◌, nat_lt, nat_le, Bool, true, false, not, ◌&&◌, if◌then◌else◌, ◌⊎◌, inl, inr, List, [], ◌∷◌, ◌++◌, length, take, drop, codes, refl, ap, sym, subst, arith, lit≤}
+use Rattle.std.proofs.Common.{◌≡◌, ◌∙◌, ℕ, ◌+◌, ◌<◌, ◌≤◌, ◌==◌, nat_lt, nat_le, Bool, true, false, not, ◌&&◌, ◌⊎◌, inl, inr, List, [], ◌∷◌, ◌++◌, length, take, drop, codes, refl, ap, sym, subst, arith, lit≤}
 use Rattle.std.proofs.lemmas.Bool.{eqb-true, leb-true, ltb-true, ltb-false}
 use Rattle.std.proofs.lemmas.List.{take-append-drop, length-append}
 use Rattle.std.proofs.Math.Seq.{take-append_seam, drop-append_seam}
@@ -8,11 +8,11 @@ use Rattle.celf_lexer.specs.declared.token.TokenKind.{TokenKind}
 use Rattle.celf_lexer.specs.declared.token.TokenKind.TheVariants as kind
 use Rattle.clf_syntax.specs.Word.{begins_word, is_word, is_name, same_bytes}
 use Rattle.celf_lexer.specs.Sign.{Front, token, long, bad, word_here, after_word, word_kind, is_back_lolli, of_word, word_front, constant_front, hash_kind, hash_front, signs, fits, may_stand, sign_front, front}
-use Rattle.celf_lexer.specs.Spelling.{stops_word, arrow_goes_on, Spelled, a_word, a_constant, behind_hash, back_lolli, a_sign, the_end, IsLongest, word_in, IsFront}
-use Rattle.celf_lexer.proofs.Cases.{if_cases, and_both, and_left, and_right}
+use Rattle.celf_lexer.specs.Spelling.{stops_word, Spelled, a_word, a_constant, behind_hash, back_lolli, a_sign, the_end, IsLongest, word_in, IsFront}
+use Rattle.celf_lexer.proofs.Cases.{if_cases, and_both, and_left, and_right, not_true, clash}
 use Rattle.celf_lexer.proofs.Words.{word_here-is_word}
 use Rattle.celf_lexer.proofs.Bounds.{same_bytes-equal}
-use Rattle.celf_lexer.proofs.Splits.{clash, first, word_here-split, word_stops, word_parts, word_some, word_first, word_in-word, is_name-word, back_parts, back_word}
+use Rattle.celf_lexer.proofs.Splits.{first, word_here-split, word_stops, word_parts, word_some, word_first, word_in-word, is_name-word, back_parts, back_word}
 use Rattle.celf_lexer.proofs.Signs.{member_passes, same_bytes-refl, FrontSign, sign_front-longest, signs_longer_first}
 
 -- a sign whose first byte begins no word, no constant and nothing behind a hash, and that is short
@@ -22,18 +22,14 @@ sign_is_apart s = not (begins_word (first s.0)) && not (first s.0 == 36) && not 
 signs_are_apart : list_all sign_is_apart signs ≡ true
 signs_are_apart = refl
 
-record Apart (s : List ℕ) : Type 0 where
-  no_word : begins_word (first s) ≡ false
-  no_dollar : (first s == 36) ≡ false
-  no_hash : (first s == 35) ≡ false
-  some : 0 < length s
-  short : length (word_in s) ≤ 255
+pub record Apart (s : List ℕ) : Type 0 where
+  pub no_word : begins_word (first s) ≡ false
+  pub no_dollar : (first s == 36) ≡ false
+  pub no_hash : (first s == 35) ≡ false
+  pub some : 0 < length s
+  pub short : length (word_in s) ≤ 255
 
-not_true : (x : Bool) → not x ≡ true → x ≡ false
-not_true true e = cc
-not_true false e = refl
-
-apart : (s : List ℕ × TokenKind) → Contains signs s → Apart s.0
+pub apart : (s : List ℕ × TokenKind) → Contains signs s → Apart s.0
 apart s m =
     let a = not (begins_word (first s.0)) in
     let b = not (first s.0 == 36) in
@@ -79,18 +75,28 @@ word_is_front bytes h =
     let stops : stops_word a ≡ true = word_stops bytes some in
     if_cases (IsFront bytes) (is_back_lolli w a) (token kind.BackLolli 2) (of_word 0 w (word_kind w))
     (λ t.
-        let p = back_parts w a t in
-        (codes "o-", p.0, word_parts bytes ∙ ap (λ x. x ++ a) p.1 ∙ ap (λ x. 111 ∷ x) p.2, back_lolli p.0 p.3, refl,
-        λ k s after eq sp. elim (word_spelled bytes h sp eq) [ inl l ↦ omega (arith, ap length p.1) | inr q ↦ omega (arith, q.0) ],
-        lit≤ tt))
+    let p = back_parts w a t in (
+      codes "o-",
+      p.0,
+      word_parts bytes ∙ ap (λ x. x ++ a) p.1 ∙ ap (λ x. 111 ∷ x) p.2,
+      back_lolli p.0 p.3,
+      refl,
+      λ k s after eq sp. elim (word_spelled bytes h sp eq) [ inl l ↦ omega (arith, ap length p.1) | inr q ↦ omega (arith, q.0) ],
+      lit≤ tt,
+    ))
     (λ f.
-        let longest : IsLongest bytes (length w) = λ k s after eq sp. elim (word_spelled bytes h sp eq) [ inl l ↦ l | inr q ↦ clash (is_back_lolli w a) q.1 f ] in
-        if_cases (IsFront bytes) (nat_lt 255 (length w)) long (token (word_kind w) (0 + length w))
-        (λ t. (word_kind w, w, a, word_parts bytes, a_word w a word stops, longest, omega (arith, ap length (word_in-word w word), ltb-true 255 (length w) t)))
-        (λ t.
-            (w, a, word_parts bytes, a_word w a word stops, omega arith,
-            λ k s after eq sp. omega (arith, longest k s after eq sp),
-            omega (arith, ap length (word_in-word w word), ltb-false 255 (length w) t))))
+    let longest : IsLongest bytes (length w) = λ k s after eq sp. elim (word_spelled bytes h sp eq) [ inl l ↦ l | inr q ↦ clash (is_back_lolli w a) q.1 f ] in
+    if_cases (IsFront bytes) (nat_lt 255 (length w)) long (token (word_kind w) (0 + length w))
+    (λ t. (word_kind w, w, a, word_parts bytes, a_word w a word stops, longest, omega (arith, ap length (word_in-word w word), ltb-true 255 (length w) t)))
+    (λ t. (
+      w,
+      a,
+      word_parts bytes,
+      a_word w a word stops,
+      omega arith,
+      λ k s after eq sp. omega (arith, longest k s after eq sp),
+      omega (arith, ap length (word_in-word w word), ltb-false 255 (length w) t),
+    )))
 
 word_has_byte : (w : List ℕ) → is_word w ≡ true → 0 < length w
 word_has_byte [] e = cc
@@ -121,11 +127,11 @@ constant_is_front bs =
     let longest : IsLongest (36 ∷ bs) (1 + length w) = λ k s after eq sp. omega (arith, (constant_spelled bs sp eq).1) in
     if_cases (IsFront (36 ∷ bs)) (is_name w) (of_word 1 w kind.ConstName) bad
     (λ n.
-        let some : 0 < length w = word_has_byte w (is_name-word w n) in
-        let stops : stops_word a ≡ true = word_stops bs some in
-        if_cases (IsFront (36 ∷ bs)) (nat_lt 255 (length w)) long (token kind.ConstName (1 + length w))
-        (λ t. (kind.ConstName, 36 ∷ w, a, parts, a_constant w a n stops, λ k s after eq sp. omega (arith, longest k s after eq sp), ltb-true 255 (length w) t))
-        (λ t. (36 ∷ w, a, parts, a_constant w a n stops, omega arith, longest, ltb-false 255 (length w) t)))
+    let some : 0 < length w = word_has_byte w (is_name-word w n) in
+    let stops : stops_word a ≡ true = word_stops bs some in
+    if_cases (IsFront (36 ∷ bs)) (nat_lt 255 (length w)) long (token kind.ConstName (1 + length w))
+    (λ t. (kind.ConstName, 36 ∷ w, a, parts, a_constant w a n stops, λ k s after eq sp. omega (arith, longest k s after eq sp), ltb-true 255 (length w) t))
+    (λ t. (36 ∷ w, a, parts, a_constant w a n stops, omega arith, longest, ltb-false 255 (length w) t)))
     (λ n k s after eq sp. clash (is_name w) (constant_spelled bs sp eq).0 n)
 
 -- which spellings stand at a #: the # and the word behind it
@@ -150,12 +156,12 @@ hash_is_front bs =
     if_cases (IsFront (35 ∷ bs)) (length w == 0) bad (of_word 1 w (hash_kind w))
     (λ z k s after eq sp. absurd (omega (arith, eqb-true (length w) 0 z, (hash_spelled bs sp eq).0)))
     (λ z.
-        let some : 0 < length w = some_byte w z in
-        let word : is_word w ≡ true = word_here-is_word bs some in
-        let stops : stops_word a ≡ true = word_stops bs some in
-        if_cases (IsFront (35 ∷ bs)) (nat_lt 255 (length w)) long (token (hash_kind w) (1 + length w))
-        (λ t. (hash_kind w, 35 ∷ w, a, parts, behind_hash w a word stops, λ k s after eq sp. omega (arith, longest k s after eq sp), ltb-true 255 (length w) t))
-        (λ t. (35 ∷ w, a, parts, behind_hash w a word stops, omega arith, longest, ltb-false 255 (length w) t)))
+    let some : 0 < length w = some_byte w z in
+    let word : is_word w ≡ true = word_here-is_word bs some in
+    let stops : stops_word a ≡ true = word_stops bs some in
+    if_cases (IsFront (35 ∷ bs)) (nat_lt 255 (length w)) long (token (hash_kind w) (1 + length w))
+    (λ t. (hash_kind w, 35 ∷ w, a, parts, behind_hash w a word stops, λ k s after eq sp. omega (arith, longest k s after eq sp), ltb-true 255 (length w) t))
+    (λ t. (35 ∷ w, a, parts, behind_hash w a word stops, omega arith, longest, ltb-false 255 (length w) t)))
 
 fits_spelled : (s after : List ℕ) → may_stand s after ≡ true → fits s (s ++ after) ≡ true
 fits_spelled s after i =
@@ -177,11 +183,15 @@ sign_found : (b : ℕ) (bs : List ℕ) → begins_word b ≡ false → (b == 36)
 sign_found b bs x y z (token k n) (s, m, f, e, l, longest) =
     let P : TokenKind → Type 0 = λ j. Spelled j s.0 (drop (length s.0) (b ∷ bs)) in
     let same : take (length s.0) (b ∷ bs) ≡ s.0 = same_bytes-equal (take (length s.0) (b ∷ bs)) s.0 (and_left (same_bytes (take (length s.0) (b ∷ bs)) s.0) (may_stand s.0 (drop (length s.0) (b ∷ bs))) f) in
-    let stands : may_stand s.0 (drop (length s.0) (b ∷ bs)) ≡ true = and_right (same_bytes (take (length s.0) (b ∷ bs)) s.0) (may_stand s.0 (drop (length s.0) (b ∷ bs))) f in
-    (s.0, drop (length s.0) (b ∷ bs), sym (take-append-drop (length s.0) (b ∷ bs)) ∙ ap (λ v. v ++ drop (length s.0) (b ∷ bs)) same,
-    subst P e (a_sign s (drop (length s.0) (b ∷ bs)) m stands), l,
-    λ j v after eq sp. let t = sign_spelled b bs x y z sp eq in omega (arith, longest t.0 t.1 t.2, t.3),
-    (apart s m).short)
+    let stands : may_stand s.0 (drop (length s.0) (b ∷ bs)) ≡ true = and_right (same_bytes (take (length s.0) (b ∷ bs)) s.0) (may_stand s.0 (drop (length s.0) (b ∷ bs))) f in (
+      s.0,
+      drop (length s.0) (b ∷ bs),
+      sym (take-append-drop (length s.0) (b ∷ bs)) ∙ ap (λ v. v ++ drop (length s.0) (b ∷ bs)) same,
+      subst P e (a_sign s (drop (length s.0) (b ∷ bs)) m stands),
+      l,
+      λ j v after eq sp. let t = sign_spelled b bs x y z sp eq in omega (arith, longest t.0 t.1 t.2, t.3),
+      (apart s m).short,
+    )
 sign_found b bs x y z long p = absurd p
 sign_found b bs x y z bad none = λ k s after eq sp. let t = sign_spelled b bs x y z sp eq in none t.0 t.1 t.2
 
@@ -196,7 +206,7 @@ front-is_front (b ∷ bs) =
     if_cases (IsFront (b ∷ bs)) (begins_word b) (word_front (word_here (b ∷ bs)) (after_word (b ∷ bs))) _
     (λ x. word_is_front (b ∷ bs) x)
     (λ x. if_cases (IsFront (b ∷ bs)) (b == 36) (constant_front (word_here bs)) _
-        (λ y. let P : ℕ → Type 0 = λ c. IsFront (c ∷ bs) (constant_front (word_here bs)) in subst P (sym (eqb-true b 36 y)) (constant_is_front bs))
+    (λ y. let P : ℕ → Type 0 = λ c. IsFront (c ∷ bs) (constant_front (word_here bs)) in subst P (sym (eqb-true b 36 y)) (constant_is_front bs))
     (λ y. if_cases (IsFront (b ∷ bs)) (b == 35) (hash_front (word_here bs)) _
-        (λ z. let P : ℕ → Type 0 = λ c. IsFront (c ∷ bs) (hash_front (word_here bs)) in subst P (sym (eqb-true b 35 z)) (hash_is_front bs))
+    (λ z. let P : ℕ → Type 0 = λ c. IsFront (c ∷ bs) (hash_front (word_here bs)) in subst P (sym (eqb-true b 35 z)) (hash_is_front bs))
     (λ z. sign_found b bs x y z (sign_front signs (b ∷ bs)) (sign_front-longest signs (b ∷ bs) signs_longer_first))))

@@ -1,18 +1,14 @@
 -- The first sign of the table that fits is the longest.
-use Rattle.std.proofs.Common.{◌≡◌, ◌∙◌, ℕ, zero, suc, ◌+◌, ◌<◌, ◌≤◌, ◌==◌, nat_lt, nat_le, Bool, true, false, not, ◌&&◌, if◌then◌else◌, ◌⊎◌, inl, inr, List, [], ◌∷◌, ◌++◌, length, take, drop, codes, refl, ap, sym, arith}
-use Rattle.std.proofs.lemmas.Bool.{eq-eqb, leb-true, ltb-true, ltb-false}
-use Rattle.std.proofs.lemmas.List.{length-take, take-append-drop}
-use Rattle.std.proofs.Math.Seq.{take-append_seam, drop-append_seam}
+use Rattle.std.proofs.Common.{◌≡◌, ◌∙◌, ℕ, zero, suc, ◌<◌, ◌≤◌, ◌==◌, nat_lt, Bool, true, false, not, ◌&&◌, ◌⊎◌, inl, inr, List, [], ◌∷◌, length, take, drop, refl, ap, sym, arith}
+use Rattle.std.proofs.lemmas.Bool.{eq-eqb, ltb-true, ltb-false}
 use Rattle.std.specs.List.{list_all, Contains}
 use Rattle.celf_lexer.specs.declared.token.TokenKind.{TokenKind}
-use Rattle.clf_syntax.specs.Word.{begins_word, same_bytes}
+use Rattle.clf_syntax.specs.Word.{same_bytes}
 use Rattle.celf_lexer.specs.Sign.{Front, token, long, bad, signs, fits, may_stand, sign_front}
-use Rattle.celf_lexer.specs.Spelling.{word_in}
-use Rattle.celf_lexer.proofs.Cases.{if_cases, and_both, and_left, and_right}
+use Rattle.celf_lexer.proofs.Cases.{if_cases, and_both, and_left, and_right, clash}
 use Rattle.celf_lexer.proofs.Bounds.{same_bytes-equal}
-use Rattle.celf_lexer.proofs.Splits.{clash, first}
 
-member_cases : {X : Type 0} (y : X) (ys : List X) (x : X) → Contains (y ∷ ys) x → (y ≡ x) ⊎ Contains ys x
+pub member_cases : {X : Type 0} (y : X) (ys : List X) (x : X) → Contains (y ∷ ys) x → (y ≡ x) ⊎ Contains ys x
 member_cases y ys x (zero, h, e) = inl e
 member_cases y ys x (suc k, h, e) = inr (k, omega arith, e)
 
@@ -23,8 +19,9 @@ member_later y ys x (k, h, e) = (suc k, omega arith, e)
 pub member_passes : {X : Type 0} (p : X → Bool) (xs : List X) (x : X) → list_all p xs ≡ true → Contains xs x → p x ≡ true
 member_passes p [] x a (k, h, e) = absurd (omega arith)
 member_passes p (y ∷ ys) x a m = elim (member_cases y ys x m) [
-    inl e ↦ ap p (sym e) ∙ and_left (p y) (list_all p ys) a
-  | inr n ↦ member_passes p ys x (and_right (p y) (list_all p ys) a) n ]
+  | inl e ↦ ap p (sym e) ∙ and_left (p y) (list_all p ys) a
+  | inr n ↦ member_passes p ys x (and_right (p y) (list_all p ys) a) n
+]
 
 pub same_bytes-refl : (xs : List ℕ) → same_bytes xs xs ≡ true
 same_bytes-refl [] = refl
@@ -64,33 +61,47 @@ as_long : (s t : List ℕ × TokenKind) (bytes : List ℕ) → fits s.0 bytes �
 as_long s t bytes f g h =
     decided (length t.0 ≤ length s.0) (nat_lt (length s.0) (length t.0))
     (λ l.
-        let less : length s.0 < length t.0 = ltb-true (length s.0) (length t.0) l in
-        let same : take (length s.0) t.0 ≡ s.0 = ap (take (length s.0)) (sym (prefix t.0 bytes g)) ∙ take_less (length s.0) (length t.0) bytes (omega arith) ∙ prefix s.0 bytes f in
-        let past : goes_past s t ≡ true = and_both (same_bytes (take (length s.0) t.0) s.0) (nat_lt (length s.0) (length t.0)) (ap (λ xs. same_bytes xs s.0) same ∙ same_bytes-refl s.0) l in
-        clash (not (goes_past s t)) h (ap not past))
+    let less : length s.0 < length t.0 = ltb-true (length s.0) (length t.0) l in
+    let same : take (length s.0) t.0 ≡ s.0 = ap (take (length s.0)) (sym (prefix t.0 bytes g)) ∙ take_less (length s.0) (length t.0) bytes (omega arith) ∙ prefix s.0 bytes f in
+    let past : goes_past s t ≡ true = and_both (same_bytes (take (length s.0) t.0) s.0) (nat_lt (length s.0) (length t.0)) (ap (λ xs. same_bytes xs s.0) same ∙ same_bytes-refl s.0) l in
+    clash (not (goes_past s t)) h (ap not past))
     (λ l. ltb-false (length s.0) (length t.0) l)
 
 -- A sign that does not fit changes nothing.
 passed : (s : List ℕ × TokenKind) (ss : List (List ℕ × TokenKind)) (bytes : List ℕ) → fits s.0 bytes ≡ false → (f : Front) → FrontSign ss bytes f → FrontSign (s ∷ ss) bytes f
-passed s ss bytes unfit (token k n) (t, m, f, e, l, longest) =
-    (t, member_later s ss t m, f, e, l,
-    λ u v g. elim (member_cases s ss u v) [
-        inl i ↦ clash (fits u.0 bytes) g (ap (λ (w : List ℕ × TokenKind). fits w.0 bytes) (sym i) ∙ unfit)
-      | inr w ↦ longest u w g ])
+passed s ss bytes unfit (token k n) (t, m, f, e, l, longest) = (
+  t,
+  member_later s ss t m,
+  f,
+  e,
+  l,
+  λ u v g. elim (member_cases s ss u v) [
+    | inl i ↦ clash (fits u.0 bytes) g (ap (λ (w : List ℕ × TokenKind). fits w.0 bytes) (sym i) ∙ unfit)
+    | inr w ↦ longest u w g
+  ],
+)
 passed s ss bytes unfit long p = p
 passed s ss bytes unfit bad none = λ u v g. elim (member_cases s ss u v) [
-    inl i ↦ clash (fits u.0 bytes) g (ap (λ (w : List ℕ × TokenKind). fits w.0 bytes) (sym i) ∙ unfit)
-  | inr w ↦ none u w g ]
+  | inl i ↦ clash (fits u.0 bytes) g (ap (λ (w : List ℕ × TokenKind). fits w.0 bytes) (sym i) ∙ unfit)
+  | inr w ↦ none u w g
+]
 
 pub sign_front-longest : (ss : List (List ℕ × TokenKind)) (bytes : List ℕ) → longer_first ss ≡ true → FrontSign ss bytes (sign_front ss bytes)
 sign_front-longest [] bytes h = λ t m f. absurd (omega (arith, m.1))
 sign_front-longest (s ∷ ss) bytes h =
     let later : list_all (λ t. not (goes_past s t)) ss ≡ true = and_left (list_all (λ t. not (goes_past s t)) ss) (longer_first ss) h in
     if_cases (FrontSign (s ∷ ss) bytes) (fits s.0 bytes) (token s.1 (length s.0)) (sign_front ss bytes)
-    (λ f. (s, (0, omega arith, refl), f, refl, refl,
-        λ t m g. elim (member_cases s ss t m) [
-            inl e ↦ omega (arith, ap (λ (u : List ℕ × TokenKind). length u.0) e)
-          | inr n ↦ as_long s t bytes f g (member_passes (λ t. not (goes_past s t)) ss t later n) ]))
+    (λ f. (
+      s,
+      (0, omega arith, refl),
+      f,
+      refl,
+      refl,
+      λ t m g. elim (member_cases s ss t m) [
+        | inl e ↦ omega (arith, ap (λ (u : List ℕ × TokenKind). length u.0) e)
+        | inr n ↦ as_long s t bytes f g (member_passes (λ t. not (goes_past s t)) ss t later n)
+      ],
+    ))
     (λ f. passed s ss bytes f (sign_front ss bytes) (sign_front-longest ss bytes (and_right (list_all (λ t. not (goes_past s t)) ss) (longer_first ss) h)))
 
 pub signs_longer_first : longer_first signs ≡ true

@@ -1,18 +1,14 @@
 -- Where a word ends in some bytes.
-use Rattle.std.proofs.Common.{◌≡◌, ◌∙◌, ℕ, suc, ◌+◌, ◌<◌, ◌≤◌, ◌==◌, Bool, true, false, not, ◌&&◌, ◌||◌, if◌then◌else◌, ◌⊎◌, inl, inr, List, [], ◌∷◌, ◌++◌, length, take, drop, codes, refl, ap, sym, subst, arith}
+use Rattle.std.proofs.Common.{◌≡◌, ◌∙◌, ℕ, suc, ◌+◌, ◌<◌, ◌≤◌, ◌==◌, Bool, true, false, not, ◌&&◌, ◌||◌, ◌⊎◌, inl, inr, List, [], ◌∷◌, ◌++◌, length, take, drop, codes, refl, ap, sym, arith}
 use Rattle.std.proofs.lemmas.Bool.{eqb-true}
 use Rattle.std.proofs.lemmas.List.{length-take, take-append-drop}
-use Rattle.std.proofs.Math.Seq.{take-append_seam, drop-append_seam}
+use Rattle.std.proofs.Math.Seq.{take-append_seam}
 use Rattle.clf_syntax.specs.Word.{is_name, is_name_byte, name_byte_first, goes_on, begins_word, is_word, is_word_rest, same_bytes, is_keyword, is_hole_word, all_digits}
 use Rattle.celf_lexer.specs.Sign.{rest_length, word_length, word_here, after_word, is_back_lolli}
 use Rattle.celf_lexer.specs.Spelling.{stops_word, arrow_goes_on, word_in}
-use Rattle.celf_lexer.proofs.Cases.{if_cases, and_left, and_right}
-use Rattle.celf_lexer.proofs.Words.{taken_more, word_begins}
+use Rattle.celf_lexer.proofs.Cases.{if_cases, and_left, and_right, or_cases, not_true, clash}
+use Rattle.celf_lexer.proofs.Words.{word_begins}
 use Rattle.celf_lexer.proofs.Bounds.{same_bytes-equal}
-
--- one Bool is not both
-pub clash : {A : Type 0} (x : Bool) → x ≡ true → x ≡ false → A
-clash x t f = absurd (let e : true ≡ false = sym t ∙ f in cc)
 
 abbrev pub first : List ℕ → ℕ
 first [] = 0
@@ -80,10 +76,6 @@ pub word_first : (w after : List ℕ) → is_word w ≡ true → begins_word (fi
 word_first [] after h = cc
 word_first (b ∷ bs) after h = and_left (begins_word b) (is_word_rest bs) h
 
-or_cases : (x y : Bool) → (x || y) ≡ true → (x ≡ true) ⊎ (y ≡ true)
-or_cases true y e = inl refl
-or_cases false y e = inr e
-
 -- A word is its token's word.
 pub word_in-word : (w : List ℕ) → is_word w ≡ true → word_in w ≡ w
 word_in-word [] h = refl
@@ -91,16 +83,13 @@ word_in-word (b ∷ bs) h =
     let begins : begins_word b ≡ true = and_left (begins_word b) (is_word_rest bs) h in
     if_cases (λ w. w ≡ b ∷ bs) (b == 36 || b == 35) bs (b ∷ bs)
     (λ g. elim (or_cases (b == 36) (b == 35) g) [
-        inl e ↦ clash (begins_word b) begins (ap begins_word (eqb-true b 36 e))
-      | inr e ↦ clash (begins_word b) begins (ap begins_word (eqb-true b 35 e)) ])
+      | inl e ↦ clash (begins_word b) begins (ap begins_word (eqb-true b 36 e))
+      | inr e ↦ clash (begins_word b) begins (ap begins_word (eqb-true b 35 e))
+    ])
     (λ g. refl)
 
 pub is_name-word : (w : List ℕ) → is_name w ≡ true → is_word w ≡ true
 is_name-word w e = and_left (is_word w) (not (is_keyword w)) (and_left (is_word w && not (is_keyword w)) (not (is_hole_word w)) (and_left (is_word w && not (is_keyword w) && not (is_hole_word w)) (not (all_digits w)) e))
-
-not_true : (x : Bool) → not x ≡ true → x ≡ false
-not_true true e = cc
-not_true false e = refl
 
 -- the parts of o- where it stands
 pub back_parts : (w a : List ℕ) → is_back_lolli w a ≡ true → (after : List ℕ) × (w ≡ codes "o") × (a ≡ 45 ∷ after) × (arrow_goes_on after ≡ false)

@@ -1,14 +1,15 @@
 -- Laws of the tokens of a text.
-use Rattle.std.proofs.Common.{◌≡◌, ◌≢◌, ◌∙◌, ℕ, zero, suc, ◌+◌, ◌-◌, ◌<◌, ◌≤◌, ◌==◌, Bool, true, false, if◌then◌else◌, List, [], ◌∷◌, length, take, drop, Result, Ok, Err, refl, ap, sym, arith}
+use Rattle.std.proofs.Common.{◌≡◌, ◌≢◌, ◌∙◌, ℕ, zero, suc, ◌+◌, ◌-◌, ◌<◌, ◌≤◌, Bool, true, false, if◌then◌else◌, List, [], ◌∷◌, length, take, drop, Result, Ok, Err, refl, ap, sym, arith}
 use Rattle.std.proofs.lemmas.List.{length-drop, drop-drop}
-use Rattle.std.specs.Result.{IfOk}
+use Rattle.std.specs.Result.{IfErr, IfOk}
 use Rattle.celf_lexer.specs.declared.token.TokenKind.{TokenKind}
 use Rattle.celf_lexer.specs.declared.token.TokenKind.TheVariants.{End}
 use Rattle.celf_lexer.specs.declared.token.Token.{Token}
 use Rattle.celf_lexer.specs.declared.token.LexFault.{LexFault}
+use Rattle.celf_lexer.specs.declared.token.LexFault.TheVariants.{BadByte, LongName}
 use Rattle.celf_lexer.specs.Gap.{gap}
 use Rattle.celf_lexer.specs.Sign.{Front, token, long, bad, front}
-use Rattle.celf_lexer.specs.Tokens.{placed, first_of, next_token, Lexeme, is_end, lexeme_of, token_first, tokens_within, tokens_of, tokens_from, tokens_after, tokens_at}
+use Rattle.celf_lexer.specs.Tokens.{fault_byte, placed, first_of, next_token, Lexeme, is_end, token_first, tokens_within, tokens_of, tokens_from, tokens_at}
 use Rattle.celf_lexer.proofs.Bounds.{Grows, front-grows, gap-bound}
 
 -- a token that stands at or behind a place, and ends at or before a limit: it has a byte, or is the end and stands at the limit
@@ -43,6 +44,24 @@ first_of-stands at bytes t e =
     let s : StandsWithin (at + gap bytes) (at + gap bytes + length (drop (gap bytes) bytes)) t = placed-stands (at + gap bytes) (drop (gap bytes) bytes) t e in
     let l : at + gap bytes + length (drop (gap bytes) bytes) ≡ at + length bytes = omega (arith, gap-bound bytes, length-drop (gap bytes) bytes) in
     record { behind = omega arith; ordered = s.ordered; within = omega arith; has_byte = s.has_byte; at_end = λ h. ((s.at_end h).0 ∙ l, (s.at_end h).1 ∙ l) }
+
+placed_fault : (at : ℕ) (f : Front) (m : ℕ) (l : LexFault) → Grows m f → placed at f ≡ Err l → (fault_byte l ≡ at) × (0 < m)
+placed_fault at (token k n) m l g e = cc
+placed_fault at long m l g e = (ap fault_byte (let x : l ≡ LongName at = cc in x), g)
+placed_fault at bad m l g e = (ap fault_byte (let x : l ≡ BadByte at = cc in x), g)
+
+fault_stands : (at : ℕ) (bytes : List ℕ) (l : LexFault) → placed at (front bytes) ≡ Err l → (fault_byte l ≡ at) × (0 < length bytes)
+unfolding front
+fault_stands at [] l e = cc
+fault_stands at (b ∷ bs) l e = placed_fault at (front (b ∷ bs)) (length (b ∷ bs)) l (front-grows b bs) e
+
+-- A fault is told of a byte of the text, behind the place.
+pub next_token-fault : (text : List ℕ) (at : ℕ) (l : LexFault) → at ≤ length text → next_token text at ≡ Err l → (at ≤ fault_byte l) × (fault_byte l < length text)
+unfolding first_of
+next_token-fault text at l h e =
+    let bytes : List ℕ = drop at text in
+    let s = fault_stands (at + gap bytes) (drop (gap bytes) bytes) l e in
+    (omega (arith, s.0), omega (arith, s.0, s.1, length-drop (gap bytes) bytes, length-drop at text))
 
 -- The next token stands within the text, behind the place.
 pub next_token-stands : (text : List ℕ) (at : ℕ) (t : Token) → at ≤ length text → next_token text at ≡ Ok t → StandsWithin at (length text) t
@@ -123,3 +142,9 @@ next_token-ok text at (Ok t) h e =
 pub IfOk-mono : {T E : Type 0} (P Q : T → Type 0) (r : Result T E) → ((t : T) → P t → Q t) → IfOk r P → IfOk r Q
 IfOk-mono P Q (Ok t) f p = f t p
 IfOk-mono P Q (Err e) f p = tt
+
+-- where a fault is told
+pub next_token-err : (text : List ℕ) (at : ℕ) (r : Result Token LexFault) → at ≤ length text → r ≡ next_token text at
+    → IfErr r (λ f. at ≤ fault_byte f) × IfErr r (λ f. fault_byte f < length text)
+next_token-err text at (Ok t) h e = (tt, tt)
+next_token-err text at (Err f) h e = let p = next_token-fault text at f h (sym e) in (p.0, p.1)

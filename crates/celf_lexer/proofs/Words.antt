@@ -1,11 +1,11 @@
 -- Laws of words.
-use Rattle.std.proofs.Common.{◌≡◌, ◌∙◌, ℕ, ◌+◌, ◌<◌, Bool, true, false, not, ◌&&◌, ◌||◌, ◌==◌, suc, if◌then◌else◌, List, [], ◌∷◌, length, take, IsTrue, refl, ap, sym, arith}
+use Rattle.std.proofs.Common.{◌≡◌, ◌∙◌, ℕ, ◌+◌, ◌<◌, Bool, true, false, ◌&&◌, ◌||◌, ◌==◌, suc, if◌then◌else◌, List, [], ◌∷◌, length, take, refl, ap, sym, arith}
 use Rattle.std.proofs.lemmas.Grind.{common_steps}
 use Rattle.celf_lexer.specs.declared.token.TokenKind.{TokenKind}
 use Rattle.celf_lexer.specs.declared.token.TokenKind.TheVariants.{Name}
 use Rattle.clf_syntax.specs.Word.{is_name, is_name_byte, name_byte_first, goes_on, begins_word, is_word, is_word_rest}
 use Rattle.celf_lexer.proofs.Cases.{or_left, and_both}
-use Rattle.celf_lexer.specs.Sign.{rest_length, word_length, word_here, word_kind}
+use Rattle.celf_lexer.specs.Sign.{rest_length, word_here, word_kind}
 
 pub taken_more : (k c : ℕ) (cs : List ℕ) → take (1 + k) (c ∷ cs) ≡ c ∷ take k cs
 taken_more k c cs = let e : 1 + k ≡ suc k = omega arith in rw e refl

@@ -2,6 +2,7 @@
 #![tactic(auto)]
 
 mod gap;
+mod laws;
 mod scan;
 mod sign;
 #[cfg(test)]
@@ -9,5 +10,6 @@ mod tests;
 mod token;
 mod word;
 
+pub use laws::longest_spelling_begins;
 pub use scan::next;
 pub use token::{LexFault, Token, TokenKind};

@@ -1,9 +1,9 @@
 //! The next token of a text.
 
 ghost use Rattle.celf_lexer.specs.Sign as spec;
-ghost use Rattle.celf_lexer.specs.Tokens.{next_token, placed};
+ghost use Rattle.celf_lexer.specs.Tokens.{fault_byte, next_token, placed};
 ghost use Rattle.clf_syntax.specs.Word as words;
-ghost use Rattle.std.specs.Prelude.{◌+◌, ◌<◌, ◌≡◌, ◌≢◌, ◌≤◌, ◌^◌, IfOk, IsTrue, length};
+ghost use Rattle.std.specs.Prelude.{◌+◌, ◌<◌, ◌≡◌, ◌≢◌, ◌≤◌, ◌^◌, IfErr, IfOk, IsTrue, length};
 
 use crate::gap::gap_length;
 use crate::sign::first_sign;
@@ -133,6 +133,8 @@ pub fn next(bytes: &[u8], at: u32) -> Result<Token, LexFault>
     ensures within { IfOk result (λ t. t.end ≤ length bytes.now) }
     ensures has_byte { IfOk result (λ t. t.kind ≢ TokenKind.End → t.start < t.end) }
     ensures at_end { IfOk result (λ t. t.kind ≡ TokenKind.End → (t.start ≡ length bytes.now) × (t.end ≡ length bytes.now)) }
+    ensures fault_behind { IfErr result (λ f. at ≤ fault_byte f) }
+    ensures fault_within { IfErr result (λ f. fault_byte f < length bytes.now) }
 {
     let rest = &bytes[at as usize..];
     let gap = gap_length(rest);

@@ -150,7 +150,11 @@ pub with-single : (n m : ℕ) (ts us : List Lexeme) (a : Surface) → IsAtom n t
 with-single n m ts us a d e h = subst (λ (r : ℕ). IsWith n ts a us r) (sym e) (single d h)
 
 pub ruleset type_steps = (arrows_at, type-none, type-no_room, type-no_right)
+
 pub ruleset with_steps = (paired_at, with-none, with-no_room, with-no_right)
+
 pub ruleset atom_steps = (type-empty)
+
 pub ruleset group_steps = (grouped_at, atom-no_room, atom-no_inside, atom-no_close)
+
 pub ruleset leaf_steps = (atom-none)

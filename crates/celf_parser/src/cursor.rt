@@ -1,11 +1,11 @@
 //! Going from token to token.
 ghost use Rattle.std.specs.Prelude.{ℕ, List, ◌≡◌, ◌≤◌, IsTrue, length, IfNone, IfSome, IfOk, drop};
-ghost use Rattle.celf_lexer.specs.Tokens.{tokens_after, tokens_at, lexeme_of};
+ghost use Rattle.celf_lexer.specs.Tokens.{fault_byte, tokens_after, lexeme_of};
 ghost use Rattle.celf_parser.specs.Grammar.{arrow_of as arrow_of_kind, is_arrow, is_name_kind, Ends, is_amp, is_close, is_colon, is_stop};
-ghost use Rattle.celf_parser.specs.Place.{IsTokenOf, IfTokenOf, tokens_on};
+ghost use Rattle.celf_parser.specs.Place.{IsTokenOf, IfTokenOf, IsBehind, tokens_on};
 
 use crate::surface::{Arrow, Span};
-use celf_lexer::{Token, TokenKind};
+use celf_lexer::{LexFault, Token, TokenKind};
 use clf_syntax::Name;
 use std::alloc::{AllocError, Global};
 
@@ -18,11 +18,22 @@ pub fn following(bytes: &[u8], token: Token) -> Option<Token>
     requires token { IsTokenOf bytes.now token }
     ensures tokens { tokens_on bytes.now result ≡ tokens_after bytes.now token }
     ensures within { IfTokenOf bytes.now result }
+    ensures behind { (low : ℕ) → low ≤ token.start → IsBehind low result }
 {
-    if token.kind == TokenKind::End {
-        return None;
+    match token.kind {
+        TokenKind::End => None,
+        _ => celf_lexer::next(bytes, token.end).ok(),
     }
-    crate::stub::next(bytes, token.end).ok()
+}
+
+/// The byte at which no token begins.
+pub fn byte_of(fault: LexFault) -> u32
+    ensures { result ≡ fault_byte fault }
+{
+    match fault {
+        LexFault::BadByte(at) => at,
+        LexFault::LongName(at) => at,
+    }
 }
 
 /// The arrow that a token is.

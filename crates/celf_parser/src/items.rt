@@ -7,10 +7,10 @@ ghost use Rattle.celf_parser.specs.Grammar.{IsDeclaration, is_kind_or_type as is
 ghost use Rattle.celf_parser.specs.Absent.{NoDeclaration};
 ghost use Rattle.celf_parser.specs.Place.{IsTokenOf};
 
-use crate::cursor::{MAX_BYTES, colon_at, following, is_name, name_of, stop_at};
+use crate::cursor::{MAX_BYTES, byte_of, colon_at, following, is_name, name_of, stop_at};
 use crate::surface::{Item, ItemBody, SType, Span, SyntaxFault};
 use crate::types::{Stop, type_at};
-use celf_lexer::{LexFault, Token, TokenKind};
+use celf_lexer::{Token, TokenKind};
 use std::alloc::Global;
 
 /// How many nested parts may be open at once.
@@ -30,10 +30,9 @@ pub fn next_item(alloc: Global, bytes: &[u8], at: u32) -> Result<Option<Item>, S
     ensures start { (start : ℕ) → IsErrOf result (SyntaxFault.NotYet start) → start ≡ at + gap (drop at bytes.now) }
     ensures some { (start : ℕ) → IsErrOf result (SyntaxFault.NotYet start) → start < length bytes.now }
 {
-    match crate::stub::next(bytes, at) {
+    match celf_lexer::next(bytes, at) {
         Ok(first) => item_at(alloc, bytes, first),
-        Err(LexFault::BadByte(start)) | Err(LexFault::LongName(start)) =>
-            Err(SyntaxFault::NotYet(start)),
+        Err(fault) => Err(SyntaxFault::NotYet(byte_of(fault))),
     }
 }
 
@@ -96,8 +95,8 @@ fn is_kind_or_type(ty: &SType) -> bool
 {
     match ty {
         SType::TypeWord | SType::Family { .. } | SType::Top => true,
-        SType::Arrow { left, right, .. } | SType::With { left, right } =>
-            !has_type_word(left.get()) && !has_type_word(right.get()),
+        SType::Arrow { left, right, .. } | SType::With { left, right } => !has_type_word(left.get())
+            && !has_type_word(right.get()),
     }
 }
 
@@ -107,8 +106,8 @@ fn has_type_word(ty: &SType) -> bool
     ensures { result ≡ has_type_word_of (surface ty.now) }
 {
     match ty {
-        SType::Arrow { left, right, .. } | SType::With { left, right } =>
-            has_type_word(left.get()) || has_type_word(right.get()),
+        SType::Arrow { left, right, .. } | SType::With { left, right } => has_type_word(left.get())
+            || has_type_word(right.get()),
         SType::TypeWord => true,
         SType::Family { .. } | SType::Top => false,
     }

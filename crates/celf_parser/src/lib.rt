@@ -3,7 +3,6 @@
 
 mod cursor;
 mod items;
-mod stub;
 mod surface;
 mod types;
 

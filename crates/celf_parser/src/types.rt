@@ -4,9 +4,11 @@ ghost use Rattle.celf_lexer.specs.Tokens.{tokens_after, tokens_at};
 ghost use Rattle.celf_parser.specs.Surface.{surface};
 ghost use Rattle.celf_parser.specs.Grammar.{IsType, IsWith, IsAtom};
 ghost use Rattle.celf_parser.specs.Absent.{NoType, NoWith, NoAtom};
-ghost use Rattle.celf_parser.specs.Place.{IsTokenOf, IfTokenOf, tokens_on};
+ghost use Rattle.celf_parser.specs.Place.{IsTokenOf, IfTokenOf, IsBehind, tokens_on};
 
-use crate::cursor::{MAX_BYTES, amp_at, arrow_at, close_at, constant_of, following, name_of, span_of};
+use crate::cursor::{
+    MAX_BYTES, amp_at, arrow_at, close_at, constant_of, following, name_of, span_of,
+};
 use crate::surface::SType;
 use celf_lexer::{Token, TokenKind};
 use sqlite_items::Boxed;
@@ -48,6 +50,7 @@ pub fn type_at(alloc: Global, bytes: &[u8], first: Option<Token>, room: u32) -> 
     ensures found { IfOk result (λ f. IsType room (tokens_on bytes.now first) (surface f.ty) (tokens_on bytes.now f.next) f.room) }
     ensures room { IfOk result (λ f. f.room ≤ room) }
     ensures within { IfOk result (λ f. IfTokenOf bytes.now f.next) }
+    ensures behind { (low : ℕ) → IsBehind low first → IfOk result (λ f. IsBehind low f.next) }
     ensures absent { IsErrOf result Stop.Absent → NoType room (tokens_on bytes.now first) }
 {
     let left = with_at(alloc, bytes, first, room)?;
@@ -78,6 +81,7 @@ fn with_at(alloc: Global, bytes: &[u8], first: Option<Token>, room: u32) -> Resu
     ensures found { IfOk result (λ f. IsWith room (tokens_on bytes.now first) (surface f.ty) (tokens_on bytes.now f.next) f.room) }
     ensures room { IfOk result (λ f. f.room ≤ room) }
     ensures within { IfOk result (λ f. IfTokenOf bytes.now f.next) }
+    ensures behind { (low : ℕ) → IsBehind low first → IfOk result (λ f. IsBehind low f.next) }
     ensures absent { IsErrOf result Stop.Absent → NoWith room (tokens_on bytes.now first) }
 {
     let left = atom_at(alloc, bytes, first, room)?;
@@ -107,6 +111,7 @@ fn atom_at(alloc: Global, bytes: &[u8], first: Option<Token>, room: u32) -> Resu
     ensures found { IfOk result (λ f. IsAtom room (tokens_on bytes.now first) (surface f.ty) (tokens_on bytes.now f.next)) }
     ensures room { IfOk result (λ f. f.room ≡ room) }
     ensures within { IfOk result (λ f. IfTokenOf bytes.now f.next) }
+    ensures behind { (low : ℕ) → IsBehind low first → IfOk result (λ f. IsBehind low f.next) }
     ensures absent { IsErrOf result Stop.Absent → NoAtom room (tokens_on bytes.now first) }
 {
     let Some(token) = first else {
@@ -133,6 +138,7 @@ fn grouped_at(alloc: Global, bytes: &[u8], opening: Token, room: u32) -> Result<
     ensures found { IfOk result (λ f. IsAtom room (tokens_at bytes.now opening) (surface f.ty) (tokens_on bytes.now f.next)) }
     ensures room { IfOk result (λ f. f.room ≡ room) }
     ensures within { IfOk result (λ f. IfTokenOf bytes.now f.next) }
+    ensures behind { (low : ℕ) → low ≤ opening.start → IfOk result (λ f. IsBehind low f.next) }
     ensures absent { IsErrOf result Stop.Absent → NoAtom room (tokens_at bytes.now opening) }
 {
     if room == 0 {

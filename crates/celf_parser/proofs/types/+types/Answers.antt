@@ -1,11 +1,11 @@
 use Rattle.celf_parser.specs.Absent.{NoType}
 use Rattle.std.proofs.lemmas.Result.{err_from_is_err_and}
-use Rattle.std.proofs.Common.{Option, ◌≡◌, List, ℕ, ◌-◌, subst, ap, sym, ◌∙◌}
+use Rattle.std.proofs.Common.{Option, ◌≤◌, ◌≡◌, List, ℕ, ◌-◌, subst, ap, sym, ◌∙◌}
 use Rattle.celf_lexer.specs.declared.token.Token.{Token}
 use Rattle.celf_lexer.specs.Tokens.{Lexeme, tokens_at, tokens_after, lexeme_of}
 use Rattle.celf_parser.specs.Surface.{surface}
 use Rattle.celf_parser.specs.Grammar.{IsType, IsWith}
-use Rattle.celf_parser.specs.Place.{tokens_on}
+use Rattle.celf_parser.specs.Place.{IsBehind, tokens_on}
 use Rattle.celf_parser.proofs.Parsing.{type-alone, type-no_room, type-no_right, with-single, atom-no_close}
 use Rattle.celf_parser.proofs.types.+types.Goals as goal
 
@@ -34,3 +34,19 @@ type_at-returns-in_err-right-clause-absent t c h =
 pub with_at-returns-in_default-clause-found : goal.with_at-returns-in_default-clause-found
 with_at-returns-in_default-clause-found t c =
     with-single _ _ _ _ _ c.in_ok-left.ensures.found c.in_ok-left.ensures.room (c.in_default.ensures.none c.args.bytes.now)
+
+pub type_at-returns-clause-behind : goal.type_at-returns-clause-behind
+type_at-returns-clause-behind t c low h =
+    let at_sign : low ≤ c.in-Some.sign.start = subst (IsBehind low) c.in-Some.ensures.some.0 (c.in_ok-left.ensures.behind low h) in
+    c.in_ok-right.ensures.behind low (c.following.ensures.behind low at_sign)
+
+pub with_at-returns-clause-behind : goal.with_at-returns-clause-behind
+with_at-returns-clause-behind t c low h =
+    let at_sign : low ≤ c.in-Some.sign.start = subst (IsBehind low) c.in-Some.ensures.some.0 (c.in_ok-left.ensures.behind low h) in
+    c.in_ok-right.ensures.behind low (c.following.ensures.behind low at_sign)
+
+pub grouped_at-returns-clause-behind : goal.grouped_at-returns-clause-behind
+grouped_at-returns-clause-behind t c low h =
+    let inside = c.in_ok-inside.ensures.behind low (c.following.ensures.behind low h) in
+    let at_close : low ≤ c.in-Some.close.start = subst (IsBehind low) c.in-Some.ensures.some.0 inside in
+    c.following-2.ensures.behind low at_close
