@@ -14,9 +14,13 @@ pub record PlainEntry : Type 0 where
   pub implicit : ℕ
   pub class : PlainClass
 
+-- a declaration: the bytes of its name, and its entry
+abbrev pub Declaration : Type 0
+Declaration = List ℕ × PlainEntry
+
 -- the oldest entry first; an entry's place is its number
 abbrev pub PlainSignature : Type 0
-PlainSignature = List (List ℕ × PlainEntry)
+PlainSignature = List Declaration
 
 -- the names that a signature declares, in order
 abbrev pub names : PlainSignature → List (List ℕ)
