@@ -1,5 +1,5 @@
 -- Files and their places in a list.
-use Rattle.std.proofs.Common.{ℕ, zero, suc, ◌≡◌, ◌<◌, ◌≤◌, ◌+◌, Option, Some, List, [], ◌∷◌, length, get_or, drop, Bool, true, refl, sym, ◌∙◌, ap, arith, add-one, drop-cons}
+use Rattle.std.proofs.Common.{ℕ, zero, suc, ◌≡◌, ◌<◌, ◌≤◌, Option, Some, List, [], ◌∷◌, length, get_or, drop, true, refl, sym, ap, arith, drop-cons}
 use Rattle.std.proofs.lemmas.Grind.{common_steps}
 use Rattle.std.specs.Prelude.{bytes_eq}
 use Rattle.celf_source.specs.Shelf.{holding}

@@ -1,10 +1,9 @@
 -- What a reader of a whole file has: the file's first bytes, with the others left to be read.
-use Rattle.std.proofs.Common.{ℕ, ◌≡◌, ◌<◌, ◌≤◌, ◌+◌, List, [], ◌++◌, length, take, drop, Option, Some, None, IfSome, refl, sym, ◌∙◌, ap, arith, append_assoc, length-append}
+use Rattle.std.proofs.Common.{ℕ, ◌≡◌, ◌<◌, ◌≤◌, ◌+◌, List, [], ◌++◌, length, take, drop, Option, Some, IfSome, refl, sym, arith, append_assoc, length-append}
 use Rattle.std.specs.Prelude.{⊤}
-use Rattle.std.proofs.lemmas.Grind.{common_steps}
 use Rattle.std.proofs.lemmas.List.{take-append-drop, append-nil}
 use Rattle.std.proofs.Math.Seq.{drop-append_seam, drop-append-add}
-use Rattle.celf_source.specs.Shelf.{Told, untold, lacking, holding, Opened, ReadsNext, IsWhole, IsLonger, StandsBehind}
+use Rattle.celf_source.specs.Shelf.{Told, untold, lacking, holding, IsOpened, ReadsNext, IsWhole, IsLonger, StandsBehind}
 
 -- The bytes are first in the file, and the others are left, where the shelf tells the file.
 abbrev pub Began : Told → List ℕ → Option (List ℕ) → Type 0
@@ -12,10 +11,10 @@ Began untold bytes left = ⊤
 Began lacking bytes left = ⊥
 Began (holding file) bytes left = (rest : List ℕ) × (left ≡ Some rest) × (file ≡ bytes ++ rest)
 
-pub Began-opened : (t : Told) (left : Option (List ℕ)) → Opened t left → Began t [] left
-Began-opened untold left opened = tt
-Began-opened lacking left opened = opened
-Began-opened (holding file) left opened = (file, opened, refl)
+pub Began-IsOpened : (t : Told) (left : Option (List ℕ)) → IsOpened t left → Began t [] left
+Began-IsOpened untold left opened = tt
+Began-IsOpened lacking left opened = opened
+Began-IsOpened (holding file) left opened = (file, opened, refl)
 
 pub Began-read : (t : Told) (bytes : List ℕ) (left : Option (List ℕ)) (count : ℕ) (buffer : List ℕ) (after : Option (List ℕ)) →
     Began t bytes left → IfSome left (λ rest. ReadsNext count buffer rest after) → Began t (bytes ++ take count buffer) after
@@ -24,7 +23,7 @@ Began-read lacking bytes left count buffer after began reads = began
 Began-read (holding file) bytes left count buffer after (rest, is_left, makes) reads =
     let r : ReadsNext count buffer rest after = rw is_left at reads in
     let parts : bytes ++ (take count buffer ++ drop count rest) ≡ file =
-        rw (r.next, take-append-drop) (sym makes) in
+    rw (r.next, take-append-drop) (sym makes) in
     (drop count rest, r.behind, rw append_assoc (sym parts))
 
 pub Began-whole : (t : Told) (bytes : List ℕ) (left : Option (List ℕ)) (count room : ℕ) → Began t bytes left →

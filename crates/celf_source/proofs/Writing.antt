@@ -1,6 +1,5 @@
 -- What a writer of a whole text has: the text's first bytes are written.
-use Rattle.std.proofs.Common.{ℕ, ◌≡◌, ◌≤◌, List, [], ◌++◌, length, take, drop, Option, Some, None, refl, sym, ◌∙◌, ap, arith, append_assoc, length-append}
-use Rattle.std.specs.Prelude.{⊤}
+use Rattle.std.proofs.Common.{ℕ, ◌≡◌, List, ◌++◌, length, take, Option, Some, None, refl, arith, append_assoc, length-append}
 use Rattle.std.proofs.Math.Seq.{take-append_seam}
 use Rattle.celf_source.specs.Sink.{Appends, AppendsPrefix}
 

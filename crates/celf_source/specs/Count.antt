@@ -6,8 +6,8 @@ abbrev pub last_count : ℕ
 last_count = 2 ^ 64 - 1
 
 -- one more, or the last number
-abbrev pub counted_on : ℕ → ℕ
-counted_on count = min (count + 1) last_count
+abbrev pub next_count : ℕ → ℕ
+next_count count = min (count + 1) last_count
 
 -- A count rose, or it stands at its last number.
 abbrev pub Rose : ℕ → ℕ → Type 0

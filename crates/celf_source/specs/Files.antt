@@ -1,6 +1,6 @@
 -- Files in memory, and the shelves that hold them.
 use Rattle.std.specs.Prelude.{ℕ, zero, suc, ◌≡◌, ◌<◌, ◌≤◌, List, [], ◌∷◌, length, drop, Bool, true, false, if◌then◌else◌, Option, Some, None, bytes_eq}
-use Rattle.celf_source.specs.Count.{counted_on}
+use Rattle.celf_source.specs.Count.{next_count}
 use Rattle.celf_source.specs.Calls.{Calls, no_calls}
 use Rattle.celf_source.specs.Shelf.{Told, untold, lacking, holding}
 
@@ -55,5 +55,5 @@ IsOpenedIn files (Some place) taken = (place < length files) × (taken ≤ lengt
 -- the lacks after a name was opened of which this is told
 abbrev pub lacks_after : Told → ℕ → ℕ
 lacks_after untold lacks = lacks
-lacks_after lacking lacks = counted_on lacks
+lacks_after lacking lacks = next_count lacks
 lacks_after (holding bytes) lacks = lacks

@@ -1,5 +1,5 @@
 -- What a shelf tells of its files, and what its calls do to the file that is open.
-use Rattle.std.specs.Prelude.{ℕ, ◌≡◌, ◌<◌, ◌≤◌, List, [], length, take, drop, Option, Some, ⊤}
+use Rattle.std.specs.Prelude.{ℕ, ◌≡◌, ◌<◌, ◌≤◌, List, length, take, drop, Option, Some, ⊤}
 use Rattle.celf_source.specs.Count.{Rose}
 
 -- What a shelf tells of a name: nothing, that it has no file of that name, or the bytes of the file.
@@ -9,10 +9,10 @@ pub data Told : Type 0 where
   holding : List ℕ → Told
 
 -- The shelf has the file, and where it tells the bytes, they are what is left to be read.
-abbrev pub Opened : Told → Option (List ℕ) → Type 0
-Opened untold left = ⊤
-Opened lacking left = ⊥
-Opened (holding bytes) left = left ≡ Some bytes
+abbrev pub IsOpened : Told → Option (List ℕ) → Type 0
+IsOpened untold left = ⊤
+IsOpened lacking left = ⊥
+IsOpened (holding bytes) left = left ≡ Some bytes
 
 -- The lacks rise where the shelf tells that it lacks the name, and stay as they were else.
 abbrev pub CountsLack : Told → ℕ → ℕ → Type 0

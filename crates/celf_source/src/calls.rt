@@ -1,7 +1,7 @@
 //! The calls of a device in memory, of which some are to fail.
 ghost use Rattle.std.specs.Prelude.{◌≡◌, ◌≤◌, not, is_ok, OnOk, OnErr};
 ghost use Rattle.celf_source.specs.Count.{Rose};
-ghost use Rattle.celf_source.specs.Calls.{no_calls, next_fails, one_made, one_failed};
+ghost use Rattle.celf_source.specs.Calls.{no_calls, next_fails, after_call, after_failed_call};
 
 use crate::shelf::Failed;
 use std::marker::Model;
@@ -19,7 +19,11 @@ impl Model for CallLog {
 
     ghost Value = { Calls };
 
-    ghost view = { λ log. record { failing = log.failing.items; made = log.made; faults = log.faults } };
+    ghost view = { λ log. record {
+      failing = log.failing.items;
+      made = log.made;
+      faults = log.faults;
+    } };
 }
 
 impl CallLog {
@@ -36,8 +40,8 @@ impl CallLog {
     /// Counts a call, which fails where it is to fail.
     pub(crate) fn count(&mut self) -> Result<(), Failed>
         ensures fails { is_ok result ≡ not (next_fails self.old) }
-        ensures ok { OnOk result (self.new ≡ one_made self.old) }
-        ensures err { OnErr result (self.new ≡ one_failed self.old) }
+        ensures ok { OnOk result (self.new ≡ after_call self.old) }
+        ensures err { OnErr result (self.new ≡ after_failed_call self.old) }
         ensures failed { OnErr result (Rose self.old.faults self.new.faults) }
         ensures faults { self.old.faults ≤ self.new.faults }
     {
@@ -51,7 +55,7 @@ impl CallLog {
 
     /// Counts a call that fails whatever its number.
     pub(crate) fn fail(&mut self) -> Failed
-        ensures err { self.new ≡ one_failed self.old }
+        ensures err { self.new ≡ after_failed_call self.old }
         ensures failed { Rose self.old.faults self.new.faults }
         ensures faults { self.old.faults ≤ self.new.faults }
     {

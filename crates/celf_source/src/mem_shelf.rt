@@ -1,7 +1,7 @@
 //! A shelf in memory whose calls can be told to fail.
 ghost use Rattle.std.specs.Prelude.{◌≡◌, ◌≤◌, ◌&&◌, length, take, drop, min, not, is_ok, Some, IfOk, OnOk, OnErr};
 ghost use Rattle.celf_source.specs.Count.{Rose};
-ghost use Rattle.celf_source.specs.Calls.{next_fails, one_made, one_failed};
+ghost use Rattle.celf_source.specs.Calls.{next_fails, after_call, after_failed_call};
 ghost use Rattle.celf_source.specs.Shelf.{CountsLack, holding};
 ghost use Rattle.celf_source.specs.Files.{told_in, is_held, unopened, lacks_after};
 
@@ -26,7 +26,12 @@ impl Model for MemShelf {
 
     ghost Value = { ManyFiles };
 
-    ghost view = { λ s. record { files = s.files.items; left = left_in s.files.items s.opened s.taken; lacks = s.lacks; calls = s.calls } };
+    ghost view = { λ s. record {
+      files = s.files.items;
+      left = left_in s.files.items s.opened s.taken;
+      lacks = s.lacks;
+      calls = s.calls;
+    } };
 
     ghost invariant = { λ s. IsOpenedIn s.files.items s.opened s.taken };
 }
@@ -68,16 +73,19 @@ impl Shelf for MemShelf {
     ghost lacks = { λ shelf. shelf.lacks };
 
     fn open_file(&mut self, name: &str) -> Result<(), Failed>
-        ensures held { is_ok result ≡ (is_held (told_in self.old.files name.now) && not (next_fails self.old.calls)) }
-        ensures ok { OnOk result (self.new.calls ≡ one_made self.old.calls) }
-        ensures err { OnErr result (self.new.calls ≡ one_failed self.old.calls) }
+        ensures held { is_ok result
+            ≡ (is_held (told_in self.old.files name.now) && not (next_fails self.old.calls)) }
+        ensures ok { OnOk result (self.new.calls ≡ after_call self.old.calls) }
+        ensures err { OnErr result (self.new.calls ≡ after_failed_call self.old.calls) }
         ensures opened { OnOk result (told_in self.old.files name.now ≡ holding self.new.left) }
         ensures stays { OnErr result (self.new.left ≡ self.old.left) }
         ensures failed { OnErr result (Rose self.old.calls.faults self.new.calls.faults) }
         ensures faults { self.old.calls.faults ≤ self.new.calls.faults }
         ensures files { self.new.files ≡ self.old.files }
-        ensures lacks { self.new.lacks ≡ lacks_after (told_in self.old.files name.now) self.old.lacks }
-        ensures rise { CountsLack (told_in self.old.files name.now) self.old.lacks self.new.lacks }
+        ensures lacks { self.new.lacks
+            ≡ lacks_after (told_in self.old.files name.now) self.old.lacks }
+        ensures rise { CountsLack (told_in self.old.files name.now)
+            self.old.lacks self.new.lacks }
     {
         let Some(place) = place_of(&self.files, name) else {
             self.lacks = self.lacks.saturating_add(1);
@@ -91,8 +99,8 @@ impl Shelf for MemShelf {
 
     fn read(&mut self, buf: &mut [u8]) -> Result<usize, Failed>
         ensures fails { is_ok result ≡ not (next_fails self.old.calls) }
-        ensures ok { OnOk result (self.new.calls ≡ one_made self.old.calls) }
-        ensures err { OnErr result (self.new.calls ≡ one_failed self.old.calls) }
+        ensures ok { OnOk result (self.new.calls ≡ after_call self.old.calls) }
+        ensures err { OnErr result (self.new.calls ≡ after_failed_call self.old.calls) }
         ensures count { IfOk result (λ count. count ≡ min (length self.old.left) (length buf.old)) }
         ensures front { IfOk result (λ count. take count buf.new ≡ take count self.old.left) }
         ensures left { IfOk result (λ count. self.new.left ≡ drop count self.old.left) }

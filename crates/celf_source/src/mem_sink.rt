@@ -1,7 +1,7 @@
 //! A sink in memory whose calls can be told to fail.
 ghost use Rattle.std.specs.Prelude.{◌≡◌, ◌≤◌, ◌++◌, length, IsTrue, IfOk, OnOk, OnErr, IsErrOf, ◌↔◌, Some};
 ghost use Rattle.celf_source.specs.Count.{Rose};
-ghost use Rattle.celf_source.specs.Calls.{next_fails, one_made, one_failed};
+ghost use Rattle.celf_source.specs.Calls.{next_fails, after_call, after_failed_call};
 ghost use Rattle.celf_source.specs.Written.{unwritten};
 
 use crate::calls::CallLog;
@@ -60,11 +60,14 @@ impl Sink for MemSink {
         ensures whole { IfOk result (λ count. count ≡ length bytes.now) }
         ensures written { OnOk result (self.new.bytes ≡ self.old.bytes ++ bytes.now) }
         ensures nothing { OnErr result (self.new.bytes ≡ self.old.bytes) }
-        ensures ok { OnOk result (self.new.calls ≡ one_made self.old.calls) }
-        ensures failed { IsErrOf result SinkFault.Failed → self.new.calls ≡ one_failed self.old.calls }
-        ensures rose { IsErrOf result SinkFault.Failed → Rose self.old.calls.faults self.new.calls.faults }
+        ensures ok { OnOk result (self.new.calls ≡ after_call self.old.calls) }
+        ensures failed { IsErrOf result SinkFault.Failed
+            → self.new.calls ≡ after_failed_call self.old.calls }
+        ensures no_memory { IsErrOf result SinkFault.NoMemory
+            → self.new.calls ≡ after_call self.old.calls }
+        ensures rose { IsErrOf result SinkFault.Failed
+            → Rose self.old.calls.faults self.new.calls.faults }
         ensures faults { self.old.calls.faults ≤ self.new.calls.faults }
-        ensures no_memory { IsErrOf result SinkFault.NoMemory → self.new.calls ≡ one_made self.old.calls }
     {
         self.calls.count()?;
         self.written.extend_from_slice(bytes)?;

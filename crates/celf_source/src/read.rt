@@ -54,16 +54,26 @@ pub fn read_all<F: Shelf>(
 ) -> Result<Vec<u8>, ReadAllFault>
     ensures whole { IfOk result (λ file. IsWhole (F.told shelf.old name.now) file.items) }
     ensures within { IfOk result (λ file. length file.items ≤ limit) }
-    ensures behind { IfOk result (λ file. StandsBehind (F.told shelf.old name.now) (length file.items) (F.left shelf.new)) }
-    ensures read_fault { IsErrOf result ReadAllFault.ReadFault → Rose (F.faults shelf.old) (F.faults shelf.new) }
-    ensures too_large { IsErrOf result ReadAllFault.TooLarge → IsLonger (F.told shelf.old name.now) limit }
+    ensures behind { IfOk result (λ file.
+        StandsBehind (F.told shelf.old name.now) (length file.items) (F.left shelf.new)) }
+
+    // It does not give up by itself: a fault has its cause.
+    ensures read_fault { IsErrOf result ReadAllFault.ReadFault
+        → Rose (F.faults shelf.old) (F.faults shelf.new) }
+    ensures too_large { IsErrOf result ReadAllFault.TooLarge
+        → IsLonger (F.told shelf.old name.now) limit }
+
+    // One byte past the limit is taken at most.
     ensures one_past { IsErrOf result ReadAllFault.TooLarge
         → StandsBehind (F.told shelf.old name.now) (limit + 1) (F.left shelf.new) }
     ensures no_memory { IsErrOf result ReadAllFault.NoMemory
-        → (taken : ℕ) × (taken ≤ limit + 1) × StandsBehind (F.told shelf.old name.now) taken (F.left shelf.new) }
-    ensures faults { F.faults shelf.old ≤ F.faults shelf.new }
+        → (taken : ℕ) × (taken ≤ limit + 1)
+        × StandsBehind (F.told shelf.old name.now) taken (F.left shelf.new) }
+
+    // No other name is opened.
     ensures lacks { CountsLack (F.told shelf.old name.now) (F.lacks shelf.old) (F.lacks shelf.new) }
     ensures told { F.told shelf.new ≡ F.told shelf.old }
+    ensures faults { F.faults shelf.old ≤ F.faults shelf.new }
 {
     shelf.open_file(name)?;
     let most = limit as usize;

@@ -1,7 +1,7 @@
 //! The shelf: where files are read.
 ghost use Rattle.std.specs.Prelude.{◌≡◌, ◌<◌, ◌≤◌, ℕ, List, [], length, Option, IfOk, OnOk, OnErr, IfSome};
 ghost use Rattle.celf_source.specs.Count.{Rose};
-ghost use Rattle.celf_source.specs.Shelf.{Told, Opened, CountsLack, ReadsNext};
+ghost use Rattle.celf_source.specs.Shelf.{Told, IsOpened, CountsLack, ReadsNext};
 
 /// A device's own failure. The device has counted it.
 #[derive(Clone, Copy, Debug, PartialEq, Eq)]
@@ -23,7 +23,7 @@ pub trait Shelf {
 
     /// Opens the file of a name, to be read from its first byte on.
     fn open_file(&mut self, name: &str) -> Result<(), Failed>
-        ensures opened { OnOk result (Opened (told self.old name.now) (left self.new)) }
+        ensures opened { OnOk result (IsOpened (told self.old name.now) (left self.new)) }
         ensures failed { OnErr result (Rose (faults self.old) (faults self.new)) }
         ensures faults { faults self.old ≤ faults self.new }
         ensures lacks { CountsLack (told self.old name.now) (lacks self.old) (lacks self.new) }

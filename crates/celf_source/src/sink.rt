@@ -49,9 +49,12 @@ pub trait Sink {
     fn write(&mut self, bytes: &[u8]) -> Result<usize, SinkFault>
         ensures within { IfOk result (λ count. count ≤ length bytes.now) }
         ensures some { IfOk result (λ count. 0 < length bytes.now → 0 < count) }
-        ensures first { IfOk result (λ count. Appends (take count bytes.now) (written self.old) (written self.new)) }
+        ensures first { IfOk result (λ count.
+            Appends (take count bytes.now) (written self.old) (written self.new)) }
         ensures nothing { OnErr result (written self.new ≡ written self.old) }
-        ensures failed { IsErrOf result SinkFault.Failed → Rose (faults self.old) (faults self.new) }
-        ensures no_memory { IsErrOf result SinkFault.NoMemory → faults self.new ≡ faults self.old }
+        ensures failed { IsErrOf result SinkFault.Failed
+            → Rose (faults self.old) (faults self.new) }
+        ensures no_memory { IsErrOf result SinkFault.NoMemory
+            → faults self.new ≡ faults self.old }
         ensures faults { faults self.old ≤ faults self.new };
 }

@@ -55,7 +55,8 @@ impl Shelf for SureShelf {
     fn read(&mut self, buf: &mut [u8]) -> Result<usize, Failed>
         ensures count { result ≡ Ok (min (length self.old.left) (length buf.old)) }
         ensures front { IfOk result (λ count. take count buf.new ≡ take count self.old.left) }
-        ensures left { IfOk result (λ count. self.new ≡ record self.old { left = drop count self.old.left }) }
+        ensures left { IfOk result (λ count.
+            self.new ≡ record self.old { left = drop count self.old.left }) }
     {
         let count = copy_front(&self.file[self.taken..], buf);
         self.taken += count;

@@ -1,6 +1,6 @@
 use crate::{
-    Failed, MemShelf, MemSink, ReadAllFault, Shelf, ShelfFile, Sink, SinkFault, SureShelf,
-    SureSink, WriteAllFault, read_all, write_all,
+    Failed, MemShelf, MemSink, ReadAllFault, Shelf, ShelfFile, SureShelf, SureSink, WriteAllFault,
+    read_all, write_all,
 };
 use clf_syntax::Name;
 use std::alloc::Global;
@@ -36,8 +36,16 @@ fn a_file_is_read_to_its_end_or_its_limit(rt: HostRuntime) -> Result<(), Fail> {
     ] {
         let mut shelf = SureShelf::new(alloc, vec![in alloc; 7u8; size]?)?;
         let file = read_all(alloc, &mut shelf, "any", limit);
-        let wanted = if fits { Ok(size) } else { Err(ReadAllFault::TooLarge) };
-        assert_eq!(rt; file.map(|bytes| bytes.len()), wanted, "{size} bytes at {limit}");
+        let wanted = if fits {
+            Ok(size)
+        } else {
+            Err(ReadAllFault::TooLarge)
+        };
+        assert_eq!(rt;
+            file.map(|bytes| bytes.len()),
+            wanted,
+            "{size} bytes at {limit}"
+        );
     }
     Ok(())
 }
@@ -55,7 +63,11 @@ fn each_call_of_a_shelf_fails_in_turn(rt: HostRuntime) -> Result<(), Fail> {
     ] {
         let mut shelf = shelf_with(alloc, failing)?;
         let file = read_all(alloc, &mut shelf, "long", 5000);
-        assert_eq!(rt; file.map(|bytes| bytes.len()), wanted, "call {failing} fails");
+        assert_eq!(rt;
+            file.map(|bytes| bytes.len()),
+            wanted,
+            "call {failing} fails"
+        );
         assert_eq!(rt; shelf.calls(), calls, "call {failing} fails");
     }
     Ok(())
@@ -86,9 +98,17 @@ fn each_call_of_a_sink_fails_in_turn(rt: HostRuntime) -> Result<(), Fail> {
         (2, Ok(()), Err(WriteAllFault::WriteFault), "one "),
     ] {
         let mut sink = MemSink::new(alloc, vec![in alloc; failing]?)?;
-        assert_eq!(rt; write_all(&mut sink, b"one "), first, "call {failing} fails");
+        assert_eq!(rt;
+            write_all(&mut sink, b"one "),
+            first,
+            "call {failing} fails"
+        );
         assert_eq!(rt; write_all(&mut sink, b""), Ok(()), "call {failing} fails");
-        assert_eq!(rt; write_all(&mut sink, b"two"), second, "call {failing} fails");
+        assert_eq!(rt;
+            write_all(&mut sink, b"two"),
+            second,
+            "call {failing} fails"
+        );
         assert_eq!(rt; sink.written(), written.as_bytes(), "call {failing} fails");
         assert_eq!(rt; sink.calls(), 2);
     }

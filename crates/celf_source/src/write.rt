@@ -1,5 +1,5 @@
 //! Writing a whole text.
-ghost use Rattle.std.specs.Prelude.{◌≡◌, ◌≤◌, OnOk, OnErr, IsErrOf};
+ghost use Rattle.std.specs.Prelude.{◌≡◌, ◌≤◌, [], IsOk, OnOk, OnErr, IsErrOf};
 ghost use Rattle.celf_source.specs.Count.{Rose};
 ghost use Rattle.celf_source.specs.Sink.{Appends, AppendsPrefix};
 
@@ -28,11 +28,17 @@ impl From<SinkFault> for WriteAllFault {
     }
 }
 
-/// Writes all of the bytes, in as many pieces as the sink asks for. Where there are none, the sink isn't called.
+/// Writes all of the bytes, in as many pieces as the sink takes. Where there are none, the sink is not called.
+///
+/// After a fault the bytes that were written before it stay written.
 pub fn write_all<W: Sink>(sink: &mut W, bytes: &[u8]) -> Result<(), WriteAllFault>
     ensures whole { OnOk result (Appends bytes.now (W.written sink.old) (W.written sink.new)) }
-    ensures prefix { OnErr result (AppendsPrefix bytes.now (W.written sink.old) (W.written sink.new)) }
-    ensures write_fault { IsErrOf result WriteAllFault.WriteFault → Rose (W.faults sink.old) (W.faults sink.new) }
+    ensures prefix { OnErr result
+        (AppendsPrefix bytes.now (W.written sink.old) (W.written sink.new)) }
+    ensures write_fault { IsErrOf result WriteAllFault.WriteFault
+        → Rose (W.faults sink.old) (W.faults sink.new) }
+    ensures nothing { bytes.now ≡ [] → IsOk result }
+    ensures idle { bytes.now ≡ [] → sink.new ≡ sink.old }
     ensures faults { W.faults sink.old ≤ W.faults sink.new }
 {
     let mut rest = bytes;

@@ -9,4 +9,4 @@ returns-then-eq-clause-place c =
     let named : c.as_str.result.now ≡ c.index-files-place.result.name = c.as_str.ensures ∙ ap (λ f. f.name) c.file.view_is in
     let found : bytes_eq c.index-files-place.result.name c.args.name.now ≡ true = rw (← named) (sym c.if-eq.ensures) in
     told_in-found c.args.files.now c.loop-place.place c.index-files-place.result c.args.name.now within
-        c.index-files-place.is c.loop-place.invariant found
+    c.index-files-place.is c.loop-place.invariant found
