@@ -8,3 +8,4 @@ pub mod Rules
 pub mod Meanings
 pub mod Lines
 pub mod Answering
+pub mod Turns

@@ -16,4 +16,6 @@ pub mod Bare
 pub mod Transcript
 pub mod Answering
 pub mod Outcome
+pub mod Turning
 pub mod Words
+pub mod Number

@@ -36,11 +36,12 @@ OnlyBlanks text at = start_of text at ≡ length text
 abbrev pub HasNoItem : List ℕ → ℕ → Type 0
 HasNoItem text at = (item : Declaration) (us : List Lexeme) → IsDeclaration nesting (tokens_from text at) item us → ⊥
 
--- the items of a text from a place on; what is not read yet is the last
-abbrev pub Items : List ℕ → ℕ → List SourceItem → Type 0
-Items text at [] = OnlyBlanks text at
-Items text at (declares item ∷ items) = IsDeclaration nesting (tokens_from text at) item (tokens_from text item.span.end) × Items text item.span.end items
-Items text at (unread start ∷ items) = HasNoItem text at × (start_of text at ≢ length text) × (start ≡ start_of text at) × (items ≡ [])
+-- Items text at items end: these items come first in the text, from the place on, and end is the place behind them.
+-- What is not read yet is the last.
+abbrev pub Items : List ℕ → ℕ → List SourceItem → ℕ → Type 0
+Items text at [] end = end ≡ at
+Items text at (declares item ∷ items) end = IsDeclaration nesting (tokens_from text at) item (tokens_from text item.span.end) × Items text item.span.end items end
+Items text at (unread start ∷ items) end = HasNoItem text at × (start_of text at ≢ length text) × (start ≡ start_of text at) × (items ≡ []) × (end ≡ length text)
 
 pub data Answer : Type 0 where
   -- the declared name and its entry
@@ -73,12 +74,16 @@ pub data Answers : PlainSignature → List SourceItem → List ℕ → Status �
   accepts : {sig last : PlainSignature} {item : SourceItem} {items : List SourceItem} {name line written : List ℕ} {entry : PlainEntry} {status : Status}
       → Allowed sig item (accepted name entry) → entry_line sig name entry ≡ Some line → Answers (sig ++ (name, entry) ∷ []) items written status last
       → Answers sig (item ∷ items) (line ++ written) status last
-  refuses : {sig : PlainSignature} {item : SourceItem} {items : List SourceItem} {at : ℕ} {why : List ℕ}
-      → Allowed sig item (refused at why) → Answers sig (item ∷ items) (refusal_line at why) Refused sig
+  refuses : {sig : PlainSignature} {item : SourceItem} {at : ℕ} {why : List ℕ}
+      → Allowed sig item (refused at why) → Answers sig (item ∷ []) (refusal_line at why) Refused sig
+
+-- Done is said only where every item is answered: nothing but blanks and comments is left.
+abbrev pub IsComplete : List ℕ → Status → ℕ → Type 0
+IsComplete text status end = status ≡ Done → OnlyBlanks text end
 
 -- The text is answered by these bytes, from a place and a signature on.
 abbrev pub TranscriptFrom : List ℕ → ℕ → PlainSignature → List ℕ → Status → PlainSignature → Type 0
-TranscriptFrom text at sig written status last = (items : List SourceItem) × Items text at items × Answers sig items written status last
+TranscriptFrom text at sig written status last = (items : List SourceItem) × (end : ℕ) × Items text at items end × IsComplete text status end × Answers sig items written status last
 
 -- The whole text is answered by these bytes; the signature starts empty.
 abbrev pub Transcript : List ℕ → List ℕ → Status → PlainSignature → Type 0

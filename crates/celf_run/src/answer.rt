@@ -37,7 +37,13 @@ pub fn answer(alloc: Global, sig: &mut Signature, item: &Item) -> Result<Answere
 }
 
 /// Answers the declaration of a name that begins at byte `start`.
-fn declare(alloc: Global, sig: &mut Signature, start: u32, name: &str, ty: &SType) -> Result<Answered, AllocError>
+fn declare(
+    alloc: Global,
+    sig: &mut Signature,
+    start: u32,
+    name: &str,
+    ty: &SType,
+) -> Result<Answered, AllocError>
     requires bare { IsBareSignature (plain_signature sig.old) }
     requires name { IsTrue (is_declarable name.now) }
     requires whole { is_kind_or_type (surface ty.now) ≡ true }
@@ -48,17 +54,26 @@ fn declare(alloc: Global, sig: &mut Signature, start: u32, name: &str, ty: &STyp
 {
     if sig.find(name).is_some() {
         let line = refusal_line(alloc, start, b"duplicate ", name.as_bytes())?;
-        return Ok(Answered { line, refused: true });
+        return Ok(Answered {
+            line,
+            refused: true,
+        });
     }
     if sig.len() == MAX_ENTRIES {
         let line = refusal_line(alloc, start, b"signature full", b"")?;
-        return Ok(Answered { line, refused: true });
+        return Ok(Answered {
+            line,
+            refused: true,
+        });
     }
     match class_meant(alloc, sig, ty) {
         Ok(class) => accepted(alloc, sig, name, class),
         Err(NoMeaning::Unknown { at, name }) => {
             let line = refusal_line(alloc, at, b"unknown name ", name.as_str().as_bytes())?;
-            Ok(Answered { line, refused: true })
+            Ok(Answered {
+                line,
+                refused: true,
+            })
         }
         Err(NoMeaning::Misplaced) => unreachable!(),
         Err(NoMeaning::NoMemory) => Err(AllocError),
@@ -66,7 +81,12 @@ fn declare(alloc: Global, sig: &mut Signature, start: u32, name: &str, ty: &STyp
 }
 
 /// Accepts a declaration: its line, and then its entry.
-fn accepted(alloc: Global, sig: &mut Signature, name: &str, class: Class) -> Result<Answered, AllocError>
+fn accepted(
+    alloc: Global,
+    sig: &mut Signature,
+    name: &str,
+    class: Class,
+) -> Result<Answered, AllocError>
     requires bare { IsBareSignature (plain_signature sig.old) }
     requires name { IsTrue (is_declarable name.now) }
     requires new { place_of name.now (plain_signature sig.old) ≡ None }
@@ -81,7 +101,10 @@ fn accepted(alloc: Global, sig: &mut Signature, name: &str, class: Class) -> Res
     let entry = Entry { implicit: 0, class };
     let line = entry_line(alloc, sig, name, &entry)?;
     match sig.add(name, entry) {
-        Ok(_) => Ok(Answered { line, refused: false }),
+        Ok(_) => Ok(Answered {
+            line,
+            refused: false,
+        }),
         Err(AddFault::NoMemory) => Err(AllocError),
         Err(AddFault::Duplicate) => unreachable!(),
         Err(AddFault::Full) => unreachable!(),

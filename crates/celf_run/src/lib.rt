@@ -5,6 +5,9 @@ mod answer;
 mod line;
 mod meaning;
 mod status;
+mod top;
+mod turn;
 mod words;
 
 pub use status::Status;
+pub use top::run;

@@ -152,7 +152,12 @@ fn push_class(out: &mut Vec<u8>, sig: &Signature, class: &Class) -> Result<(), A
 }
 
 /// The line of an entry, over the entries before it.
-pub fn entry_line(alloc: Global, sig: &Signature, name: &str, entry: &Entry) -> Result<Vec<u8>, AllocError>
+pub fn entry_line(
+    alloc: Global,
+    sig: &Signature,
+    name: &str,
+    entry: &Entry,
+) -> Result<Vec<u8>, AllocError>
     requires { IsSome (spec.entry_line (plain_signature sig.now) name.now (plain_entry entry.now)) }
     ensures { IfOk result (λ line. spec.entry_line (plain_signature sig.now) name.now (plain_entry entry.now) ≡ Some line.items) }
 {

@@ -1,4 +1,6 @@
 //! How a run ends.
+ghost use Rattle.std.specs.Prelude.{◌≡◌};
+ghost use Rattle.celf_run.specs.Number.{number_of};
 
 /// How a run ended; `number` is the program's exit status.
 #[derive(Clone, Copy, Debug, PartialEq, Eq)]
@@ -17,4 +19,21 @@ pub enum Status {
     NoMemory,
     /// The file has more than 16,777,216 bytes; nothing was written.
     TooLarge,
+}
+
+impl Status {
+    /// The exit status of the program.
+    pub fn number(self) -> u8
+        ensures { result ≡ number_of self }
+    {
+        match self {
+            Status::Done => 0,
+            Status::BadWords => 2,
+            Status::Refused => 3,
+            Status::ReadFault => 4,
+            Status::WriteFault => 5,
+            Status::NoMemory => 6,
+            Status::TooLarge => 7,
+        }
+    }
 }

@@ -20,7 +20,7 @@ returns-in_ok-push_type-in-Fun-2 t c =
     let cod = subst (λ (a : Ty). IsAppended (type_text sig Whole (plain_ty a)) o3 c.push_type-in-Fun.new.out.items) c.get-in-Fun.ensures c.in_ok-push_type-in-Fun-2.ensures in
     on_ok_weaker c.push_if-in-Fun.result
     (λ e. function-appended sig c.args.place c.args.ty.now c.in-Fun.mode c.in-Fun.dom c.in-Fun.cod c.args.out.now.items o1 c.push_type.new.out.items o3 c.push_type-in-Fun.new.out.items c.push_if-in-Fun.new.out.items
-        c.in-Fun.is opened dom arrow cod (e ∙ ap (λ b. c.push_type-in-Fun.new.out.items ++ mark b 41) c.groups_function-in-Fun.ensures))
+    c.in-Fun.is opened dom arrow cod (e ∙ ap (λ b. c.push_type-in-Fun.new.out.items ++ mark b 41) c.groups_function-in-Fun.ensures))
     c.push_if-in-Fun.ensures
 
 pub returns-in_ok-push_type-in-With-2 : goal.returns-in_ok-push_type-in-With-2
@@ -34,5 +34,5 @@ returns-in_ok-push_type-in-With-2 t c =
     let right = subst (λ (a : Ty). IsAppended (type_text sig Operand (plain_ty a)) o3 c.push_type-in-With-2.new.out.items) c.get-in-With-2.ensures c.in_ok-push_type-in-With-2.ensures in
     on_ok_weaker c.push_if-in-With-2.result
     (λ e. pair-appended sig c.args.place c.args.ty.now c.in-With.left c.in-With.right c.args.out.now.items o1 c.push_type-in-With.new.out.items o3 c.push_type-in-With-2.new.out.items c.push_if-in-With-2.new.out.items
-        c.in-With.is opened left sign right (e ∙ ap (λ b. c.push_type-in-With-2.new.out.items ++ mark b 41) c.groups_pair-in-With.ensures))
+    c.in-With.is opened left sign right (e ∙ ap (λ b. c.push_type-in-With-2.new.out.items ++ mark b 41) c.groups_pair-in-With.ensures))
     c.push_if-in-With-2.ensures

@@ -13,4 +13,4 @@ returns c =
     let text = place_text-named (plain_signature c.args.sig.now) c.args.place name (plain_entry entry) c.in-Some.ensures c.in-Some-entry.ensures.plain in
     let pushed = c.in_ok-push_if.ensures ∙ ap (λ b. out ++ mark b 36) c.has_dollar.ensures in
     c.in_ok-extend_from_slice.ensures.items ∙ ap (λ l. l ++ c.as_bytes.result.now) pushed ∙ ap (λ n. (out ++ dollar) ++ n) c.as_bytes.ensures.value
-        ∙ append_assoc out dollar name ∙ ap (λ l. out ++ l) (sym text)
+    ∙ append_assoc out dollar name ∙ ap (λ l. out ++ l) (sym text)

@@ -1,0 +1,17 @@
+-- The run has come to a place, with a bare signature, and no fault was taken back.
+use Rattle.std.proofs.Common.{◌≤◌, ◌-◌, length}
+use Rattle.clf_sig.specs.Signature.{plain_signature}
+use Rattle.celf_run.specs.Bare.{IsBareSignature}
+use Rattle.celf_run.specs.Turning.{Reached}
+use Rattle.celf_run.proofs.top.answer_all.Given as goal
+
+abbrev pub invariant-items : goal.invariant-items
+invariant-items g l = record {
+  place : l.at ≤ length l.bytes;
+  bare : IsBareSignature (plain_signature l.sig);
+  faults : g.W.Sink.faults l.fn.out ≤ g.W.Sink.faults l.out;
+  reached : Reached l.bytes l.at (plain_signature l.sig) (g.W.Sink.written l.fn.out) (g.W.Sink.written l.out);
+}
+
+abbrev pub decreases-items : goal.decreases-items
+decreases-items g l = length l.bytes - l.at
