@@ -3,6 +3,9 @@ pub mod TypeTree
 pub mod Plain
 pub mod PlainTypes
 pub mod Word
+pub mod Renaming
+pub mod Shift
+pub mod Occurs
 pub mod PlainSimple
 pub mod Simple
 pub mod Erasure

@@ -1,0 +1,48 @@
+-- Whether a free variable occurs.
+use Rattle.std.specs.Prelude.{ℕ, ◌+◌, ◌==◌, Bool, false, ◌||◌, List, [], ◌∷◌, length}
+use Rattle.std.specs.List.{list_any}
+use Rattle.clf_syntax.specs.declared.tree.Mode.{Mode}
+use Rattle.clf_syntax.specs.declared.tree.Head.{Head}
+use Rattle.clf_syntax.specs.declared.tree.Head.TheVariants.{Const, Var, Meta}
+use Rattle.clf_syntax.specs.Tree.{Object, lam, pair, unit, monadic, atomic, hole, PlainNeutral, bare, app, fst, snd, Expression, step, done, Tuple, empty, entry}
+use Rattle.clf_syntax.specs.TypeTree.{PlainType, family, function, both, top, monad, Telescope, end, binding}
+
+abbrev pub is_variable : ℕ → Head → Bool
+is_variable v (Const c) = false
+is_variable v (Var i) = i == v
+is_variable v (Meta m) = false
+
+abbrev mutual
+  pub occurs : ℕ → Object → Bool
+  occurs v (lam m b) = occurs (v + 1) b
+  occurs v (pair l r) = occurs v l || occurs v r
+  occurs v unit = false
+  occurs v (monadic e) = occurs_expression v e
+  occurs v (atomic n) = occurs_neutral v n
+  occurs v hole = false
+
+  pub occurs_neutral : ℕ → PlainNeutral → Bool
+  occurs_neutral v (bare h) = is_variable v h
+  occurs_neutral v (app m r n) = occurs_neutral v r || occurs v n
+  occurs_neutral v (fst r) = occurs_neutral v r
+  occurs_neutral v (snd r) = occurs_neutral v r
+
+  pub occurs_expression : ℕ → Expression → Bool
+  occurs_expression v (step ms r e) = occurs_neutral v r || occurs_expression (v + length ms) e
+  occurs_expression v (done t) = occurs_tuple v t
+
+  pub occurs_tuple : ℕ → Tuple → Bool
+  occurs_tuple v empty = false
+  occurs_tuple v (entry m n t) = occurs v n || occurs_tuple v t
+
+abbrev mutual
+  pub occurs_type : ℕ → PlainType → Bool
+  occurs_type v (family f ns) = list_any (occurs v) ns
+  occurs_type v (function m a b) = occurs_type v a || occurs_type (v + 1) b
+  occurs_type v (both a b) = occurs_type v a || occurs_type v b
+  occurs_type v top = false
+  occurs_type v (monad s) = occurs_telescope v s
+
+  pub occurs_telescope : ℕ → Telescope → Bool
+  occurs_telescope v end = false
+  occurs_telescope v (binding m a s) = occurs_type v a || occurs_telescope (v + 1) s

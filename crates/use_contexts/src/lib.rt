@@ -1,0 +1,10 @@
+//! Contexts, and which of their entries may still be used: holdings, and what the check of a part leaves of a row.
+#![tactic(auto)]
+
+mod context;
+mod holding;
+mod join;
+
+pub use context::Ctx;
+pub use holding::{Holding, NotHeld, State, take, weak};
+pub use join::{Differ, Left, join_add, join_seq};
