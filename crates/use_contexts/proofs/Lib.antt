@@ -1,1 +1,4 @@
 pub mod Lookups
+pub mod Bits
+pub mod Splits
+pub mod RowLaws

@@ -4,3 +4,4 @@ pub mod Context
 pub mod Holding
 pub mod Marks
 pub mod Rows
+pub mod Laws

@@ -4,7 +4,9 @@
 mod context;
 mod holding;
 mod join;
+mod laws;
 
 pub use context::Ctx;
 pub use holding::{Holding, NotHeld, State, take, weak};
 pub use join::{Differ, Left, join_add, join_seq};
+pub use laws::{rows_in_turn, rows_of_pairs};
