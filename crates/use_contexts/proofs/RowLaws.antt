@@ -144,15 +144,15 @@ pub turn-agrees : (ms : List Mode) (h l : Holding) (s : Bool) (r : Answer) (P Q 
 turn-agrees ms h l s None P Q a b = λ p w x.
     b x.1 (IsPart-second ms h l s p x.0 x.1 x.2 w (a.1 x.0 (IsPart-first ms h p x.0 x.1 x.2 w) x.3)) x.4
 turn-agrees ms h l s (Some r) P Q a b = (
-    IsPart-after ms h l r.0 a.0 b.0,
-    (λ p w x.
+  IsPart-after ms h l r.0 a.0 b.0,
+  (λ p w x.
       let u = a.1 x.0 (IsPart-first ms h p x.0 x.1 x.2 w) x.3 in
       let v = b.1 x.1 (IsPart-second ms h l s p x.0 x.1 x.2 w u) x.4 in
       turn-stands ms h l r.0 s r.1 p x.0 x.1 w.0 x.2 u v),
-    (λ p w x.
+  (λ p w x.
       let t = turn-shares ms h l r.0 s r.1 p a.0 b.0 x in
       (t.0, t.1, t.2, a.2 t.0 (IsPart-stands ms h l s t.0 t.3) t.3, b.2 t.1 (IsPart-stands ms l r.0 r.1 t.1 t.4) t.4)),
-  )
+)
 
 -- a property may be said in other words
 pub agrees-same : (ms : List Mode) (h : Holding) (r : Answer) (P Q : Holding → Type 0) → ((p : Holding) → P p → Q p) → ((p : Holding) → Q p → P p) → Agrees ms h r P → Agrees ms h r Q
@@ -250,10 +250,10 @@ pair-none : (ms : List Mode) (h : Holding) (l r : Holding) (s t : Bool) (o : Opt
     → Agrees ms h (Some (l, s)) P → Agrees ms h (Some (r, t)) Q → Agrees ms h (joined_unless o (left_in_both l r, s && t)) (λ p. P p × Q p)
 pair-none ms h l r s t (Some i) P Q e a b = λ p w x. some_here ms h l s r t p i e (a.1 p w x.0).1 (b.1 p w x.1).1
 pair-none ms h l r s t None P Q e a b = (
-    IsPart-both ms h l r a.0 b.0,
-    (λ p w x. (w.0, pair-stands ms h l s r t p a.0 b.0 e (a.1 p w x.0).1 (b.1 p w x.1).1)),
-    (λ p w x. let y = stands-pair ms h l s r t p a.0 b.0 e x.1 in (a.2 p w (w.0, y.0), b.2 p w (w.0, y.1))),
-  )
+  IsPart-both ms h l r a.0 b.0,
+  (λ p w x. (w.0, pair-stands ms h l s r t p a.0 b.0 e (a.1 p w x.0).1 (b.1 p w x.1).1)),
+  (λ p w x. let y = stands-pair ms h l s r t p a.0 b.0 e x.1 in (a.2 p w (w.0, y.0), b.2 p w (w.0, y.1))),
+)
 
 pub pair-agrees : (ms : List Mode) (h : Holding) (a b : Answer) (P Q : Holding → Type 0) → Agrees ms h a P → Agrees ms h b Q → Agrees ms h (joined ms a b) (λ p. P p × Q p)
 pair-agrees ms h None b P Q x y = λ p w z. x p w z.0
@@ -263,15 +263,15 @@ pair-agrees ms h (Some a) (Some b) P Q x y = pair-none ms h a.0 b.0 a.1 b.1 (new
 -- ---- the laws
 pub in_turn-law : InTurn
 in_turn-law ms h l r s t p a b n = (
-    (λ x. turn-shares ms h l r s t p a b x),
-    (λ x. turn-stands ms h l r s t p x.0 x.1 n x.2 x.3 x.4),
-  )
+  (λ x. turn-shares ms h l r s t p a b x),
+  (λ x. turn-stands ms h l r s t p x.0 x.1 n x.2 x.3 x.4),
+)
 
 pub in_pairs-law : InPairs
 in_pairs-law ms h l r s t p a b e = (
-    (λ x. let y = stands-pair ms h l s r t p a b e x.1 in ((x.0, y.0), (x.0, y.1))),
-    (λ x. (x.0.0, pair-stands ms h l s r t p a b e x.0.1 x.1.1)),
-  )
+  (λ x. let y = stands-pair ms h l s r t p a b e x.1 in ((x.0, y.0), (x.0, y.1))),
+  (λ x. (x.0.0, pair-stands ms h l s r t p a b e x.0.1 x.1.1)),
+)
 
 pub apart-law : Apart
 apart-law ms h l r s t p some x y = by (newest_difference ms l s r t) refl

@@ -72,7 +72,13 @@ fn newest_difference(ctx: &Ctx, first: &Left, second: &Left) -> Option<u32>
     for var in 0..ctx.len() {
         let left_first = first.row.holds(var);
         let left_second = second.row.holds(var);
-        if differs(ctx.mode(var), left_first, first.slack, left_second, second.slack) {
+        if differs(
+            ctx.mode(var),
+            left_first,
+            first.slack,
+            left_second,
+            second.slack,
+        ) {
             return Some(var as u32);
         }
     }
@@ -80,7 +86,13 @@ fn newest_difference(ctx: &Ctx, first: &Left, second: &Left) -> Option<u32>
 }
 
 /// Whether a linear entry is used on one side and left on the other, which has no slack.
-fn differs(mode: Mode, left_first: bool, slack_first: bool, left_second: bool, slack_second: bool) -> bool
+fn differs(
+    mode: Mode,
+    left_first: bool,
+    slack_first: bool,
+    left_second: bool,
+    slack_second: bool,
+) -> bool
     ensures { result ≡ differs_at mode left_first slack_first left_second slack_second }
 {
     match mode {

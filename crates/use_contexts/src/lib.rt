@@ -5,8 +5,10 @@ mod context;
 mod holding;
 mod join;
 mod laws;
+#[cfg(test)]
+mod tests;
 
 pub use context::Ctx;
 pub use holding::{Holding, NotHeld, State, take, weak};
 pub use join::{Differ, Left, join_add, join_seq};
-pub use laws::{rows_in_turn, rows_of_pairs};
+pub use laws::{rows_in_turn, rows_of_arguments, rows_of_pairs, rows_of_uses};

@@ -9,5 +9,5 @@ loop-var-preserved c = record {
   joined =
       c.loop-var.invariant.joined
       ∙ joined_more (marks c.loop-var.row) (marks c.args.second.now) c.loop-var.var c.holds.result c.loop-var.invariant.same_length c.holds.ensures
-      ∙ ap (λ r. half_joined (c.loop-var.var + 1) r (marks c.args.second.now)) (sym c.keep_if.ensures)
+      ∙ ap (λ r. half_joined (c.loop-var.var + 1) r (marks c.args.second.now)) (sym c.keep_if.ensures);
 }

@@ -8,5 +8,5 @@ use Rattle.use_contexts.proofs.join.left_in_both.Given as goal
 abbrev pub invariant-loop-var : goal.invariant-loop-var
 invariant-loop-var l = record {
   same_length : length (marks l.row) ≡ length (marks l.second);
-  joined : left_in_both (marks l.fn.first) (marks l.second) ≡ half_joined l.var (marks l.row) (marks l.second)
+  joined : left_in_both (marks l.fn.first) (marks l.second) ≡ half_joined l.var (marks l.row) (marks l.second);
 }
