@@ -1,5 +1,5 @@
 -- Blanks and comments, which stand between tokens.
-use Rattle.std.specs.Prelude.{ℕ, zero, suc, ◌+◌, ◌==◌, Bool, ◌||◌, if◌then◌else◌, List, [], ◌∷◌}
+use Rattle.std.specs.Prelude.{ℕ, ◌+◌, ◌==◌, Bool, ◌||◌, if◌then◌else◌, List, [], ◌∷◌}
 
 -- a space, a tab, a carriage return or a line feed
 abbrev pub is_blank : ℕ → Bool

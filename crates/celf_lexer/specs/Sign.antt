@@ -1,5 +1,5 @@
 -- What begins at the front of some bytes: a word, a sign, or nothing.
-use Rattle.std.specs.Prelude.{ℕ, ◌+◌, ◌==◌, nat_lt, nat_le, Bool, true, false, not, ◌&&◌, ◌||◌, if◌then◌else◌, List, [], ◌∷◌, length, take, drop, codes, Option, Some, None}
+use Rattle.std.specs.Prelude.{ℕ, ◌+◌, ◌==◌, nat_lt, Bool, false, not, ◌&&◌, ◌||◌, if◌then◌else◌, List, [], ◌∷◌, length, take, drop, codes}
 use Rattle.celf_lexer.specs.declared.token.TokenKind.{TokenKind}
 use Rattle.celf_lexer.specs.declared.token.TokenKind.TheVariants as kind
 use Rattle.clf_syntax.specs.Word.{begins_word, goes_on, name_byte_first, is_name, is_capital, same_bytes, all_digits}
@@ -13,6 +13,14 @@ rest_length (b ∷ bs) = if goes_on b bs then 1 + rest_length bs else 0
 abbrev pub word_length : List ℕ → ℕ
 word_length [] = 0
 word_length (b ∷ bs) = if begins_word b then 1 + rest_length bs else 0
+
+-- the word that begins here, empty where none does
+abbrev pub word_here : List ℕ → List ℕ
+word_here bytes = take (word_length bytes) bytes
+
+-- what follows the word that begins here
+abbrev pub after_word : List ℕ → List ℕ
+after_word bytes = drop (word_length bytes) bytes
 
 -- Some kind, and how many bytes the token has; a word that is too long; or no token.
 pub data Front : Type 0 where
@@ -52,12 +60,11 @@ abbrev pub constant_front : List ℕ → Front
 constant_front word = if is_name word then of_word 1 word kind.ConstName else bad
 
 -- behind a #: a projection or a directive
+abbrev pub hash_kind : List ℕ → TokenKind
+hash_kind word = if same_bytes word (codes "1") then kind.Proj1 else if same_bytes word (codes "2") then kind.Proj2 else kind.Directive
+
 abbrev pub hash_front : List ℕ → Front
-hash_front word =
-    if length word == 0 then bad
-    else if same_bytes word (codes "1") then token kind.Proj1 2
-    else if same_bytes word (codes "2") then token kind.Proj2 2
-    else of_word 1 word kind.Directive
+hash_front word = if length word == 0 then bad else of_word 1 word (hash_kind word)
 
 -- the signs and their spellings, the longer ones first
 abbrev pub signs : List (List ℕ × TokenKind)
@@ -68,9 +75,12 @@ signs =
     ∷ (codes ",", kind.Comma) ∷ (codes ".", kind.Stop) ∷ (codes ":", kind.Colon) ∷ (codes "=", kind.Equals) ∷ (codes "\\", kind.Backslash)
     ∷ (codes "!", kind.Bang) ∷ (codes "@", kind.AtSign) ∷ (codes "*", kind.Star) ∷ (codes "&", kind.Amp) ∷ []
 
--- -o is a sign where no name byte follows it.
+-- -o is a sign where no name byte follows it; the other signs may stand before all bytes.
+abbrev pub may_stand : List ℕ → List ℕ → Bool
+may_stand spelling after = not (same_bytes spelling (codes "-o") && name_byte_first after)
+
 abbrev pub fits : List ℕ → List ℕ → Bool
-fits spelling bytes = same_bytes (take (length spelling) bytes) spelling && not (same_bytes spelling (codes "-o") && name_byte_first (drop 2 bytes))
+fits spelling bytes = same_bytes (take (length spelling) bytes) spelling && may_stand spelling (drop (length spelling) bytes)
 
 -- the first sign of the table that fits, which is the longest
 abbrev pub sign_front : List (List ℕ × TokenKind) → List ℕ → Front
@@ -81,7 +91,7 @@ sign_front (s ∷ ss) bytes = if fits s.0 bytes then token s.1 (length s.0) else
 unfoldable pub front : List ℕ → Front
 front [] = token kind.End 0
 front (b ∷ bs) =
-    if begins_word b then word_front (take (word_length (b ∷ bs)) (b ∷ bs)) (drop (word_length (b ∷ bs)) (b ∷ bs))
-    else if b == 36 then constant_front (take (word_length bs) bs)
-    else if b == 35 then hash_front (take (word_length bs) bs)
+    if begins_word b then word_front (word_here (b ∷ bs)) (after_word (b ∷ bs))
+    else if b == 36 then constant_front (word_here bs)
+    else if b == 35 then hash_front (word_here bs)
     else sign_front signs (b ∷ bs)

@@ -14,6 +14,11 @@ placed at (token k n) = Ok (record { kind = k; start = at; end = at + n })
 placed at long = Err (LongName at)
 placed at bad = Err (BadByte at)
 
+-- the byte at which a fault is told
+abbrev pub fault_byte : LexFault → ℕ
+fault_byte (BadByte b) = b
+fault_byte (LongName b) = b
+
 -- the first token of the bytes that stand at this place
 unfoldable pub first_of : ℕ → List ℕ → Result Token LexFault
 first_of at bytes = placed (at + gap bytes) (front (drop (gap bytes) bytes))

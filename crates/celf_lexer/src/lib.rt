@@ -1,6 +1,15 @@
 //! The tokens of a text.
 #![tactic(auto)]
 
+mod gap;
+mod laws;
+mod scan;
+mod sign;
+#[cfg(test)]
+mod tests;
 mod token;
+mod word;
 
+pub use laws::longest_spelling_begins;
+pub use scan::next;
 pub use token::{LexFault, Token, TokenKind};

@@ -30,6 +30,22 @@ abbrev pub is_amp : TokenKind → Bool
 is_amp Amp = true
 is_amp _ = false
 
+abbrev pub is_close : TokenKind → Bool
+is_close RightParen = true
+is_close _ = false
+
+abbrev pub is_colon : TokenKind → Bool
+is_colon Colon = true
+is_colon _ = false
+
+abbrev pub is_stop : TokenKind → Bool
+is_stop Stop = true
+is_stop _ = false
+
+abbrev pub is_name_kind : TokenKind → Bool
+is_name_kind (Name c) = true
+is_name_kind _ = false
+
 -- The next token is not of these kinds: a repetition takes as much as it can.
 abbrev pub Ends : (TokenKind → Bool) → List Lexeme → Type 0
 Ends kinds [] = Unit {0}
@@ -43,12 +59,12 @@ mutual
   pub data IsType : ℕ → List Lexeme → Surface → List Lexeme → ℕ → Type 0 where
     alone : {n m : ℕ} {ts us : List Lexeme} {a : Surface} → IsWith n ts a us m → Ends is_arrow us → IsType n ts a us m
     arrows : {n m p : ℕ} {ts us vs : List Lexeme} {t : Lexeme} {k : Arrow} {a b : Surface}
-      → IsWith n ts a (t ∷ us) (suc m) → arrow_of t.kind ≡ Some k → IsType m us b vs p → IsType n ts (arrow k a b) vs p
+        → IsWith n ts a (t ∷ us) (suc m) → arrow_of t.kind ≡ Some k → IsType m us b vs p → IsType n ts (arrow k a b) vs p
 
   pub data IsWith : ℕ → List Lexeme → Surface → List Lexeme → ℕ → Type 0 where
     single : {n : ℕ} {ts us : List Lexeme} {a : Surface} → IsAtom n ts a us → Ends is_amp us → IsWith n ts a us n
     paired : {n m : ℕ} {ts us vs : List Lexeme} {t : Lexeme} {a b : Surface}
-      → IsAtom (suc n) ts a (t ∷ us) → t.kind ≡ Amp → IsWith n us b vs m → IsWith (suc n) ts (both a b) vs m
+        → IsAtom (suc n) ts a (t ∷ us) → t.kind ≡ Amp → IsWith n us b vs m → IsWith (suc n) ts (both a b) vs m
 
   -- An atom leaves no part open.
   pub data IsAtom : ℕ → List Lexeme → Surface → List Lexeme → Type 0 where
@@ -57,7 +73,7 @@ mutual
     constant : {n : ℕ} {t : Lexeme} {us : List Lexeme} → t.kind ≡ ConstName → IsAtom n (t ∷ us) (named (drop 1 t.spelling) true (span_of t)) us
     unit : {n : ℕ} {t : Lexeme} {us : List Lexeme} → t.kind ≡ TopSign → IsAtom n (t ∷ us) top us
     grouped : {n m : ℕ} {t s : Lexeme} {us vs : List Lexeme} {a : Surface}
-      → t.kind ≡ LeftParen → IsType n us a (s ∷ vs) m → s.kind ≡ RightParen → IsAtom (suc n) (t ∷ us) a vs
+        → t.kind ≡ LeftParen → IsType n us a (s ∷ vs) m → s.kind ≡ RightParen → IsAtom (suc n) (t ∷ us) a vs
 
 -- The word `type` stands only as the whole.
 abbrev pub is_kind_or_type : Surface → Bool
@@ -70,5 +86,5 @@ is_kind_or_type top = true
 -- The tokens begin with a declaration of at most n nested parts, and the tokens us follow its full stop.
 pub data IsDeclaration : ℕ → List Lexeme → Declaration → List Lexeme → Type 0 where
   declared : {n m : ℕ} {x c s : Lexeme} {ts us : List Lexeme} {b : Bool} {a : Surface}
-    → x.kind ≡ Name b → c.kind ≡ Colon → IsType n ts a (s ∷ us) m → s.kind ≡ Stop → is_kind_or_type a ≡ true
-    → IsDeclaration n (x ∷ c ∷ ts) (record { name = x.spelling; ty = a; span = record { start = x.start; end = s.start + 1 } }) us
+      → x.kind ≡ Name b → c.kind ≡ Colon → IsType n ts a (s ∷ us) m → s.kind ≡ Stop → is_kind_or_type a ≡ true
+      → IsDeclaration n (x ∷ c ∷ ts) (record { name = x.spelling; ty = a; span = record { start = x.start; end = s.start + length s.spelling } }) us

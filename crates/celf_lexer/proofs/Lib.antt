@@ -1,0 +1,12 @@
+pub mod Cases
+pub mod Words
+pub mod Bounds
+pub mod Tokens
+pub mod Splits
+pub mod Signs
+pub mod Longest
+pub mod Ascii
+pub mod Unique
+pub mod Names
+pub mod Spelling
+pub mod Starts

@@ -1,0 +1,5 @@
+pub mod Grammar
+pub mod Parsing
+pub mod Leaves
+pub mod Following
+pub mod Declarations

@@ -1,0 +1,105 @@
+use crate::{
+    Failed, MemShelf, MemSink, ReadAllFault, Shelf, ShelfFile, Sink, SinkFault, SureShelf,
+    SureSink, WriteAllFault, read_all, write_all,
+};
+use clf_syntax::Name;
+use std::alloc::Global;
+use std::test::Fail;
+
+fn file_of(alloc: Global, name: &str, bytes: &[u8]) -> Result<ShelfFile, Fail> {
+    Ok(ShelfFile {
+        name: Name::new(alloc, name)?,
+        bytes: bytes.to_vec(alloc)?,
+    })
+}
+
+// Two files, of which the first stands under two names; the last is hidden by the first.
+fn shelf_with(alloc: Global, failing: u64) -> Result<MemShelf, Fail> {
+    let mut files = Vec::new(alloc);
+    files.push(file_of(alloc, "long", &[7; 5000])?)?;
+    files.push(file_of(alloc, "short", b"abc")?)?;
+    files.push(file_of(alloc, "long", b"hidden")?)?;
+    Ok(MemShelf::new(alloc, files, vec![in alloc; failing]?)?)
+}
+
+#[test]
+fn a_file_is_read_to_its_end_or_its_limit(rt: HostRuntime) -> Result<(), Fail> {
+    let alloc = rt.alloc();
+    for (size, limit, fits) in [
+        (0, 0, true),
+        (1, 0, false),
+        (3, 3, true),
+        (4, 3, false),
+        (4096, 4096, true),
+        (4097, 4096, false),
+        (9000, 16_777_216, true),
+    ] {
+        let mut shelf = SureShelf::new(alloc, vec![in alloc; 7u8; size]?)?;
+        let file = read_all(alloc, &mut shelf, "any", limit);
+        let wanted = if fits { Ok(size) } else { Err(ReadAllFault::TooLarge) };
+        assert_eq!(rt; file.map(|bytes| bytes.len()), wanted, "{size} bytes at {limit}");
+    }
+    Ok(())
+}
+
+#[test]
+fn each_call_of_a_shelf_fails_in_turn(rt: HostRuntime) -> Result<(), Fail> {
+    let alloc = rt.alloc();
+    // One call opens the file, and three read 4,096 bytes, 904 bytes and the end.
+    for (failing, wanted, calls) in [
+        (1, Err(ReadAllFault::ReadFault), 1),
+        (2, Err(ReadAllFault::ReadFault), 2),
+        (3, Err(ReadAllFault::ReadFault), 3),
+        (4, Err(ReadAllFault::ReadFault), 4),
+        (5, Ok(5000), 4),
+    ] {
+        let mut shelf = shelf_with(alloc, failing)?;
+        let file = read_all(alloc, &mut shelf, "long", 5000);
+        assert_eq!(rt; file.map(|bytes| bytes.len()), wanted, "call {failing} fails");
+        assert_eq!(rt; shelf.calls(), calls, "call {failing} fails");
+    }
+    Ok(())
+}
+
+#[test]
+fn a_shelf_has_files_by_name(rt: HostRuntime) -> Result<(), Fail> {
+    let alloc = rt.alloc();
+    let mut shelf = shelf_with(alloc, 0)?;
+    let mut buf = [0; 2];
+    assert_eq!(rt; shelf.read(&mut buf), Ok(0), "nothing is open");
+    assert_eq!(rt; shelf.open_file("other"), Err(Failed));
+    assert_eq!(rt; shelf.open_file("short"), Ok(()));
+    assert_eq!(rt; shelf.read(&mut buf), Ok(2));
+    assert_eq!(rt; buf, *b"ab");
+    assert_eq!(rt; shelf.read(&mut buf), Ok(1));
+    assert_eq!(rt; buf[0], b'c');
+    assert_eq!(rt; shelf.calls(), 5);
+    Ok(())
+}
+
+#[test]
+fn each_call_of_a_sink_fails_in_turn(rt: HostRuntime) -> Result<(), Fail> {
+    let alloc = rt.alloc();
+    for (failing, first, second, written) in [
+        (0, Ok(()), Ok(()), "one two"),
+        (1, Err(WriteAllFault::WriteFault), Ok(()), "two"),
+        (2, Ok(()), Err(WriteAllFault::WriteFault), "one "),
+    ] {
+        let mut sink = MemSink::new(alloc, vec![in alloc; failing]?)?;
+        assert_eq!(rt; write_all(&mut sink, b"one "), first, "call {failing} fails");
+        assert_eq!(rt; write_all(&mut sink, b""), Ok(()), "call {failing} fails");
+        assert_eq!(rt; write_all(&mut sink, b"two"), second, "call {failing} fails");
+        assert_eq!(rt; sink.written(), written.as_bytes(), "call {failing} fails");
+        assert_eq!(rt; sink.calls(), 2);
+    }
+    Ok(())
+}
+
+#[test]
+fn a_sure_sink_takes_all(rt: HostRuntime) -> Result<(), Fail> {
+    let mut sink = SureSink::new(rt.alloc())?;
+    assert_eq!(rt; write_all(&mut sink, b"one "), Ok(()));
+    assert_eq!(rt; write_all(&mut sink, b"two"), Ok(()));
+    assert_eq!(rt; sink.written(), b"one two".as_slice());
+    Ok(())
+}

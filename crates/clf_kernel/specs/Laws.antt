@@ -1,0 +1,69 @@
+-- Laws of well-formed types and signatures, as statements; the functions of the crate's `laws` state them.
+use Rattle.std.specs.Prelude.{ℕ, ◌≡◌, ◌↔◌, Bool, true, false, ◌&&◌, List, [], ◌∷◌, ◌++◌, Option, Some, None}
+use Rattle.std.specs.List.{slice_get}
+use Rattle.clf_syntax.specs.declared.tree.Mode.{Mode}
+use Rattle.clf_syntax.specs.Tree.{Object, PlainNeutral, Expression}
+use Rattle.clf_syntax.specs.TypeTree.{PlainType, family, function, both, top, monad, Telescope, end, binding, PlainKind}
+use Rattle.use_contexts.specs.Context.{Context}
+use Rattle.use_contexts.specs.Holding.{Holding}
+use Rattle.clf_sig.specs.Entry.{PlainSignature, Declaration, names, family_kind, constant_type}
+use Rattle.clf_kernel.specs.Typing.{HasType, NeutralHasType, HasResult}
+use Rattle.clf_kernel.specs.WellFormed.{WellFormedType, WellFormedTelescope, WellFormedKind, MayFollow, WellFormedSignature}
+
+-- A family without arguments is a well-formed type exactly where the signature has it so.
+abbrev pub BareFamilies : Type 0
+BareFamilies = (sig : PlainSignature) (g : Context) (f : ℕ) → WellFormedType sig g (family f []) ↔ (family_kind sig f ≡ Some [])
+
+-- Functions, pairs and the unit of well-formed types are well formed, and have well-formed parts.
+abbrev pub CompoundTypes : Type 0
+CompoundTypes = (sig : PlainSignature) (g : Context)
+  → ((m : Mode) (a b : PlainType) → WellFormedType sig g (function m a b) ↔ (WellFormedType sig g a × WellFormedType sig ((m, a) ∷ g) b))
+  × ((a b : PlainType) → WellFormedType sig g (both a b) ↔ (WellFormedType sig g a × WellFormedType sig g b))
+  × WellFormedType sig g top
+  × ((s : Telescope) → WellFormedType sig g (monad s) ↔ WellFormedTelescope sig g s)
+
+-- whether all families of a type stand without indices
+abbrev mutual
+  pub without_indices : PlainType → Bool
+  without_indices (family f []) = true
+  without_indices (family f (n ∷ ns)) = false
+  without_indices (function m a b) = without_indices a && without_indices b
+  without_indices (both a b) = without_indices a && without_indices b
+  without_indices top = true
+  without_indices (monad s) = telescope_without_indices s
+
+  pub telescope_without_indices : Telescope → Bool
+  telescope_without_indices end = true
+  telescope_without_indices (binding m a s) = without_indices a && telescope_without_indices s
+
+-- A type without indices is well formed in every context where it is in one.
+abbrev pub AnyContext : Type 0
+AnyContext = (sig : PlainSignature) (g h : Context) (a : PlainType) → without_indices a ≡ true → WellFormedType sig g a → WellFormedType sig h a
+
+-- A well-formed signature stays well formed with one more declaration that may follow it.
+abbrev pub Extended : Type 0
+Extended = (sig : PlainSignature) (d : Declaration) → WellFormedSignature sig → MayFollow sig d → WellFormedSignature (sig ++ d ∷ [])
+
+-- A signature is well formed exactly where each declaration may follow those before it.
+abbrev pub EachFollows : Type 0
+EachFollows = (sig : PlainSignature) → WellFormedSignature sig ↔ ((earlier later : PlainSignature) (d : Declaration) → sig ≡ earlier ++ d ∷ later → MayFollow earlier d)
+
+-- In a well-formed signature no two places have the same name.
+abbrev pub NamesDiffer : Type 0
+NamesDiffer = (sig : PlainSignature) → WellFormedSignature sig → (i j : ℕ) (name : List ℕ) → slice_get (names sig) i ≡ Some name → slice_get (names sig) j ≡ Some name → i ≡ j
+
+-- What holds over a signature holds over each longer one.
+abbrev pub Weakening : Type 0
+Weakening = (sig more : PlainSignature) (g : Context)
+  → ((h : Holding) (n : Object) (a : PlainType) → HasType sig g h n a → HasType (sig ++ more) g h n a)
+  × ((h : Holding) (r : PlainNeutral) (a : PlainType) → NeutralHasType sig g h r a → NeutralHasType (sig ++ more) g h r a)
+  × ((h : Holding) (e : Expression) (s : Telescope) → HasResult sig g h e s → HasResult (sig ++ more) g h e s)
+  × ((a : PlainType) → WellFormedType sig g a → WellFormedType (sig ++ more) g a)
+  × ((s : Telescope) → WellFormedTelescope sig g s → WellFormedTelescope (sig ++ more) g s)
+  × ((k : PlainKind) → WellFormedKind sig g k → WellFormedKind (sig ++ more) g k)
+
+-- In a well-formed signature each family has a well-formed kind, and each constant a well-formed type, without variables.
+abbrev pub EntriesWellFormed : Type 0
+EntriesWellFormed = (sig : PlainSignature) → WellFormedSignature sig
+  → ((f : ℕ) (k : PlainKind) → family_kind sig f ≡ Some k → WellFormedKind sig [] k)
+  × ((c : ℕ) (a : PlainType) → constant_type sig c ≡ Some a → WellFormedType sig [] a)

@@ -1,0 +1,6 @@
+//! Typing of the concurrent logical framework.
+#![tactic(auto)]
+
+mod laws;
+
+pub use laws::{weakening, well_formed_signatures, well_formed_types};

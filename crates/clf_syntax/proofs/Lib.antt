@@ -1,0 +1,4 @@
+pub mod RenamingLaws
+pub mod TypeRenaming
+pub mod ShiftLaws
+pub mod OccursLaws

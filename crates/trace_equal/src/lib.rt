@@ -1,0 +1,2 @@
+//! Trees up to exchange of independent steps.
+#![tactic(auto)]
