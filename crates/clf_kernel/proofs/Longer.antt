@@ -1,8 +1,5 @@
 -- Judgments over a signature hold over every longer one.
-use Rattle.std.specs.Prelude.{ℕ, zero, suc, ◌+◌, ◌≡◌, Bool, true, false, List, [], ◌∷◌, ◌++◌, length, Option, Some, None, refl}
-use Rattle.std.specs.List.{slice_get}
-use Rattle.std.proofs.Common.{ap, sym, ◌∙◌}
-use Rattle.clf_syntax.specs.declared.tree.Mode.{Mode}
+use Rattle.std.specs.Prelude.{ℕ, zero, suc, ◌≡◌, true, List, [], ◌∷◌, ◌++◌, length, Some, None}
 use Rattle.clf_syntax.specs.declared.tree.Mode.TheVariants.{Persistent}
 use Rattle.clf_syntax.specs.declared.tree.Head.{Head}
 use Rattle.clf_syntax.specs.declared.tree.Head.TheVariants.{Const, Var, Meta}
@@ -11,7 +8,7 @@ use Rattle.clf_syntax.specs.TypeTree.{PlainType, family, function, both, top, mo
 use Rattle.clf_syntax.specs.Renaming.{ren_telescope, up}
 use Rattle.use_contexts.specs.Context.{Context, modes, with_entries}
 use Rattle.use_contexts.specs.Holding.{Holding, all_held, persistent_alone}
-use Rattle.clf_sig.specs.Entry.{PlainSignature, Declaration, kind_of, type_of, family_kind, constant_type}
+use Rattle.clf_sig.specs.Entry.{PlainSignature, family_kind, constant_type}
 use Rattle.clf_kernel.specs.Typing.{HeadHasType, HasType, NeutralHasType, HasResult, TupleHasType}
 use Rattle.clf_kernel.specs.WellFormed.{IndicesHaveTypes, WellFormedType, WellFormedTelescope, WellFormedKind}
 use Rattle.clf_kernel.specs.Laws.{Weakening}
@@ -19,21 +16,18 @@ use Rattle.clf_kernel.specs.Laws.{Weakening}
 -- t has what s has
 abbrev pub Kept : PlainSignature → PlainSignature → Type 0
 Kept s t = ((c : ℕ) (a : PlainType) → constant_type s c ≡ Some a → constant_type t c ≡ Some a)
-  × ((f : ℕ) (k : PlainKind) → family_kind s f ≡ Some k → family_kind t f ≡ Some k)
+    × ((f : ℕ) (k : PlainKind) → family_kind s f ≡ Some k → family_kind t f ≡ Some k)
 
-no_kind : {k : PlainKind} → kind_of None ≡ Some k → ⊥
-no_kind e = cc
-
-no_type : {a : PlainType} → type_of None ≡ Some a → ⊥
-no_type e = cc
+nothing : {X : Type 0} {x : X} → None ≡ Some x → ⊥
+nothing e = cc
 
 longer_constant : (s more : PlainSignature) (c : ℕ) (a : PlainType) → constant_type s c ≡ Some a → constant_type (s ++ more) c ≡ Some a
-longer_constant [] more c a e = absurd (no_type e)
+longer_constant [] more c a e = absurd (nothing e)
 longer_constant (d ∷ s) more zero a e = e
 longer_constant (d ∷ s) more (suc c) a e = longer_constant s more c a e
 
 longer_family : (s more : PlainSignature) (f : ℕ) (k : PlainKind) → family_kind s f ≡ Some k → family_kind (s ++ more) f ≡ Some k
-longer_family [] more f k e = absurd (no_kind e)
+longer_family [] more f k e = absurd (nothing e)
 longer_family (d ∷ s) more zero k e = e
 longer_family (d ∷ s) more (suc f) k e = longer_family s more f k e
 
@@ -62,7 +56,7 @@ mutual
 
   pub kept_expression : (s t : PlainSignature) → Kept s t → (x : Expression) (g : Context) (h : Holding) (u : Telescope) → HasResult s g h x u → HasResult t g h x u
   kept_expression s t e (step ms r x) g h u p = let (v, h1, h2, q, w, y, z) = p in
-    (v, h1, h2, q, kept_neutral s t e r g h1 (monad v) w, y, kept_expression s t e x (with_entries v g) (all_held ms h2) (ren_telescope (up (length ms)) u) z)
+      (v, h1, h2, q, kept_neutral s t e r g h1 (monad v) w, y, kept_expression s t e x (with_entries v g) (all_held ms h2) (ren_telescope (up (length ms)) u) z)
   kept_expression s t e (done x) g h u p = kept_tuple s t e x g h u p
 
   pub kept_tuple : (s t : PlainSignature) → Kept s t → (x : Tuple) (g : Context) (h : Holding) (u : Telescope) → TupleHasType s g h x u → TupleHasType t g h x u
@@ -92,6 +86,11 @@ kept_kind s t e [] g p = p
 kept_kind s t e (a ∷ k) g p = (kept_type s t e a g p.0, kept_kind s t e k ((Persistent, a) ∷ g) p.1)
 
 pub weakening : Weakening
-weakening s more g =
-  ( (λ h n a p. kept_object s (s ++ more) (longer s more) n g h a p), (λ h r a p. kept_neutral s (s ++ more) (longer s more) r g h a p), (λ h x u p. kept_expression s (s ++ more) (longer s more) x g h u p)
-  , (λ a p. kept_type s (s ++ more) (longer s more) a g p), (λ u p. kept_telescope s (s ++ more) (longer s more) u g p), (λ k p. kept_kind s (s ++ more) (longer s more) k g p))
+weakening s more g = (
+  (λ h n a p. kept_object s (s ++ more) (longer s more) n g h a p),
+  (λ h r a p. kept_neutral s (s ++ more) (longer s more) r g h a p),
+  (λ h x u p. kept_expression s (s ++ more) (longer s more) x g h u p),
+  (λ a p. kept_type s (s ++ more) (longer s more) a g p),
+  (λ u p. kept_telescope s (s ++ more) (longer s more) u g p),
+  (λ k p. kept_kind s (s ++ more) (longer s more) k g p),
+)

@@ -1,14 +1,12 @@
 -- Well-formed signatures, declaration by declaration.
-use Rattle.std.specs.Prelude.{ℕ, zero, suc, ◌≡◌, ◌↔◌, Bool, true, false, ◌&&◌, List, [], ◌∷◌, ◌++◌, map, Option, Some, None, Contains, refl}
+use Rattle.std.specs.Prelude.{ℕ, zero, suc, ◌≡◌, Bool, true, false, ◌&&◌, List, [], ◌∷◌, ◌++◌, Some, None, Contains, refl}
 use Rattle.std.specs.List.{slice_get}
 use Rattle.std.proofs.Common.{ap, sym, subst, ◌∙◌}
 use Rattle.std.proofs.lemmas.List.Elements.{Contains-push, Contains-append_left}
-use Rattle.clf_syntax.specs.declared.tree.Mode.{Mode}
-use Rattle.clf_syntax.specs.Tree.{Object}
 use Rattle.clf_syntax.specs.TypeTree.{PlainType, family, function, both, top, monad, Telescope, end, binding, PlainKind}
 use Rattle.use_contexts.specs.Context.{Context}
-use Rattle.clf_sig.specs.Entry.{PlainSignature, Declaration, PlainClass, family_of, constant_of, kind_in, type_in, kind_of, type_of, names, family_kind, constant_type}
-use Rattle.clf_kernel.specs.WellFormed.{IndicesHaveTypes, WellFormedType, WellFormedTelescope, WellFormedKind, WellFormedClass, MayFollow, AllMayFollow, WellFormedSignature}
+use Rattle.clf_sig.specs.Entry.{PlainSignature, Declaration, PlainClass, family_of, constant_of, kind_in, type_in, names, family_kind, constant_type}
+use Rattle.clf_kernel.specs.WellFormed.{IndicesHaveTypes, WellFormedType, WellFormedTelescope, WellFormedKind, WellFormedClass, MayFollow, AllMayFollow}
 use Rattle.clf_kernel.specs.Laws.{BareFamilies, CompoundTypes, without_indices, telescope_without_indices, AnyContext, Extended, EachFollows, NamesDiffer, EntriesWellFormed}
 use Rattle.clf_kernel.proofs.Longer.{longer, kept_type, kept_kind, weakening}
 
@@ -67,8 +65,10 @@ follows s (x ∷ b) a d p = subst (λ k. MayFollow k d) (one_more s x b) (follow
 
 all_follow : (s l : PlainSignature) → ((b a : PlainSignature) (d : Declaration) → l ≡ b ++ d ∷ a → MayFollow (s ++ b) d) → AllMayFollow s l
 all_follow s [] h = tt
-all_follow s (x ∷ l) h = (subst (λ k. MayFollow k x) (no_more s) (h [] l x refl),
-  all_follow (s ++ x ∷ []) l (λ b a d e. subst (λ k. MayFollow k d) (sym (one_more s x b)) (h (x ∷ b) a d (ap (λ k. x ∷ k) e))))
+all_follow s (x ∷ l) h = (
+  subst (λ k. MayFollow k x) (no_more s) (h [] l x refl),
+  all_follow (s ++ x ∷ []) l (λ b a d e. subst (λ k. MayFollow k d) (sym (one_more s x b)) (h (x ∷ b) a d (ap (λ k. x ∷ k) e))),
+)
 
 pub each_follows : EachFollows
 each_follows sig = ((λ p b a d e. follows [] b a d (subst (λ l. AllMayFollow [] l) e p)), (λ h. all_follow [] sig h))

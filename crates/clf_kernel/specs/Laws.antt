@@ -1,5 +1,5 @@
 -- Laws of well-formed types and signatures, as statements; the functions of the crate's `laws` state them.
-use Rattle.std.specs.Prelude.{ℕ, ◌≡◌, ◌↔◌, Bool, true, false, ◌&&◌, List, [], ◌∷◌, ◌++◌, Option, Some, None}
+use Rattle.std.specs.Prelude.{ℕ, ◌≡◌, ◌↔◌, Bool, true, false, ◌&&◌, List, [], ◌∷◌, ◌++◌, Some}
 use Rattle.std.specs.List.{slice_get}
 use Rattle.clf_syntax.specs.declared.tree.Mode.{Mode}
 use Rattle.clf_syntax.specs.Tree.{Object, PlainNeutral, Expression}
@@ -8,7 +8,9 @@ use Rattle.use_contexts.specs.Context.{Context}
 use Rattle.use_contexts.specs.Holding.{Holding}
 use Rattle.clf_sig.specs.Entry.{PlainSignature, Declaration, names, family_kind, constant_type}
 use Rattle.clf_kernel.specs.Typing.{HasType, NeutralHasType, HasResult}
-use Rattle.clf_kernel.specs.WellFormed.{WellFormedType, WellFormedTelescope, WellFormedKind, MayFollow, WellFormedSignature}
+use Rattle.clf_kernel.specs.WellFormed.{WellFormedType, WellFormedTelescope, WellFormedKind, WellFormedContext, MayFollow, WellFormedSignature}
+use Rattle.clf_kernel.specs.Clean.{IsNotPersistent, CleanType, CleanTelescope, CleanContext}
+use Rattle.clf_syntax.specs.Occurs.{occurs, occurs_type, occurs_telescope}
 
 -- A family without arguments is a well-formed type exactly where the signature has it so.
 abbrev pub BareFamilies : Type 0
@@ -17,10 +19,10 @@ BareFamilies = (sig : PlainSignature) (g : Context) (f : ℕ) → WellFormedType
 -- Functions, pairs and the unit of well-formed types are well formed, and have well-formed parts.
 abbrev pub CompoundTypes : Type 0
 CompoundTypes = (sig : PlainSignature) (g : Context)
-  → ((m : Mode) (a b : PlainType) → WellFormedType sig g (function m a b) ↔ (WellFormedType sig g a × WellFormedType sig ((m, a) ∷ g) b))
-  × ((a b : PlainType) → WellFormedType sig g (both a b) ↔ (WellFormedType sig g a × WellFormedType sig g b))
-  × WellFormedType sig g top
-  × ((s : Telescope) → WellFormedType sig g (monad s) ↔ WellFormedTelescope sig g s)
+    → ((m : Mode) (a b : PlainType) → WellFormedType sig g (function m a b) ↔ (WellFormedType sig g a × WellFormedType sig ((m, a) ∷ g) b))
+    × ((a b : PlainType) → WellFormedType sig g (both a b) ↔ (WellFormedType sig g a × WellFormedType sig g b))
+    × WellFormedType sig g top
+    × ((s : Telescope) → WellFormedType sig g (monad s) ↔ WellFormedTelescope sig g s)
 
 -- whether all families of a type stand without indices
 abbrev mutual
@@ -55,15 +57,26 @@ NamesDiffer = (sig : PlainSignature) → WellFormedSignature sig → (i j : ℕ)
 -- What holds over a signature holds over each longer one.
 abbrev pub Weakening : Type 0
 Weakening = (sig more : PlainSignature) (g : Context)
-  → ((h : Holding) (n : Object) (a : PlainType) → HasType sig g h n a → HasType (sig ++ more) g h n a)
-  × ((h : Holding) (r : PlainNeutral) (a : PlainType) → NeutralHasType sig g h r a → NeutralHasType (sig ++ more) g h r a)
-  × ((h : Holding) (e : Expression) (s : Telescope) → HasResult sig g h e s → HasResult (sig ++ more) g h e s)
-  × ((a : PlainType) → WellFormedType sig g a → WellFormedType (sig ++ more) g a)
-  × ((s : Telescope) → WellFormedTelescope sig g s → WellFormedTelescope (sig ++ more) g s)
-  × ((k : PlainKind) → WellFormedKind sig g k → WellFormedKind (sig ++ more) g k)
+    → ((h : Holding) (n : Object) (a : PlainType) → HasType sig g h n a → HasType (sig ++ more) g h n a)
+    × ((h : Holding) (r : PlainNeutral) (a : PlainType) → NeutralHasType sig g h r a → NeutralHasType (sig ++ more) g h r a)
+    × ((h : Holding) (e : Expression) (s : Telescope) → HasResult sig g h e s → HasResult (sig ++ more) g h e s)
+    × ((a : PlainType) → WellFormedType sig g a → WellFormedType (sig ++ more) g a)
+    × ((s : Telescope) → WellFormedTelescope sig g s → WellFormedTelescope (sig ++ more) g s)
+    × ((k : PlainKind) → WellFormedKind sig g k → WellFormedKind (sig ++ more) g k)
 
 -- In a well-formed signature each family has a well-formed kind, and each constant a well-formed type, without variables.
 abbrev pub EntriesWellFormed : Type 0
 EntriesWellFormed = (sig : PlainSignature) → WellFormedSignature sig
-  → ((f : ℕ) (k : PlainKind) → family_kind sig f ≡ Some k → WellFormedKind sig [] k)
-  × ((c : ℕ) (a : PlainType) → constant_type sig c ≡ Some a → WellFormedType sig [] a)
+    → ((f : ℕ) (k : PlainKind) → family_kind sig f ≡ Some k → WellFormedKind sig [] k)
+    × ((c : ℕ) (a : PlainType) → constant_type sig c ≡ Some a → WellFormedType sig [] a)
+
+-- A typed object mentions held variables alone.
+abbrev pub MentionsHeldAlone : Type 0
+MentionsHeldAlone = (sig : PlainSignature) (g : Context) (h : Holding) (n : Object) (a : PlainType) → HasType sig g h n a → (i : ℕ) → slice_get h i ≡ Some false → occurs i n ≡ false
+
+-- What is well formed is clean, and mentions no linear or affine variable of the context.
+abbrev pub WellFormedIsClean : Type 0
+WellFormedIsClean = (sig : PlainSignature) (g : Context)
+    → ((a : PlainType) → WellFormedType sig g a → CleanType a × ((i : ℕ) → IsNotPersistent g i → occurs_type i a ≡ false))
+    × ((s : Telescope) → WellFormedTelescope sig g s → CleanTelescope s × ((i : ℕ) → IsNotPersistent g i → occurs_telescope i s ≡ false))
+    × (WellFormedContext sig g → CleanContext g)

@@ -5,6 +5,7 @@ pub use Rattle.clf_syntax.specs.PlainTypes
 pub use Rattle.clf_syntax.specs.Word
 pub use Rattle.clf_syntax.specs.Simple
 pub use Rattle.clf_syntax.specs.Renaming
+pub use Rattle.clf_syntax.specs.Occurs
 pub use Rattle.use_contexts.specs.Context
 pub use Rattle.use_contexts.specs.Holding
 pub use Rattle.hered_subst.specs.Substitution
@@ -12,4 +13,5 @@ pub use Rattle.trace_equal.specs.Exchange
 pub use Rattle.clf_sig.specs.Entry
 pub mod Typing
 pub mod WellFormed
+pub mod Clean
 pub mod Laws

@@ -1,8 +1,7 @@
 -- Well-formed kinds, types, telescopes and contexts; types that mention persistent variables alone; and well-formed signatures.
 -- They are the formation rules of the report CMU-CS-02-101 for kinds, types, contexts and signatures. This project's own are
 -- the affine mode, telescopes, and a function that binds a variable in its second type whatever its mode.
-use Rattle.std.specs.Prelude.{ℕ, zero, suc, ◌+◌, ◌≡◌, ◌≤◌, Bool, true, false, not, ◌&&◌, List, [], ◌∷◌, ◌++◌, map, length, Option, Some, None, Contains}
-use Rattle.clf_syntax.specs.declared.tree.Mode.{Mode}
+use Rattle.std.specs.Prelude.{ℕ, ◌+◌, ◌≡◌, ◌≤◌, true, List, [], ◌∷◌, ◌++◌, length, Some, Contains}
 use Rattle.clf_syntax.specs.declared.tree.Mode.TheVariants.{Persistent, Affine, Linear}
 use Rattle.clf_syntax.specs.Tree.{Object}
 use Rattle.clf_syntax.specs.TypeTree.{PlainType, family, function, both, top, monad, Telescope, end, binding, PlainKind}

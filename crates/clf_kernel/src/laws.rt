@@ -1,5 +1,5 @@
 //! Laws of the rules, each stated by a function that does nothing.
-ghost use Rattle.clf_kernel.specs.Laws.{AnyContext, BareFamilies, CompoundTypes, EachFollows, EntriesWellFormed, Extended, NamesDiffer, Weakening};
+ghost use Rattle.clf_kernel.specs.Laws.{AnyContext, BareFamilies, CompoundTypes, EachFollows, EntriesWellFormed, Extended, MentionsHeldAlone, NamesDiffer, Weakening, WellFormedIsClean};
 
 /// Which types are well formed: families without arguments, functions, pairs, the unit and monads.
 #[tactic(auto, using(crate::proofs::Signatures::signature_laws))]
@@ -7,8 +7,7 @@ pub fn well_formed_types()
     ensures families { BareFamilies }
     ensures compound { CompoundTypes }
     ensures context { AnyContext }
-{
-}
+{}
 
 /// A well-formed signature grows by declarations that may follow it, and no two of its names are the same.
 #[tactic(auto, using(crate::proofs::Signatures::signature_laws))]
@@ -17,12 +16,17 @@ pub fn well_formed_signatures()
     ensures each { EachFollows }
     ensures names { NamesDiffer }
     ensures entries { EntriesWellFormed }
-{
-}
+{}
 
 /// What holds over a signature holds over each longer one.
 #[tactic(auto, using(crate::proofs::Signatures::signature_laws))]
 pub fn weakening()
     ensures { Weakening }
-{
-}
+{}
+
+/// Linear and affine variables occur in no well-formed type.
+#[tactic(auto, using(crate::proofs::Held::clean_laws))]
+pub fn clean()
+    ensures objects { MentionsHeldAlone }
+    ensures types { WellFormedIsClean }
+{}

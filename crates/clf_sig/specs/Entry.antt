@@ -1,6 +1,6 @@
 -- The plain signature: named entries in declared order, each a family with its kind or a constant with its type.
 use Rattle.std.specs.Prelude.{ℕ, zero, suc, if◌then◌else◌, List, [], ◌∷◌, Option, Some, None, slice_get, map, Contains, AllPairs, ◌≢◌}
-use Rattle.std.specs.Option.{option_map}
+use Rattle.std.specs.Option.{option_map, option_and_then}
 use Rattle.clf_syntax.specs.Word.{same_bytes}
 use Rattle.clf_syntax.specs.TypeTree.{PlainKind, PlainType, SimpleType, one}
 use Rattle.clf_syntax.specs.Simple.{erase}
@@ -14,7 +14,7 @@ pub record PlainEntry : Type 0 where
   pub implicit : ℕ
   pub class : PlainClass
 
--- A declaration is the bytes of a name, and an entry.
+-- a declaration: the bytes of its name, and its entry
 abbrev pub Declaration : Type 0
 Declaration = List ℕ × PlainEntry
 
@@ -39,17 +39,13 @@ abbrev pub place_of : List ℕ → PlainSignature → Option ℕ
 place_of name [] = None
 place_of name (e ∷ es) = if same_bytes e.0 name then Some 0 else option_map suc (place_of name es)
 
+-- the entry at a place
+abbrev pub entry_at : PlainSignature → ℕ → Option PlainEntry
+entry_at sig k = option_map (λ e. e.1) (slice_get sig k)
+
 -- the class of the entry at a place
 abbrev pub class_at : PlainSignature → ℕ → Option PlainClass
 class_at sig k = option_map (λ e. e.1.class) (slice_get sig k)
-
--- the entry at a place, where the signature is that long
-abbrev pub entry_of : Option Declaration → Option PlainEntry
-entry_of None = None
-entry_of (Some d) = Some d.1
-
-abbrev pub entry_at : PlainSignature → ℕ → Option PlainEntry
-entry_at sig k = entry_of (slice_get sig k)
 
 abbrev pub kind_in : PlainClass → Option PlainKind
 kind_in (family_of k) = Some k
@@ -59,21 +55,13 @@ abbrev pub type_in : PlainClass → Option PlainType
 type_in (family_of k) = None
 type_in (constant_of a) = Some a
 
-abbrev pub kind_of : Option Declaration → Option PlainKind
-kind_of None = None
-kind_of (Some d) = kind_in d.1.class
-
-abbrev pub type_of : Option Declaration → Option PlainType
-type_of None = None
-type_of (Some d) = type_in d.1.class
-
 -- the kind of the family at a place, where a family stands there
 abbrev pub family_kind : PlainSignature → ℕ → Option PlainKind
-family_kind sig f = kind_of (slice_get sig f)
+family_kind sig f = option_and_then kind_in (class_at sig f)
 
 -- the type of the constant at a place, where a constant stands there
 abbrev pub constant_type : PlainSignature → ℕ → Option PlainType
-constant_type sig c = type_of (slice_get sig c)
+constant_type sig c = option_and_then type_in (class_at sig c)
 
 -- the simple type of a class: a constant has that of its type, and <T> stands for that of a family
 abbrev pub simple_class : PlainClass → SimpleType

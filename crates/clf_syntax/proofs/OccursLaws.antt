@@ -1,7 +1,6 @@
 -- Occurrence and renaming.
-use Rattle.std.specs.Prelude.{ℕ, zero, suc, ◌+◌, ◌-◌, ◌≡◌, ◌<◌, ◌≤◌, ◌⊎◌, ◌||◌, nat_eq, Bool, true, false, nat_lt, nat_le, if◌then◌else◌, List, length, refl}
+use Rattle.std.specs.Prelude.{ℕ, ◌+◌, ◌-◌, ◌≡◌, ◌<◌, ◌≤◌, ◌⊎◌, ◌||◌, nat_eq, Bool, true, false, length, refl}
 use Rattle.std.proofs.Common.{ap, sym, subst, ◌∙◌, arith, inl, inr, ⊎_elim}
-use Rattle.clf_syntax.specs.declared.tree.Mode.{Mode}
 use Rattle.clf_syntax.specs.declared.tree.Head.TheVariants.{Const, Var, Meta}
 use Rattle.clf_syntax.specs.Tree.{Object, lam, pair, unit, monadic, atomic, hole, PlainNeutral, bare, app, fst, snd, Expression, step, done, Tuple, empty, entry}
 use Rattle.clf_syntax.specs.Renaming.{Renumbering, lifted, ren, ren_neutral, ren_expression, ren_tuple, up, down}
@@ -62,7 +61,7 @@ mutual
 
   pub agreeing_expression : (r s : Renumbering) (o : Expression) → ((i : ℕ) → occurs_expression i o ≡ true → r i ≡ s i) → ren_expression r o ≡ ren_expression s o
   agreeing_expression r s (step ms x e) h = binds ms (agreeing_neutral r s x (λ i k. h i (or_first (occurs_neutral i x) (occurs_expression (i + length ms) e) k)))
-    (agreeing_expression (lifted (length ms) r) (lifted (length ms) s) e (lift_agrees (length ms) r s (λ i. occurs_expression i e ≡ true) (λ i k. h i (or_second (occurs_neutral i x) (occurs_expression (i + length ms) e) k))))
+      (agreeing_expression (lifted (length ms) r) (lifted (length ms) s) e (lift_agrees (length ms) r s (λ i. occurs_expression i e ≡ true) (λ i k. h i (or_second (occurs_neutral i x) (occurs_expression (i + length ms) e) k))))
   agreeing_expression r s (done t) h = ap done (agreeing_tuple r s t h)
 
   pub agreeing_tuple : (r s : Renumbering) (o : Tuple) → ((i : ℕ) → occurs_tuple i o ≡ true → r i ≡ s i) → ren_tuple r o ≡ ren_tuple s o
@@ -74,6 +73,7 @@ unlift n r i j e = ⊎_elim (λ k. absurd (low k)) (λ k. (k, high k)) (cut j n)
   where
     low : j < n → ⊥
     low k = let f : j ≡ i + n = sym (lift_in n r j k) ∙ e in omega arith
+
     high : n ≤ j → r (j - n) ≡ i
     high k = let f : r (j - n) + n ≡ i + n = sym (lift_out n r j k) ∙ e in omega arith
 
@@ -112,8 +112,8 @@ mutual
 
   pub source_expression : (r : Renumbering) (o : Expression) (i : ℕ) → occurs_expression i (ren_expression r o) ≡ true → Source r i (λ j. occurs_expression j o)
   source_expression r (step ms x y) i e = ⊎_elim (λ k. from_first r i (λ j. occurs_neutral j x) (λ j. occurs_expression (j + length ms) y) (source_neutral r x i k))
-    (λ k. from_second r i (λ j. occurs_neutral j x) (λ j. occurs_expression (j + length ms) y) (from_under (length ms) r i (λ j. occurs_expression j y) (source_expression (lifted (length ms) r) y (i + length ms) k)))
-    (either (occurs_neutral i (ren_neutral r x)) (occurs_expression (i + length ms) (ren_expression (lifted (length ms) r) y)) e)
+      (λ k. from_second r i (λ j. occurs_neutral j x) (λ j. occurs_expression (j + length ms) y) (from_under (length ms) r i (λ j. occurs_expression j y) (source_expression (lifted (length ms) r) y (i + length ms) k)))
+      (either (occurs_neutral i (ren_neutral r x)) (occurs_expression (i + length ms) (ren_expression (lifted (length ms) r) y)) e)
   source_expression r (done t) i e = source_tuple r t i e
 
   pub source_tuple : (r : Renumbering) (o : Tuple) (i : ℕ) → occurs_tuple i (ren_tuple r o) ≡ true → Source r i (λ j. occurs_tuple j o)

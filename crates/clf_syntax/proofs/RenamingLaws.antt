@@ -1,10 +1,10 @@
 -- Laws of renaming.
-use Rattle.std.specs.Prelude.{ℕ, ◌+◌, ◌-◌, ◌≡◌, ◌<◌, ◌≤◌, ◌⊎◌, nat_lt, if◌then◌else◌, List, length, refl}
-use Rattle.std.proofs.Common.{ap, sym, ◌∙◌, subst, arith, inl, inr, ⊎_elim}
+use Rattle.std.specs.Prelude.{ℕ, ◌+◌, ◌-◌, ◌≡◌, ◌<◌, ◌≤◌, ◌⊎◌, List, length, refl}
+use Rattle.std.proofs.Common.{ap, sym, ◌∙◌, subst, arith, ⊎_elim}
 use Rattle.clf_syntax.specs.declared.tree.Mode.{Mode}
 use Rattle.clf_syntax.specs.declared.tree.Head.TheVariants.{Const, Var, Meta}
 use Rattle.clf_syntax.specs.Tree.{Object, lam, pair, unit, monadic, atomic, hole, PlainNeutral, bare, app, fst, snd, Expression, step, done, Tuple, empty, entry}
-use Rattle.clf_syntax.specs.Renaming.{Renumbering, lifted, ren_head, ren, ren_neutral, ren_expression, ren_tuple, up, down, crossed}
+use Rattle.clf_syntax.specs.Renaming.{Renumbering, lifted, ren, ren_neutral, ren_expression, ren_tuple, up, down, crossed}
 
 pub ext : {A B : Type 0} {f g : A → B} → ((x : A) → f x ≡ g x) → f ≡ g
 ext h = λ i x. h x i
@@ -152,25 +152,25 @@ old_gives p q {i} {v} h e = cross_old p q i (omega arith) h ∙ omega arith
 braid1 : (a b c i : ℕ) → i < a → lifted b (crossed c a) (crossed b a (lifted a (crossed b c) i)) ≡ crossed b c (lifted c (crossed b a) (crossed c a i))
 braid1 a b c i h = walk (lifted b (crossed c a)) (crossed b a) (lifted a (crossed b c)) i i (i + b) (i + b + c)
     (lift_in a (crossed b c) i h) (cross_new b a i h) (lift_gives b (crossed c a) _ _ _ _ (cross_new c a i h) refl (omega arith))
-  ∙ sym (walk (crossed b c) (lifted c (crossed b a)) (crossed c a) i (i + c) (i + b + c) (i + b + c)
+    ∙ sym (walk (crossed b c) (lifted c (crossed b a)) (crossed c a) i (i + c) (i + b + c) (i + b + c)
     (cross_new c a i h) (lift_gives c (crossed b a) _ _ _ _ (cross_new b a i h) refl refl) (cross_out b c (i + b + c) (omega arith)))
 
 braid2 : (a b c j : ℕ) → j < c → lifted b (crossed c a) (crossed b a (lifted a (crossed b c) (j + a))) ≡ crossed b c (lifted c (crossed b a) (crossed c a (j + a)))
 braid2 a b c j h = walk (lifted b (crossed c a)) (crossed b a) (lifted a (crossed b c)) (j + a) (j + b + a) (j + b + a) (j + b)
     (lift_gives a (crossed b c) _ _ _ _ (cross_new b c j h) refl refl) (cross_out b a (j + b + a) (omega arith)) (lift_gives b (crossed c a) (j + b + a) (j + a) j (j + b) (old_gives c a (omega arith) refl) (omega arith) refl)
-  ∙ sym (walk (crossed b c) (lifted c (crossed b a)) (crossed c a) (j + a) j j (j + b)
+    ∙ sym (walk (crossed b c) (lifted c (crossed b a)) (crossed c a) (j + a) j j (j + b)
     (old_gives c a (omega arith) refl) (lift_in c (crossed b a) j h) (cross_new b c j h))
 
 braid3 : (a b c k : ℕ) → k < b → lifted b (crossed c a) (crossed b a (lifted a (crossed b c) (k + c + a))) ≡ crossed b c (lifted c (crossed b a) (crossed c a (k + c + a)))
 braid3 a b c k h = walk (lifted b (crossed c a)) (crossed b a) (lifted a (crossed b c)) (k + c + a) (k + a) k k
     (lift_gives a (crossed b c) (k + c + a) (k + c) k (k + a) (old_gives b c (omega arith) refl) refl refl) (old_gives b a (omega arith) refl) (lift_in b (crossed c a) k h)
-  ∙ sym (walk (crossed b c) (lifted c (crossed b a)) (crossed c a) (k + c + a) (k + c + a) (k + c) k
+    ∙ sym (walk (crossed b c) (lifted c (crossed b a)) (crossed c a) (k + c + a) (k + c + a) (k + c) k
     (cross_out c a (k + c + a) (omega arith)) (lift_gives c (crossed b a) (k + c + a) (k + a) k (k + c) (old_gives b a (omega arith) refl) (omega arith) refl) (old_gives b c (omega arith) refl))
 
 braid4 : (a b c m : ℕ) → lifted b (crossed c a) (crossed b a (lifted a (crossed b c) (m + b + c + a))) ≡ crossed b c (lifted c (crossed b a) (crossed c a (m + b + c + a)))
 braid4 a b c m = walk (lifted b (crossed c a)) (crossed b a) (lifted a (crossed b c)) (m + b + c + a) (m + b + c + a) (m + b + c + a) (m + b + c + a)
     (lift_gives a (crossed b c) _ _ _ _ (cross_out b c (m + b + c) (omega arith)) refl refl) (cross_out b a (m + b + c + a) (omega arith)) (lift_gives b (crossed c a) (m + b + c + a) (m + c + a) (m + c + a) (m + b + c + a) (cross_out c a (m + c + a) (omega arith)) (omega arith) (omega arith))
-  ∙ sym (walk (crossed b c) (lifted c (crossed b a)) (crossed c a) (m + b + c + a) (m + b + c + a) (m + b + c + a) (m + b + c + a)
+    ∙ sym (walk (crossed b c) (lifted c (crossed b a)) (crossed c a) (m + b + c + a) (m + b + c + a) (m + b + c + a) (m + b + c + a)
     (cross_out c a (m + b + c + a) (omega arith)) (lift_gives c (crossed b a) (m + b + c + a) (m + b + a) (m + b + a) (m + b + c + a) (cross_out b a (m + b + a) (omega arith)) (omega arith) (omega arith)) (cross_out b c (m + b + c + a) (omega arith)))
 
 abbrev Braided : ℕ → ℕ → ℕ → ℕ → Type 0
@@ -180,12 +180,14 @@ pub braid : (a b c i : ℕ) → Braided a b c i
 braid a b c i = ⊎_elim (braid1 a b c i) (λ h. ⊎_elim
     (λ k. subst (Braided a b c) (back2 k) (braid2 a b c (i - a) (omega arith)))
     (λ k. ⊎_elim (λ l. subst (Braided a b c) (back3 k) (braid3 a b c (i - a - c) (omega arith)))
-      (λ l. subst (Braided a b c) (back4 k l) (braid4 a b c (i - a - c - b))) (cut (i - a - c) b))
+    (λ l. subst (Braided a b c) (back4 k l) (braid4 a b c (i - a - c - b))) (cut (i - a - c) b))
     h) (cut3 c a i)
   where
     back2 : (a ≤ i) × (i < a + c) → i - a + a ≡ i
     back2 k = omega arith
+
     back3 : a + c ≤ i → i - a - c + c + a ≡ i
     back3 k = omega arith
+
     back4 : a + c ≤ i → b ≤ i - a - c → i - a - c - b + b + c + a ≡ i
     back4 k l = omega arith

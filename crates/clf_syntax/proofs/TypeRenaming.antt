@@ -1,11 +1,11 @@
 -- Laws of renaming in types and telescopes.
-use Rattle.std.specs.Prelude.{ℕ, ◌≡◌, List, [], ◌∷◌, map, refl}
+use Rattle.std.specs.Prelude.{◌≡◌, List, [], ◌∷◌, refl}
 use Rattle.std.proofs.Common.{ap, ◌∙◌}
 use Rattle.clf_syntax.specs.declared.tree.Mode.{Mode}
 use Rattle.clf_syntax.specs.Tree.{Object}
-use Rattle.clf_syntax.specs.TypeTree.{PlainType, family, function, both, top, monad, Telescope, end, binding, PlainKind}
-use Rattle.clf_syntax.specs.Renaming.{Renumbering, lifted, ren_objects, ren_type, ren_telescope, ren_kind}
-use Rattle.clf_syntax.proofs.RenamingLaws.{ext, composed, identity, lift_comp, lift_id}
+use Rattle.clf_syntax.specs.TypeTree.{PlainType, family, function, both, top, monad, Telescope, end, binding}
+use Rattle.clf_syntax.specs.Renaming.{Renumbering, lifted, ren_objects, ren_type, ren_telescope}
+use Rattle.clf_syntax.proofs.RenamingLaws.{composed, identity, lift_comp, lift_id}
 
 pub conses : {X : Type 0} {a b : X} {xs ys : List X} → a ≡ b → xs ≡ ys → a ∷ xs ≡ b ∷ ys
 conses e f = cc

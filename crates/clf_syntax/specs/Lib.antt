@@ -9,3 +9,4 @@ pub mod Occurs
 pub mod PlainSimple
 pub mod Simple
 pub mod Erasure
+pub mod Laws

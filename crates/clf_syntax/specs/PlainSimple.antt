@@ -1,5 +1,5 @@
 -- The plain tree of a declared simple type: one fold over the trees of the cycle, and its equation for each constructor.
-use Rattle.std.specs.Prelude.{ℕ, List, [], ◌∷◌, map, ◌≡◌, refl}
+use Rattle.std.specs.Prelude.{ℕ, List, [], ◌∷◌, map, ◌≡◌}
 use Rattle.clf_syntax.specs.declared.tree.Mode.{Mode}
 use Rattle.clf_syntax.specs.declared.tree.Simple.{Simple, Atom, Fun, With, Top, Monad, fold-Simple, fold-roll-Simple}
 use Rattle.clf_syntax.specs.declared.tree.SimpleEntry.{SimpleEntry, fold-SimpleEntry, fold_out-SimpleEntry, out-SimpleEntry}

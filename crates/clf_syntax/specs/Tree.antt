@@ -1,6 +1,6 @@
 -- Plain trees of objects: what contracts see of `Obj`, `Neutral`, `Expr` and their parts.
 -- A spine is nested, as applications and projections, and an expression is a chain of steps.
-use Rattle.std.specs.Prelude.{ℕ, List, [], ◌∷◌}
+use Rattle.std.specs.Prelude.{List, [], ◌∷◌}
 use Rattle.clf_syntax.specs.declared.tree.Mode.{Mode}
 use Rattle.clf_syntax.specs.declared.tree.Head.{Head}
 

@@ -4,6 +4,7 @@
 mod copy;
 mod erasure;
 mod fault;
+mod laws;
 mod modes;
 mod name;
 mod tree;
@@ -11,6 +12,7 @@ mod types;
 
 pub use erasure::erase;
 pub use fault::{Or, OrWide, TooFar, Want, Wide};
+pub use laws::renaming;
 pub use modes::Modes;
 pub use name::Name;
 pub use tree::{

@@ -1,12 +1,13 @@
 -- Joined trees are alike, and like trees are joined.
-use Rattle.std.specs.Prelude.{ℕ, ◌≡◌, ◌+◌, ◌↔◌, List, length, refl}
+use Rattle.std.specs.Prelude.{ℕ, ◌≡◌, List, length, refl}
 use Rattle.std.proofs.Common.{ap, sym, subst, ◌∙◌}
 use Rattle.clf_syntax.specs.declared.tree.Mode.{Mode}
 use Rattle.clf_syntax.specs.Tree.{Object, lam, pair, unit, monadic, atomic, hole, PlainNeutral, bare, app, fst, snd, Expression, step, done, Tuple, empty, entry}
-use Rattle.clf_syntax.specs.Renaming.{Renumbering, lifted, ren, ren_neutral, ren_expression, ren_tuple, up, down, crossed}
-use Rattle.clf_syntax.proofs.RenamingLaws.{pairs, apps, binds, entries, square_neutral, square_expression, undone_neutral, undone_expression, lift_up, lift_cross, down_up, cross_cross, cross_up, braid, composed_neutral, composed_expression}
+use Rattle.clf_syntax.specs.Renaming.{Renumbering, lifted, ren_neutral, ren_expression, up, crossed}
+use Rattle.clf_syntax.proofs.RenamingLaws.{binds, square_neutral, square_expression, undone_expression, lift_up, lift_cross, cross_cross, cross_up, braid, composed_neutral, composed_expression}
 use Rattle.trace_equal.specs.Exchange.{Exchanged, in_lam, in_left, in_right, in_monadic, in_atomic, ExchangedNeutral, in_function, in_argument, in_fst, in_snd, ExchangedExpression, in_right_side, in_later_steps, in_done, exchange, ExchangedTuple, in_entry, in_later_entry, Chain, stop, next, Joined, JoinedNeutral, JoinedExpression, JoinedTuple}
-use Rattle.trace_equal.proofs.Moves.{renamed, renamed_neutral, renamed_expression, up_once, reflected}
+use Rattle.trace_equal.proofs.Moves.{renamed_neutral, renamed_expression, up_once, reflected}
+use Rattle.trace_equal.specs.Laws.{JoinedMatches}
 use Rattle.trace_equal.specs.Matching.{Pulled, pulled_here, pulled_later, Matches, match_lam, match_pair, match_unit, match_monadic, match_atomic, match_hole, MatchesNeutral, match_bare, match_app, match_fst, match_snd, MatchesExpression, match_step, match_done, MatchesTuple, match_empty, match_entry}
 
 mutual
@@ -35,10 +36,10 @@ mutual
 pub pull_renamed : (r : Renumbering) {q : List Mode} {v : PlainNeutral} {e f : Expression} → Pulled q v e f → Pulled q (ren_neutral r v) (ren_expression (lifted (length q) r) e) (ren_expression r f)
 pull_renamed r pulled_here = pulled_here
 pull_renamed r (pulled_later {p = p} {q = q} {r = n} {v = v} {e = e} g h k u) = pulled_later
-  (ap (ren_neutral (lifted (length p) r)) g ∙ square_neutral (lifted (length p) r) (up (length p)) (up (length p)) r (lift_up (length p) r) v)
-  (ap (ren_neutral (lifted (length q) r)) h ∙ square_neutral (lifted (length q) r) (up (length q)) (up (length q)) r (lift_up (length q) r) n)
-  (ap (ren_expression (lifted (length p) (lifted (length q) r))) k ∙ square_expression (lifted (length p) (lifted (length q) r)) (crossed (length p) (length q)) (crossed (length p) (length q)) (lifted (length q) (lifted (length p) r)) (lift_cross (length p) (length q) r) e)
-  (pull_renamed (lifted (length p) r) u)
+    (ap (ren_neutral (lifted (length p) r)) g ∙ square_neutral (lifted (length p) r) (up (length p)) (up (length p)) r (lift_up (length p) r) v)
+    (ap (ren_neutral (lifted (length q) r)) h ∙ square_neutral (lifted (length q) r) (up (length q)) (up (length q)) r (lift_up (length q) r) n)
+    (ap (ren_expression (lifted (length p) (lifted (length q) r))) k ∙ square_expression (lifted (length p) (lifted (length q) r)) (crossed (length p) (length q)) (crossed (length p) (length q)) (lifted (length q) (lifted (length p) r)) (lift_cross (length p) (length q) r) e)
+    (pull_renamed (lifted (length p) r) u)
 
 -- after an exchange the step is still there to be pulled, and one of the parts has changed, or none
 pub data Moved (q : List Mode) (v : PlainNeutral) (e f : Expression) : Type 0 where
@@ -54,46 +55,52 @@ cross_neutral p q v = ap (ren_neutral (crossed p q)) (composed_neutral (up q) (u
 
 braid_expression : (a b c : ℕ) (e : Expression) → ren_expression (lifted b (crossed c a)) (ren_expression (crossed b a) (ren_expression (lifted a (crossed b c)) e)) ≡ ren_expression (crossed b c) (ren_expression (lifted c (crossed b a)) (ren_expression (crossed c a) e))
 braid_expression a b c e = ap (ren_expression (lifted b (crossed c a))) (composed_expression (crossed b a) (lifted a (crossed b c)) e)
-  ∙ square_expression (lifted b (crossed c a)) (λ i. crossed b a (lifted a (crossed b c) i)) (crossed b c) (λ i. lifted c (crossed b a) (crossed c a i)) (braid a b c) e
-  ∙ sym (ap (ren_expression (crossed b c)) (composed_expression (lifted c (crossed b a)) (crossed c a) e))
+    ∙ square_expression (lifted b (crossed c a)) (λ i. crossed b a (lifted a (crossed b c) i)) (crossed b c) (λ i. lifted c (crossed b a) (crossed c a i)) (braid a b c) e
+    ∙ sym (ap (ren_expression (crossed b c)) (composed_expression (lifted c (crossed b a)) (crossed c a) e))
 
 pub uncrossed : (p q : ℕ) {e f : Expression} → f ≡ ren_expression (crossed p q) e → e ≡ ren_expression (crossed q p) f
 uncrossed p q {e} {f} h = sym (ap (ren_expression (crossed q p)) h ∙ undone_expression (crossed q p) (crossed p q) (cross_cross p q) e)
 
 -- an exchange in the rest of a step that stays in front
 moved_rest : {p q : List Mode} {r s v w : PlainNeutral} {e f g : Expression}
-  → w ≡ ren_neutral (up (length p)) v → s ≡ ren_neutral (up (length q)) r → f ≡ ren_expression (crossed (length p) (length q)) e
-  → Moved q w e g → Moved q v (step p s f) (step p r g)
+    → w ≡ ren_neutral (up (length p)) v → s ≡ ren_neutral (up (length q)) r → f ≡ ren_expression (crossed (length p) (length q)) e
+    → Moved q w e g → Moved q v (step p s f) (step p r g)
 moved_rest {p = p} h k l (in_step o y u) = let (b, i, z) = reflected (length p) h y in in_step b z (pulled_later i k l u)
 moved_rest {p = p} {q = q} {s = s} h k l (in_rest d y u) = in_rest (step p s (ren_expression (crossed (length p) (length q)) d))
-  (in_later_steps (subst (λ (o : Expression). ExchangedExpression o (ren_expression (crossed (length p) (length q)) d)) (sym l) (renamed_expression (crossed (length p) (length q)) y)))
-  (pulled_later h k refl u)
+    (in_later_steps (subst (λ (o : Expression). ExchangedExpression o (ren_expression (crossed (length p) (length q)) d)) (sym l) (renamed_expression (crossed (length p) (length q)) y)))
+    (pulled_later h k refl u)
 moved_rest h k l (no_more u) = no_more (pulled_later h k l u)
 
 -- three steps: the last can be pulled, and the first two change places
 three : {a b c : List Mode} (n : PlainNeutral) {v x x' y y' r' w q : PlainNeutral} {d e f f' g : Expression}
-  → x ≡ ren_neutral (up (length b)) v → y ≡ ren_neutral (up (length a)) n → f ≡ ren_expression (crossed (length b) (length a)) (step c y' f')
-  → x' ≡ ren_neutral (up (length c)) x → y' ≡ ren_neutral (up (length a)) w → f' ≡ ren_expression (crossed (length c) (length a)) d
-  → w ≡ ren_neutral (up (length b)) q → r' ≡ ren_neutral (up (length c)) n → g ≡ ren_expression (crossed (length b) (length c)) e
-  → Pulled a x' d e → Moved a v (step b y f) (step c q (step b r' g))
+    → x ≡ ren_neutral (up (length b)) v → y ≡ ren_neutral (up (length a)) n → f ≡ ren_expression (crossed (length b) (length a)) (step c y' f')
+    → x' ≡ ren_neutral (up (length c)) x → y' ≡ ren_neutral (up (length a)) w → f' ≡ ren_expression (crossed (length c) (length a)) d
+    → w ≡ ren_neutral (up (length b)) q → r' ≡ ren_neutral (up (length c)) n → g ≡ ren_expression (crossed (length b) (length c)) e
+    → Pulled a x' d e → Moved a v (step b y f) (step c q (step b r' g))
 three {a = a} {b = b} {c = c} n {v = v} {x = x} {x' = x'} {y = y} {y' = y'} {r' = r'} {w = w} {q = q} {d = d} {e = e} {f = f} {f' = f'} {g = g} g1 h1 k1 g2 h2 k2 hx kx lx u =
-  in_rest (step c (ren_neutral (up (length a)) q) (ren_expression (crossed (length c) (length a)) rest))
+    in_rest (step c (ren_neutral (up (length a)) q) (ren_expression (crossed (length c) (length a)) rest))
     (subst (λ (o : Expression). ExchangedExpression (step b y o) (step c (ren_neutral (up (length a)) q) (ren_expression (crossed (length c) (length a)) rest))) (sym k1)
-      (exchange first second third))
+    (exchange first second third))
     (pulled_later refl refl refl (pulled_later refl refl refl pull))
   where
     deep : Expression
     deep = ren_expression (lifted (length a) (crossed (length b) (length c))) d
+
     rest : Expression
     rest = step b (ren_neutral (up (length a)) r') (ren_expression (crossed (length b) (length a)) deep)
+
     first : ren_neutral (crossed (length b) (length a)) y' ≡ ren_neutral (up (length b)) (ren_neutral (up (length a)) q)
     first = ap (ren_neutral (crossed (length b) (length a))) (h2 ∙ ap (ren_neutral (up (length a))) hx) ∙ cross_neutral (length b) (length a) q
+
     second : ren_neutral (crossed (length c) (length a)) (ren_neutral (up (length a)) r') ≡ ren_neutral (up (length c)) y
     second = ap (λ o. ren_neutral (crossed (length c) (length a)) (ren_neutral (up (length a)) o)) kx ∙ cross_neutral (length c) (length a) n ∙ ap (ren_neutral (up (length c))) (sym h1)
+
     third : ren_expression (lifted (length b) (crossed (length c) (length a))) (ren_expression (crossed (length b) (length a)) deep) ≡ ren_expression (crossed (length b) (length c)) (ren_expression (lifted (length c) (crossed (length b) (length a))) f')
     third = braid_expression (length a) (length b) (length c) d ∙ ap (λ o. ren_expression (crossed (length b) (length c)) (ren_expression (lifted (length c) (crossed (length b) (length a))) o)) (sym k2)
+
     fourth : ren_neutral (crossed (length b) (length c)) x' ≡ ren_neutral (up (length b)) (ren_neutral (up (length c)) v)
     fourth = ap (ren_neutral (crossed (length b) (length c))) (g2 ∙ ap (ren_neutral (up (length c))) g1) ∙ cross_neutral (length b) (length c) v
+
     pull : Pulled a (ren_neutral (up (length b)) (ren_neutral (up (length c)) v)) deep g
     pull = subst (λ (o : PlainNeutral). Pulled a o deep g) fourth (subst (λ (o : Expression). Pulled a (ren_neutral (crossed (length b) (length c)) x') deep o) (sym lx) (pull_renamed (crossed (length b) (length c)) u))
 
@@ -102,7 +109,7 @@ moved pulled_here (in_right_side {s = s} x) = in_step s x pulled_here
 moved pulled_here (in_later_steps {f = f} x) = in_rest f x pulled_here
 moved pulled_here (exchange {p = p} {q = q} h k l) = no_more (pulled_later k h (uncrossed (length p) (length q) l) pulled_here)
 moved (pulled_later {p = p} {q = q} {s = s} {f = f} h k l u) (in_right_side {s = o} x) = in_rest (step p (ren_neutral (up (length q)) o) f)
-  (in_right_side (subst (λ (i : PlainNeutral). ExchangedNeutral i (ren_neutral (up (length q)) o)) (sym k) (renamed_neutral (up (length q)) x))) (pulled_later h refl l u)
+    (in_right_side (subst (λ (i : PlainNeutral). ExchangedNeutral i (ren_neutral (up (length q)) o)) (sym k) (renamed_neutral (up (length q)) x))) (pulled_later h refl l u)
 moved (pulled_later h k l u) (in_later_steps x) = moved_rest h k l (moved u x)
 moved (pulled_later {p = p} h k l pulled_here) (exchange i j m) = no_more (pulled (up_once (length p) (sym h ∙ i)) (binds p (k ∙ sym j) (l ∙ sym m)))
 moved (pulled_later {r = r} h k l (pulled_later h2 k2 l2 u)) (exchange i j m) = three r h k l h2 k2 l2 i j m u
@@ -182,16 +189,13 @@ pub like_to_expression : {a b c : Expression} → MatchesExpression a b → Join
 like_to_expression l stop = l
 like_to_expression l (next x p) = like_to_expression (closed_expression l x) p
 
-abbrev pub law : Type 0
-law = (a b : Object) → Joined a b ↔ Matches a b
+pub like_to_neutral : {a b c : PlainNeutral} → MatchesNeutral a b → JoinedNeutral b c → MatchesNeutral a c
+like_to_neutral l stop = l
+like_to_neutral l (next x p) = like_to_neutral (closed_neutral l x) p
 
-pub agrees : law
-agrees a b = (like_to (alike a), joined)
+pub like_to_tuple : {a b c : Tuple} → MatchesTuple a b → JoinedTuple b c → MatchesTuple a c
+like_to_tuple l stop = l
+like_to_tuple l (next x p) = like_to_tuple (closed_tuple l x) p
 
-abbrev pub law_expression : Type 0
-law_expression = (a b : Expression) → JoinedExpression a b ↔ MatchesExpression a b
-
-pub agrees_expression : law_expression
-agrees_expression a b = (like_to_expression (alike_expression a), joined_expression)
-
-pub ruleset agreements = (agrees, agrees_expression)
+pub joined_matches : JoinedMatches
+joined_matches = ((λ a b. (like_to (alike a), joined)), (λ a b. (like_to_neutral (alike_neutral a), joined_neutral)), (λ a b. (like_to_expression (alike_expression a), joined_expression)), (λ a b. (like_to_tuple (alike_tuple a), joined_tuple)))

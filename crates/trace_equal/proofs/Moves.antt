@@ -1,10 +1,10 @@
 -- Exchanges under renaming.
-use Rattle.std.specs.Prelude.{ℕ, ◌≡◌, List, length, refl}
+use Rattle.std.specs.Prelude.{ℕ, ◌≡◌, List, length}
 use Rattle.std.proofs.Common.{ap, sym, subst, ◌∙◌}
 use Rattle.clf_syntax.specs.declared.tree.Mode.{Mode}
 use Rattle.clf_syntax.specs.Tree.{Object, lam, pair, monadic, atomic, PlainNeutral, app, fst, snd, Expression, step, done, Tuple, entry}
 use Rattle.clf_syntax.specs.Renaming.{Renumbering, lifted, ren, ren_neutral, ren_expression, ren_tuple, up, down, crossed}
-use Rattle.clf_syntax.proofs.RenamingLaws.{pairs, apps, binds, entries, square_neutral, square_expression, undone_neutral, undone_expression, lift_up, lift_cross, down_up, composed_neutral}
+use Rattle.clf_syntax.proofs.RenamingLaws.{pairs, apps, binds, entries, square_neutral, square_expression, undone_neutral, lift_up, lift_cross, down_up, composed_neutral}
 use Rattle.trace_equal.specs.Exchange.{Exchanged, in_lam, in_left, in_right, in_monadic, in_atomic, ExchangedNeutral, in_function, in_argument, in_fst, in_snd, ExchangedExpression, in_right_side, in_later_steps, in_done, exchange, ExchangedTuple, in_entry, in_later_entry}
 
 mutual
@@ -26,9 +26,9 @@ mutual
   renamed_expression r (in_later_steps {p = p} x) = in_later_steps (renamed_expression (lifted (length p) r) x)
   renamed_expression r (in_done x) = in_done (renamed_tuple r x)
   renamed_expression r (exchange {p = p} {q = q} {r = n} {v = v} {e = e} g h k) = exchange
-    (ap (ren_neutral (lifted (length p) r)) g ∙ square_neutral (lifted (length p) r) (up (length p)) (up (length p)) r (lift_up (length p) r) v)
-    (ap (ren_neutral (lifted (length q) r)) h ∙ square_neutral (lifted (length q) r) (up (length q)) (up (length q)) r (lift_up (length q) r) n)
-    (ap (ren_expression (lifted (length p) (lifted (length q) r))) k ∙ square_expression (lifted (length p) (lifted (length q) r)) (crossed (length p) (length q)) (crossed (length p) (length q)) (lifted (length q) (lifted (length p) r)) (lift_cross (length p) (length q) r) e)
+      (ap (ren_neutral (lifted (length p) r)) g ∙ square_neutral (lifted (length p) r) (up (length p)) (up (length p)) r (lift_up (length p) r) v)
+      (ap (ren_neutral (lifted (length q) r)) h ∙ square_neutral (lifted (length q) r) (up (length q)) (up (length q)) r (lift_up (length q) r) n)
+      (ap (ren_expression (lifted (length p) (lifted (length q) r))) k ∙ square_expression (lifted (length p) (lifted (length q) r)) (crossed (length p) (length q)) (crossed (length p) (length q)) (lifted (length q) (lifted (length p) r)) (lift_cross (length p) (length q) r) e)
 
   pub renamed_tuple : (r : Renumbering) {a b : Tuple} → ExchangedTuple a b → ExchangedTuple (ren_tuple r a) (ren_tuple r b)
   renamed_tuple r (in_entry x) = in_entry (renamed r x)
@@ -100,8 +100,8 @@ mutual
   kept_expression r (in_later_steps {p = p} x) e = binds p (rhs_of e) (kept_expression (lifted (length p) r) x (rest_of e))
   kept_expression r (in_done x) e = ap done (kept_tuple r x (of_ret e))
   kept_expression r (exchange {p = p} {q = q} {r = n} {s = s} {v = v} {w = w} {e = g} {f = f} h k l) e = binds q
-    (up_once (length p) (sym (square_neutral (lifted (length p) r) (up (length p)) (up (length p)) r (lift_up (length p) r) v) ∙ ap (ren_neutral (lifted (length p) r)) (sym h) ∙ rhs_of (rest_of e) ∙ h))
-    (binds p
+      (up_once (length p) (sym (square_neutral (lifted (length p) r) (up (length p)) (up (length p)) r (lift_up (length p) r) v) ∙ ap (ren_neutral (lifted (length p) r)) (sym h) ∙ rhs_of (rest_of e) ∙ h))
+      (binds p
       (ap (ren_neutral (lifted (length q) r)) k ∙ square_neutral (lifted (length q) r) (up (length q)) (up (length q)) r (lift_up (length q) r) n ∙ ap (ren_neutral (up (length q))) (rhs_of e) ∙ sym k)
       (ap (ren_expression (lifted (length p) (lifted (length q) r))) l ∙ square_expression (lifted (length p) (lifted (length q) r)) (crossed (length p) (length q)) (crossed (length p) (length q)) (lifted (length q) (lifted (length p) r)) (lift_cross (length p) (length q) r) g ∙ ap (ren_expression (crossed (length p) (length q))) (rest_of (rest_of e)) ∙ sym l))
 
@@ -111,9 +111,11 @@ mutual
 
 -- an exchange in what is past n new variables is one before them
 pub reflected : (n : ℕ) {a : PlainNeutral} {c d : PlainNeutral} → c ≡ ren_neutral (up n) a → ExchangedNeutral c d → (b : PlainNeutral) × (d ≡ ren_neutral (up n) b) × ExchangedNeutral a b
-reflected n {a} {c} {d} e x = (ren_neutral (down n) d
-  , sym (kept_neutral (λ i. up n (down n i)) x fixed) ∙ sym (composed_neutral (up n) (down n) d)
-  , subst (λ (o : PlainNeutral). ExchangedNeutral o (ren_neutral (down n) d)) (ap (ren_neutral (down n)) e ∙ undone_neutral (down n) (up n) (down_up n) a) (renamed_neutral (down n) x))
+reflected n {a} {c} {d} e x = (
+  ren_neutral (down n) d,
+  sym (kept_neutral (λ i. up n (down n i)) x fixed) ∙ sym (composed_neutral (up n) (down n) d),
+  subst (λ (o : PlainNeutral). ExchangedNeutral o (ren_neutral (down n) d)) (ap (ren_neutral (down n)) e ∙ undone_neutral (down n) (up n) (down_up n) a) (renamed_neutral (down n) x),
+)
   where
     fixed : ren_neutral (λ i. up n (down n i)) c ≡ c
     fixed = sym (composed_neutral (up n) (down n) c) ∙ ap (λ o. ren_neutral (up n) (ren_neutral (down n) o)) e ∙ ap (ren_neutral (up n)) (undone_neutral (down n) (up n) (down_up n) a) ∙ sym e

@@ -29,10 +29,10 @@ mutual
     -- That w mentions no variable of p is said so: it is some v, renumbered past p. Then s is r past q,
     -- and in e the two blocks of variables change places.
     exchange : {p q : List Mode} {r s v w : PlainNeutral} {e f : Expression}
-      → w ≡ ren_neutral (up (length p)) v
-      → s ≡ ren_neutral (up (length q)) r
-      → f ≡ ren_expression (crossed (length p) (length q)) e
-      → ExchangedExpression (step p r (step q w e)) (step q v (step p s f))
+        → w ≡ ren_neutral (up (length p)) v
+        → s ≡ ren_neutral (up (length q)) r
+        → f ≡ ren_expression (crossed (length p) (length q)) e
+        → ExchangedExpression (step p r (step q w e)) (step q v (step p s f))
 
   pub data ExchangedTuple : Tuple → Tuple → Type 0 where
     in_entry : {m : Mode} {o u : Object} {t : Tuple} → Exchanged o u → ExchangedTuple (entry m o t) (entry m u t)

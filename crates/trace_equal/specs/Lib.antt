@@ -1,5 +1,10 @@
 pub use Rattle.clf_syntax.specs.Tree
 pub use Rattle.clf_syntax.specs.Plain
 pub use Rattle.clf_syntax.specs.Renaming
+pub use Rattle.clf_syntax.specs.Occurs
 pub mod Exchange
 pub mod Matching
+pub mod Steps
+pub mod Bijection
+pub mod Search
+pub mod Laws

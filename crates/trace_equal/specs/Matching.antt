@@ -1,6 +1,6 @@
 -- Trees that match: they have the same constructors, heads and modes, and each step of one has its like among those of the other.
 -- Trees are joined exactly where they match (a law of this crate); a test of joined looks for a matching and builds no chain.
-use Rattle.std.specs.Prelude.{ℕ, ◌≡◌, List, length}
+use Rattle.std.specs.Prelude.{◌≡◌, List, length}
 use Rattle.clf_syntax.specs.declared.tree.Mode.{Mode}
 use Rattle.clf_syntax.specs.declared.tree.Head.{Head}
 use Rattle.clf_syntax.specs.Tree.{Object, lam, pair, unit, monadic, atomic, hole, PlainNeutral, bare, app, fst, snd, Expression, step, done, Tuple, empty, entry}
@@ -10,11 +10,11 @@ use Rattle.clf_syntax.specs.Renaming.{ren_neutral, ren_expression, up, crossed}
 pub data Pulled : List Mode → PlainNeutral → Expression → Expression → Type 0 where
   pulled_here : {q : List Mode} {v : PlainNeutral} {e : Expression} → Pulled q v e (step q v e)
   pulled_later : {p q : List Mode} {r s v w : PlainNeutral} {e f g : Expression}
-    → w ≡ ren_neutral (up (length p)) v
-    → s ≡ ren_neutral (up (length q)) r
-    → f ≡ ren_expression (crossed (length p) (length q)) e
-    → Pulled q w e g
-    → Pulled q v (step p s f) (step p r g)
+      → w ≡ ren_neutral (up (length p)) v
+      → s ≡ ren_neutral (up (length q)) r
+      → f ≡ ren_expression (crossed (length p) (length q)) e
+      → Pulled q w e g
+      → Pulled q v (step p s f) (step p r g)
 
 mutual
   pub data Matches : Object → Object → Type 0 where

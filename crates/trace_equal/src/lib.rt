@@ -1,2 +1,6 @@
 //! Trees up to exchange of independent steps.
 #![tactic(auto)]
+
+mod laws;
+
+pub use laws::{exchange, matchings};

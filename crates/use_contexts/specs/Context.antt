@@ -1,6 +1,6 @@
 -- A context: the modes and types of the variables in scope, the newest first, so that a variable's number is its place.
 -- Each type is over the entries behind it.
-use Rattle.std.specs.Prelude.{ℕ, ◌+◌, ◌≡◌, List, [], ◌∷◌, map, Option, Some, None}
+use Rattle.std.specs.Prelude.{ℕ, ◌+◌, ◌≡◌, List, [], ◌∷◌, map, Some}
 use Rattle.std.specs.List.{slice_get}
 use Rattle.clf_syntax.specs.declared.tree.Mode.{Mode}
 use Rattle.clf_syntax.specs.TypeTree.{PlainType, Telescope, end, binding}

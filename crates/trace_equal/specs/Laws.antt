@@ -1,0 +1,65 @@
+-- Laws of exchange, as statements; the functions of the crate's `laws` state them.
+use Rattle.std.specs.Prelude.{ℕ, ◌≡◌, ◌<◌, ◌↔◌, Bool, true, false, ◌&&◌, List}
+use Rattle.clf_syntax.specs.Tree.{Object, lam, pair, unit, monadic, atomic, hole, PlainNeutral, bare, app, fst, snd, Expression, step, done, Tuple, empty, entry}
+use Rattle.clf_syntax.specs.Renaming.{ren_neutral, up}
+use Rattle.clf_syntax.specs.Occurs.{occurs_neutral}
+use Rattle.trace_equal.specs.Exchange.{Joined, JoinedNeutral, JoinedExpression, JoinedTuple}
+use Rattle.trace_equal.specs.Matching.{Matches, MatchesNeutral, MatchesExpression, MatchesTuple}
+use Rattle.trace_equal.specs.Bijection.{IsMatching, IsFirstMatching}
+use Rattle.trace_equal.specs.Search.{first, same}
+
+-- Trees are joined exactly where they match.
+abbrev pub JoinedMatches : Type 0
+JoinedMatches = ((o u : Object) → Joined o u ↔ Matches o u)
+    × ((n r : PlainNeutral) → JoinedNeutral n r ↔ MatchesNeutral n r)
+    × ((e f : Expression) → JoinedExpression e f ↔ MatchesExpression e f)
+    × ((t u : Tuple) → JoinedTuple t u ↔ MatchesTuple t u)
+
+-- A right side mentions none of the n newest variables exactly where it is some neutral, renumbered past them.
+abbrev pub IndependenceInWords : Type 0
+IndependenceInWords = (n : ℕ) (w : PlainNeutral) → ((i : ℕ) → i < n → occurs_neutral i w ≡ false) ↔ ((v : PlainNeutral) × (w ≡ ren_neutral (up n) v))
+
+-- whether a tree has no steps
+abbrev mutual
+  pub without_steps : Object → Bool
+  without_steps (lam m b) = without_steps b
+  without_steps (pair l r) = without_steps l && without_steps r
+  without_steps unit = true
+  without_steps (monadic e) = expression_without_steps e
+  without_steps (atomic n) = neutral_without_steps n
+  without_steps hole = true
+
+  pub neutral_without_steps : PlainNeutral → Bool
+  neutral_without_steps (bare h) = true
+  neutral_without_steps (app m r n) = neutral_without_steps r && without_steps n
+  neutral_without_steps (fst r) = neutral_without_steps r
+  neutral_without_steps (snd r) = neutral_without_steps r
+
+  pub expression_without_steps : Expression → Bool
+  expression_without_steps (step ms r e) = false
+  expression_without_steps (done t) = tuple_without_steps t
+
+  pub tuple_without_steps : Tuple → Bool
+  tuple_without_steps empty = true
+  tuple_without_steps (entry m n t) = without_steps n && tuple_without_steps t
+
+-- A tree without steps is joined with itself alone.
+abbrev pub JoinedWithoutSteps : Type 0
+JoinedWithoutSteps = ((o u : Object) → without_steps o ≡ true → Joined o u ↔ (o ≡ u))
+    × ((n r : PlainNeutral) → neutral_without_steps n ≡ true → JoinedNeutral n r ↔ (n ≡ r))
+
+-- Joined is an equivalence.
+abbrev pub JoinedIsEquivalence : Type 0
+JoinedIsEquivalence = ((o : Object) → Joined o o) × ((o u : Object) → Joined o u → Joined u o) × ((o u v : Object) → Joined o u → Joined u v → Joined o v)
+
+-- Expressions are joined exactly where they have a matching.
+abbrev pub JoinedHasMatching : Type 0
+JoinedHasMatching = (e f : Expression) → JoinedExpression e f ↔ ((m : List ℕ) × IsMatching m e f)
+
+-- The search answers the first matching, or none where there is none.
+abbrev pub FirstIsFound : Type 0
+FirstIsFound = (e f : Expression) → IsFirstMatching e f (first e f)
+
+-- The test tells whether two objects are joined.
+abbrev pub SameIsJoined : Type 0
+SameIsJoined = (o u : Object) → (same o u ≡ true) ↔ Joined o u
