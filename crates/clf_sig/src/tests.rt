@@ -58,12 +58,24 @@ fn keeps_entries_and_simple_types(rt: HostRuntime) -> Result<(), Fail> {
     let mut signature = Signature::new(alloc);
     assert!(rt; matches!(signature.add("a", family(alloc)), Ok(_)));
     assert!(rt; matches!(signature.add("c", linear_function(alloc)?), Ok(_)));
-    assert!(rt; matches!(signature.entry(0), Some(entry) if matches!(&entry.class, Class::Family(_))));
-    assert!(rt; matches!(signature.entry(1), Some(entry) if matches!(&entry.class, Class::Constant(Ty::Fun { .. }))));
+    assert!(rt;
+        matches!(signature.entry(0), Some(entry) if matches!(&entry.class, Class::Family(_)))
+    );
+    assert!(rt;
+        matches!(signature.entry(1), Some(entry) if matches!(&entry.class, Class::Constant(Ty::Fun { .. })))
+    );
     assert!(rt; signature.entry(2).is_none());
     assert_eq!(rt; signature.simples().len(), 2);
     assert!(rt; matches!(signature.simples().first(), Some(Simple::Top)));
-    assert!(rt; matches!(signature.simples().last(), Some(Simple::Fun { mode: Mode::Linear, .. })));
+    assert!(rt;
+        matches!(
+            signature.simples().last(),
+            Some(Simple::Fun {
+                mode: Mode::Linear,
+                ..
+            })
+        )
+    );
     Ok(())
 }
 
@@ -74,7 +86,10 @@ fn is_full_at_65535_entries(rt: HostRuntime) -> Result<(), Fail> {
     let mut signature = Signature::new(alloc);
     for place in 0..65_535u32 {
         let name = format!(in alloc; "c{place}")?;
-        assert!(rt; signature.add(name.as_str(), family(alloc)).is_ok(), "at {place}");
+        assert!(rt;
+            signature.add(name.as_str(), family(alloc)).is_ok(),
+            "at {place}"
+        );
     }
     assert!(rt; matches!(signature.add("another", family(alloc)), Err(AddFault::Full)));
     assert!(rt; matches!(signature.add("c5", family(alloc)), Err(AddFault::Duplicate)));

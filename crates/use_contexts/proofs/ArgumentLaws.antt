@@ -1,5 +1,5 @@
 -- The answers of arguments: an affine one starts without the linear entries, a persistent one with the persistent entries alone.
-use Rattle.std.proofs.Common.{◌≡◌, suc, Bool, true, false, not, ◌&&◌, ◌||◌, List, [], ◌∷◌, length, map, None, Some, if◌then◌else◌, refl, ap, sym, ◌∙◌, subst, arith}
+use Rattle.std.proofs.Common.{◌≡◌, suc, Bool, true, false, not, ◌&&◌, ◌||◌, List, [], ◌∷◌, length, None, Some, if◌then◌else◌, refl, ap, sym, subst, arith}
 use Rattle.clf_syntax.specs.declared.tree.Mode.{Mode}
 use Rattle.clf_syntax.specs.declared.tree.Mode.TheVariants.{Persistent, Affine, Linear}
 use Rattle.use_contexts.specs.Holding.{Holding, WellMarked, Split, is_weak, is_bare, is_persistent, is_linear, persistent_alone, part}
@@ -7,7 +7,7 @@ use Rattle.use_contexts.specs.Rows.{implies, within, stands, now, later, EachWit
 use Rattle.use_contexts.specs.Laws.{OfAffineArguments, OfPersistentArguments}
 use Rattle.use_contexts.proofs.Bits.{at_entry, given, given_2, given_3, and-left, and-right, and-both}
 use Rattle.use_contexts.proofs.Splits.{splits, EachSplit, split_each, each_split}
-use Rattle.use_contexts.proofs.RowLaws.{turn-agrees, none-agrees, agrees-same, IsPart-first, IsPart-stands}
+use Rattle.use_contexts.proofs.RowLaws.{turn-agrees, none-agrees, agrees-same, IsPart-stands}
 use Rattle.use_contexts.proofs.UseLaws.{WellMarked-part}
 
 -- ---- affine arguments, one entry: l is the row's mark at the begin, r the mark that is left, p the part's

@@ -1,8 +1,8 @@
 -- Rows with slack stand for exactly the parts that two checks in turn, or both checks of a pair, leave room for.
-use Rattle.std.proofs.Common.{◌≡◌, ℕ, zero, suc, Bool, true, false, not, ◌&&◌, ◌||◌, List, [], ◌∷◌, length, Option, None, Some, option_map, if◌then◌else◌, refl, ap, sym, ◌∙◌, subst, arith}
+use Rattle.std.proofs.Common.{◌≡◌, ℕ, suc, Bool, true, false, not, ◌&&◌, ◌||◌, List, [], ◌∷◌, length, Option, None, Some, option_map, if◌then◌else◌, refl, ap, arith}
 use Rattle.clf_syntax.specs.declared.tree.Mode.{Mode}
 use Rattle.clf_syntax.specs.declared.tree.Mode.TheVariants.{Persistent, Affine, Linear}
-use Rattle.use_contexts.specs.Holding.{Holding, Split, is_persistent, is_linear}
+use Rattle.use_contexts.specs.Holding.{Holding, Split}
 use Rattle.use_contexts.specs.Rows.{implies, within, stands, now, later, EachWithin, EachStands, IsPart, Stands, Answer, Agrees, Shared, in_turn, joined, joined_unless, differs, left_in_both, newest_difference}
 use Rattle.use_contexts.specs.Laws.{InTurn, InPairs, Apart}
 use Rattle.use_contexts.proofs.Bits.{at_entry, given, given_2, given_3, and-left, and-right, and-both}

@@ -1,10 +1,9 @@
 -- A split, entry by entry: as a test of each entry's marks, and the lengths.
-use Rattle.std.proofs.Common.{◌≡◌, suc, Bool, true, false, not, ◌&&◌, ◌||◌, List, [], ◌∷◌, length, refl, ap, sym, ◌∙◌, subst, arith}
+use Rattle.std.proofs.Common.{◌≡◌, suc, Bool, true, false, not, ◌&&◌, ◌||◌, List, [], ◌∷◌, length, refl, ap, arith}
 use Rattle.clf_syntax.specs.declared.tree.Mode.{Mode}
 use Rattle.clf_syntax.specs.declared.tree.Mode.TheVariants.{Persistent, Affine, Linear}
 use Rattle.use_contexts.specs.Holding.{Holding, Split, SplitEntry}
 use Rattle.use_contexts.specs.Rows.{implies, now, later}
-use Rattle.use_contexts.proofs.Bits.{and-left, and-right}
 
 -- one entry: the part p is shared out to g and k
 abbrev pub splits : Mode → Bool → Bool → Bool → Bool

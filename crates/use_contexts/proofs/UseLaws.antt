@@ -1,13 +1,11 @@
 -- The answers at uses of variables, at what uses nothing or anything, at the end of a scope, and at arguments.
-use Rattle.std.proofs.Common.{◌≡◌, ℕ, zero, suc, ◌<◌, Bool, true, false, not, ◌&&◌, ◌||◌, List, [], ◌∷◌, length, slice_get, Option, None, Some, if◌then◌else◌, refl, ap, sym, ◌∙◌, subst, arith}
+use Rattle.std.proofs.Common.{◌≡◌, ℕ, zero, suc, Bool, true, false, not, ◌&&◌, List, [], ◌∷◌, length, slice_get, None, Some, if◌then◌else◌, refl, ap, ◌∙◌, arith}
 use Rattle.clf_syntax.specs.declared.tree.Mode.{Mode}
 use Rattle.clf_syntax.specs.declared.tree.Mode.TheVariants.{Persistent, Affine, Linear}
-use Rattle.use_contexts.specs.Holding.{Holding, WellMarked, Split, Uses, without, is_weak, is_bare, is_persistent, is_linear, persistent_alone, all_held, part}
-use Rattle.use_contexts.specs.Rows.{implies, within, stands, now, later, EachWithin, EachStands, IsPart, Stands, Answer, Agrees, Shared, in_turn, taken, is_unused, closed, closed_all, entered, without_linear, linear_of, allowed, outside, slack_outside, argued}
+use Rattle.use_contexts.specs.Holding.{Holding, WellMarked, Uses, without, is_weak, is_persistent, is_linear, all_held}
+use Rattle.use_contexts.specs.Rows.{implies, within, stands, now, later, EachWithin, EachStands, IsPart, Answer, Agrees, taken, is_unused, closed, closed_all, entered}
 use Rattle.use_contexts.specs.Laws.{OfUses, OfNothing, OfScopes}
 use Rattle.use_contexts.proofs.Bits.{at_entry, given, given_2, given_3, and-left, and-right, and-both}
-use Rattle.use_contexts.proofs.Splits.{split_each, each_split}
-use Rattle.use_contexts.proofs.RowLaws.{turn-agrees, none-agrees, agrees-same, IsPart-first, IsPart-stands}
 
 -- ---- holdings as rows of themselves
 -- a holding that fits its modes is a part of itself

@@ -1,5 +1,5 @@
 -- What contracts see of a declared context and a declared holding, which have the newest entry last.
-use Rattle.std.specs.Prelude.{List, map, reverse, Bool}
+use Rattle.std.specs.Prelude.{map, reverse}
 use Rattle.clf_syntax.specs.PlainTypes.{plain_tele_entry}
 use Rattle.use_contexts.specs.declared.context.Ctx.{Ctx}
 use Rattle.use_contexts.specs.declared.holding.Holding.{Holding as DeclaredHolding}

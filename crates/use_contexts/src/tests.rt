@@ -1,4 +1,7 @@
 //! Leftovers of pairs, row by row, and each other call once.
+ghost use Rattle.std.specs.Prelude.{◌≡◌, ◌↔◌, IsTrue, length};
+ghost use Rattle.use_contexts.specs.Marks.{context, marks};
+
 use crate::{Ctx, Differ, Holding, Left, NotHeld, State, join_add, join_seq, take, weak};
 use clf_syntax::{Mode, TeleEntry, Ty};
 use sqlite_items::Items;
@@ -23,6 +26,12 @@ fn left(alloc: Global, held: &[bool], slack: bool) -> Result<Left, Fail> {
         },
         slack,
     })
+}
+
+fn fits(ctx: &Ctx, holding: &Holding) -> bool
+    ensures { IsTrue result ↔ (length (marks holding.now) ≡ length (context ctx.now)) }
+{
+    holding.held.len() == ctx.len()
 }
 
 #[test]
@@ -86,8 +95,14 @@ fn joins_the_parts_of_a_pair(rt: HostRuntime) -> Result<(), Fail> {
         let ctx = context(alloc, &[mode])?;
         let first = left(alloc, &[first.0], first.1)?;
         let second = left(alloc, &[second.0], second.1)?;
+        assert!(rt; ctx.len() < 9);
+        assert!(rt; fits(&ctx, &first.row));
+        assert!(rt; fits(&ctx, &second.row));
         let got = match join_add(&ctx, first, second) {
-            Ok(joined) => Some((joined.row.holds(0), joined.slack)),
+            Ok(joined) => Some((
+                joined.row.held.as_slice() == [true].as_slice(),
+                joined.slack,
+            )),
             Err(_) => None,
         };
         assert_eq!(rt; got, want);
@@ -106,6 +121,9 @@ fn names_the_newest_difference(rt: HostRuntime) -> Result<(), Fail> {
         let ctx = context(alloc, &modes)?;
         let first = left(alloc, &[true, true], false)?;
         let second = left(alloc, &[false, false], false)?;
+        assert!(rt; ctx.len() < 9);
+        assert!(rt; fits(&ctx, &first.row));
+        assert!(rt; fits(&ctx, &second.row));
         assert!(rt; matches!(join_add(&ctx, first, second), Err(Differ(var)) if var == newest));
     }
     Ok(())
@@ -115,10 +133,11 @@ fn names_the_newest_difference(rt: HostRuntime) -> Result<(), Fail> {
 fn joins_parts_in_turn(rt: HostRuntime) -> Result<(), Fail> {
     let alloc = rt.alloc();
     for (first, second) in [(false, false), (false, true), (true, false)] {
+        let want = first || second;
         let first = left(alloc, &[true], first)?;
         let joined = join_seq(&first, left(alloc, &[false], second)?);
-        assert_eq!(rt; joined.slack, first.slack || second);
-        assert!(rt; !joined.row.holds(0));
+        assert_eq!(rt; joined.slack, want);
+        assert!(rt; joined.row.held.as_slice() == [false].as_slice());
     }
     Ok(())
 }
@@ -129,23 +148,26 @@ fn uses_variables(rt: HostRuntime) -> Result<(), Fail> {
     let modes = [Mode::Persistent, Mode::Affine, Mode::Linear];
     let state = State {
         ctx: context(alloc, &modes)?,
-        holding: left(alloc, &[true, true, true], false)?.row,
+        holding: left(alloc, &[true, true, true], false)?.copy(alloc)?.row,
     };
     let State { ctx, mut holding } = state.copy(alloc)?;
+    assert!(rt; fits(&ctx, &holding));
     assert!(rt; !weak(&ctx, &holding));
-    for (var, again) in [(0, false), (1, false), (2, true)] {
+    // The variable, and what is held after its use.
+    let rows = [
+        (0u32, [true, true, false]),
+        (1, [true, false, false]),
+        (2, [true, false, false]),
+    ];
+    for (var, held) in rows {
+        assert!(rt; fits(&ctx, &holding));
+        assert!(rt; (var as usize) < ctx.len());
         assert!(rt; take(&ctx, &mut holding, var).is_ok());
-        let got = take(&ctx, &mut holding, var);
-        assert!(rt;
-            if again {
-                got.is_ok()
-            } else {
-                matches!(got, Err(NotHeld(other)) if other == var)
-            }
-        );
+        assert!(rt; holding.held.as_slice() == held.as_slice());
     }
+    assert!(rt; fits(&ctx, &holding));
     assert!(rt; weak(&ctx, &holding));
-    assert_eq!(rt; ctx.len(), 3);
-    assert!(rt; left(alloc, &[true], true)?.copy(alloc)?.slack);
+    assert!(rt; 1 < ctx.len());
+    assert!(rt; matches!(take(&ctx, &mut holding, 1), Err(NotHeld(1))));
     Ok(())
 }

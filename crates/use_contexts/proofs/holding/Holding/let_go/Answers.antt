@@ -1,4 +1,4 @@
-use Rattle.std.proofs.Common.{reverse, false, sym, ap, ◌∙◌, arith}
+use Rattle.std.proofs.Common.{reverse, false, ap, ◌∙◌}
 use Rattle.std.proofs.lemmas.List.{length-reverse}
 use Rattle.use_contexts.proofs.Lookups.{reverse-set}
 use Rattle.use_contexts.proofs.holding.Holding.let_go.Goals as goal
