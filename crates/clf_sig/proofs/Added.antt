@@ -1,8 +1,7 @@
 -- A new entry goes behind all others.
-use Rattle.std.proofs.Common.{◌≡◌, ℕ, suc, ◌+◌, Bool, true, false, cond, if◌then◌else◌, List, [], ◌∷◌, ◌++◌, map, length, Option, None, Some, is_some, option_map, string_bytes, refl, sym, ap, subst, ◌∙◌, true≢false, arith}
+use Rattle.std.proofs.Common.{◌≡◌, ℕ, suc, Bool, true, false, if◌then◌else◌, List, [], ◌∷◌, ◌++◌, map, Option, None, Some, is_some, option_map, string_bytes, refl, sym, ap, ◌∙◌, true≢false}
 use Rattle.std.specs.declared.string.String.{String}
 use Rattle.std.specs.String.{string_eq}
-use Rattle.std.specs.Str.{bytes_eq}
 use Rattle.std.proofs.lemmas.List.{map-append}
 use Rattle.indexmap.specs.IndexMap.{insert_entry}
 use Rattle.clf_syntax.specs.Word.{same_bytes}
@@ -10,7 +9,7 @@ use Rattle.clf_syntax.specs.declared.tree.Simple.{Simple}
 use Rattle.clf_syntax.specs.PlainSimple.{plain_simple}
 use Rattle.clf_sig.specs.declared.entry.Entry.{Entry}
 use Rattle.clf_sig.specs.Entry.{place_of, simple_types, simple_class}
-use Rattle.clf_sig.specs.Signature.{Declared, plain_entry, plain_class, plain_signature}
+use Rattle.clf_sig.specs.Signature.{Declared, plain_class, plain_signature}
 use Rattle.clf_sig.specs.Keys.{named}
 use Rattle.clf_sig.proofs.Names.{same_bytes-bytes_eq, plain_signature-append}
 

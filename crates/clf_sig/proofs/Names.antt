@@ -1,5 +1,5 @@
 -- What the keys of the map say of the names of the signature.
-use Rattle.std.proofs.Common.{◌≡◌, ◌≢◌, ℕ, zero, suc, ◌+◌, ◌<◌, Bool, true, false, cond, if◌then◌else◌, ◌&&◌, ◌==◌, List, [], ◌∷◌, ◌++◌, map, length, slice_get, slice_index_or, position, Option, None, Some, IsSome, IfSome, is_some, option_map, Contains, AllPairs, string_bytes, ◌↔◌, refl, sym, ap, subst, ◌∙◌, true≢false, arith}
+use Rattle.std.proofs.Common.{◌≡◌, ◌≢◌, ℕ, zero, suc, ◌+◌, ◌<◌, Bool, true, false, cond, if◌then◌else◌, ◌&&◌, ◌==◌, List, [], ◌∷◌, ◌++◌, length, slice_get, slice_index_or, position, Option, None, Some, IsSome, IfSome, is_some, option_map, string_bytes, ◌↔◌, refl, sym, ap, subst, ◌∙◌, true≢false, arith}
 use Rattle.std.specs.declared.string.String.{String}
 use Rattle.std.specs.List.{position_from, AllByRecursion, IsDistinct}
 use Rattle.std.specs.Map.{keys_of}
@@ -13,7 +13,7 @@ use Rattle.std.proofs.lemmas.List.{map-append}
 use Rattle.std.proofs.lemmas.Map.Keys.{IsDistinct-head, IsDistinct-tail}
 use Rattle.clf_syntax.specs.Word.{same_bytes}
 use Rattle.clf_sig.specs.declared.entry.Entry.{Entry}
-use Rattle.clf_sig.specs.Entry.{PlainSignature, PlainEntry, names, place_of, entry_at, class_at, IsNamed, HasDistinctNames, simple_types}
+use Rattle.clf_sig.specs.Entry.{PlainSignature, names, place_of, entry_at, class_at, IsNamed, HasDistinctNames}
 use Rattle.clf_sig.specs.Signature.{Declared, entries, plain_entry, plain_class, plain_signature}
 use Rattle.clf_sig.specs.Keys.{named}
 

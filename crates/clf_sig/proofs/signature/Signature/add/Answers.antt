@@ -1,8 +1,7 @@
 -- The key is new, so its entry goes behind all others.
-use Rattle.std.proofs.Common.{◌≡◌, ◌++◌, ◌∷◌, [], map, refl, sym, ap, subst, ◌∙◌, is_some, false, string_bytes, length, ◌+◌, arith}
+use Rattle.std.proofs.Common.{◌≡◌, ◌++◌, ◌∷◌, [], refl, sym, ap, ◌∙◌, is_some, false, string_bytes, length, ◌+◌, arith}
 use Rattle.std.proofs.lemmas.List.{length-append, length-map}
-use Rattle.clf_syntax.specs.PlainSimple.{plain_simple}
-use Rattle.clf_sig.specs.Entry.{place_of, simple_types}
+use Rattle.clf_sig.specs.Entry.{place_of}
 use Rattle.clf_sig.specs.Signature.{plain_signature}
 use Rattle.clf_sig.specs.Keys.{named}
 use Rattle.clf_sig.proofs.Added.{inserted, grown}

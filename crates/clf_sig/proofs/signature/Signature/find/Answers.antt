@@ -1,5 +1,5 @@
 -- What `find` answers is the place of the name.
-use Rattle.std.proofs.Common.{◌≡◌, Some, sym, ap, subst, ◌∙◌}
+use Rattle.std.proofs.Common.{◌≡◌, Some, sym, ◌∙◌}
 use Rattle.clf_sig.specs.Entry.{place_of}
 use Rattle.clf_sig.specs.Signature.{plain_signature}
 use Rattle.clf_sig.proofs.Names.{place_of-keys, found, is_named, distinct}

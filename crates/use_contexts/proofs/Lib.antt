@@ -1,0 +1,6 @@
+pub mod Lookups
+pub mod Bits
+pub mod Splits
+pub mod RowLaws
+pub mod UseLaws
+pub mod ArgumentLaws

@@ -1,0 +1,157 @@
+-- Rows: what the check of a part leaves of a holding, with slack where the part may take more linear entries.
+use Rattle.std.specs.Prelude.{ℕ, zero, suc, ◌≡◌, Bool, true, false, not, ◌&&◌, ◌||◌, if◌then◌else◌, List, [], ◌∷◌, length, Option, Some, None}
+use Rattle.std.specs.Option.{option_map}
+use Rattle.clf_syntax.specs.declared.tree.Mode.{Mode}
+use Rattle.clf_syntax.specs.declared.tree.Mode.TheVariants.{Persistent, Affine, Linear}
+use Rattle.use_contexts.specs.Holding.{Holding, is_persistent, is_linear, persistent_alone, Split}
+
+-- the holding after variable i is used: it is held no longer, unless it is persistent
+abbrev pub taken : List Mode → ℕ → Holding → Holding
+taken (m ∷ ms) zero (h ∷ hs) = (is_persistent m && h) ∷ hs
+taken (m ∷ ms) (suc i) (h ∷ hs) = h ∷ taken ms i hs
+taken [] i hs = hs
+taken (m ∷ ms) i [] = []
+
+-- an entry of a pair is left where both parts left it
+abbrev pub left_in_both : Holding → Holding → Holding
+left_in_both (a ∷ as') (b ∷ bs) = (a && b) ∷ left_in_both as' bs
+left_in_both [] bs = []
+left_in_both (a ∷ as') [] = []
+
+-- The parts of a pair differ at a linear entry that one used and the other left, unless the one that left it has slack.
+-- The marks say whether each part left the entry.
+abbrev pub differs : Mode → Bool → Bool → Bool → Bool → Bool
+differs m a s b t = is_linear m && ((a && not b && not s) || (b && not a && not t))
+
+-- the newest entry at which the parts of a pair differ
+abbrev pub newest_difference : List Mode → Holding → Bool → Holding → Bool → Option ℕ
+newest_difference (m ∷ ms) (a ∷ as') s (b ∷ bs) t = if differs m a s b t then Some 0 else option_map suc (newest_difference ms as' s bs t)
+newest_difference [] as' s bs t = None
+newest_difference (m ∷ ms) [] s bs t = None
+newest_difference (m ∷ ms) (a ∷ as') s [] t = None
+
+-- ---- which parts of a holding a row stands for
+abbrev pub implies : Bool → Bool → Bool
+implies true b = b
+implies false b = true
+
+-- An entry of a part p is held only where h holds it; a persistent one is held by both.
+abbrev pub within : Mode → Bool → Bool → Bool
+within Persistent h p = h && p
+within Affine h p = implies p h
+within Linear h p = implies p h
+
+-- An entry that is held (h) and not left (l) is used, and the part p has to hold it. A linear entry that is left may be held by p
+-- only with slack (s). An affine one that is left may be held or not.
+abbrev pub stands : Mode → Bool → Bool → Bool → Bool → Bool
+stands Persistent h l s p = h && l && p
+stands Affine h l s p = implies l h && implies p h && implies (h && not l) p
+stands Linear h l s p = implies l h && implies p h && implies (h && not l) p && implies (l && p) s
+
+-- the newest mark, and the marks of the older entries
+abbrev pub now : Holding → Bool
+now [] = false
+now (b ∷ bs) = b
+
+abbrev pub later : Holding → Holding
+later [] = []
+later (b ∷ bs) = bs
+
+abbrev pub EachWithin : List Mode → Holding → Holding → Type 0
+EachWithin [] h p = Unit {0}
+EachWithin (m ∷ ms) h p = (within m (now h) (now p) ≡ true) × EachWithin ms (later h) (later p)
+
+abbrev pub EachStands : List Mode → Holding → Holding → Bool → Holding → Type 0
+EachStands [] h l s p = Unit {0}
+EachStands (m ∷ ms) h l s p = (stands m (now h) (now l) s (now p) ≡ true) × EachStands ms (later h) (later l) s (later p)
+
+-- p is a part of the holding h: it has the same entries, and holds none that h does not.
+abbrev pub IsPart : List Mode → Holding → Holding → Type 0
+IsPart ms h p = (length p ≡ length ms) × EachWithin ms h p
+
+-- Stands ms h l s p: p is a part of the holding h that the row l, which is left of h, and the slack s stand for.
+abbrev pub Stands : List Mode → Holding → Holding → Bool → Holding → Type 0
+Stands ms h l s p = (length p ≡ length ms) × EachStands ms h l s p
+
+-- an answer of a check: nothing, or the row that is left and its slack
+abbrev pub Answer : Type 0
+Answer = Option (Holding × Bool)
+
+-- An answer agrees with a property of the parts of h: without an answer no part has it, and a row stands for exactly the parts that have it.
+abbrev pub Agrees : List Mode → Holding → Answer → (Holding → Type 0) → Type 0
+Agrees ms h None P = (p : Holding) → IsPart ms h p → P p → ⊥
+Agrees ms h (Some a) P = IsPart ms h a.0 × ((p : Holding) → IsPart ms h p → P p → Stands ms h a.0 a.1 p) × ((p : Holding) → IsPart ms h p → Stands ms h a.0 a.1 p → P p)
+
+-- The holding is split between a part with the first property and one with the second.
+abbrev pub Shared : List Mode → (Holding → Type 0) → (Holding → Type 0) → Holding → Type 0
+Shared ms P Q p = (g k : Holding) × Split ms p g k × P g × Q k
+
+-- ---- how answers go together
+-- the answer of two parts in turn, from the first's slack and the second's answer
+abbrev pub in_turn : Answer → Bool → Answer
+in_turn None s = None
+in_turn (Some b) s = Some (b.0, s || b.1)
+
+-- the answer of a pair, from those of its parts
+abbrev pub joined_unless : Option ℕ → Holding × Bool → Answer
+joined_unless None a = Some a
+joined_unless (Some i) a = None
+
+abbrev pub joined : List Mode → Answer → Answer → Answer
+joined ms None b = None
+joined ms (Some a) None = None
+joined ms (Some a) (Some b) = joined_unless (newest_difference ms a.0 a.1 b.0 b.1) (left_in_both a.0 b.0, a.1 && b.1)
+
+-- a linear entry is left at the end of its scope, without slack
+abbrev pub is_unused : Mode → Bool → Bool → Bool
+is_unused m l s = is_linear m && l && not s
+
+-- the answer outside the scope of the newest entry
+abbrev pub closed : Mode → Answer → Answer
+closed m None = None
+closed m (Some a) = if is_unused m (now a.0) a.1 then None else Some (later a.0, a.1)
+
+-- the answer outside the scope of several entries, the last one the newest
+abbrev pub closed_all : List Mode → Answer → Answer
+closed_all [] r = r
+closed_all (n ∷ ns) r = closed n (closed_all ns r)
+
+-- the modes with those of newer entries, the last one the newest
+abbrev pub entered : List Mode → List Mode → List Mode
+entered [] ms = ms
+entered (n ∷ ns) ms = entered ns (n ∷ ms)
+
+-- ---- arguments
+-- the row without its linear entries
+abbrev pub without_linear : List Mode → Holding → Holding
+without_linear (m ∷ ms) (h ∷ hs) = (not (is_linear m) && h) ∷ without_linear ms hs
+without_linear [] hs = []
+without_linear (m ∷ ms) [] = []
+
+-- the linear entries of the first row, and the others of the second
+abbrev pub linear_of : List Mode → Holding → Holding → Holding
+linear_of (m ∷ ms) (a ∷ as') (b ∷ bs) = (if is_linear m then a else b) ∷ linear_of ms as' bs
+linear_of [] as' bs = []
+linear_of (m ∷ ms) [] bs = []
+linear_of (m ∷ ms) (a ∷ as') [] = []
+
+-- The row from which an argument starts: a persistent one has the persistent entries alone, an affine one no linear entry.
+abbrev pub allowed : Mode → List Mode → Holding → Holding
+allowed Persistent ms l = persistent_alone ms
+allowed Affine ms l = without_linear ms l
+allowed Linear ms l = l
+
+-- the row outside an argument that started from what is allowed of l and left r
+abbrev pub outside : Mode → List Mode → Holding → Holding → Holding
+outside Persistent ms l r = l
+outside Affine ms l r = linear_of ms l r
+outside Linear ms l r = r
+
+-- Only a linear argument's slack counts outside.
+abbrev pub slack_outside : Mode → Bool → Bool
+slack_outside m t = is_linear m && t
+
+-- the answer outside an argument, from the row at its begin and its own answer
+abbrev pub argued : Mode → List Mode → Holding → Answer → Answer
+argued m ms l None = None
+argued m ms l (Some a) = Some (outside m ms l a.0, slack_outside m a.1)
