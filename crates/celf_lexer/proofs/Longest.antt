@@ -98,7 +98,7 @@ word_is_front bytes h =
       omega (arith, ap length (word_in-word w word), ltb-false 255 (length w) t),
     )))
 
-word_has_byte : (w : List ℕ) → is_word w ≡ true → 0 < length w
+pub word_has_byte : (w : List ℕ) → is_word w ≡ true → 0 < length w
 word_has_byte [] e = cc
 word_has_byte (b ∷ bs) e = omega arith
 

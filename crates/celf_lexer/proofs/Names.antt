@@ -1,5 +1,5 @@
 -- The spellings of the tokens of a text, as callers read them.
-use Rattle.std.proofs.Common.{◌≡◌, ◌∙◌, ℕ, ◌+◌, ◌-◌, ◌≤◌, nat_le, Bool, true, false, List, ◌∷◌, ◌++◌, length, take, drop, codes, Ok, IsTrue, refl, ap, sym, subst, arith}
+use Rattle.std.proofs.Common.{◌≡◌, ◌∙◌, ℕ, ◌+◌, ◌-◌, ◌≤◌, nat_le, ◌<◌, Bool, true, false, not, List, [], ◌∷◌, ◌++◌, length, take, drop, codes, Ok, IsTrue, refl, ap, sym, subst, arith}
 use Rattle.std.proofs.lemmas.Bool.{le-leb}
 use Rattle.std.proofs.lemmas.List.{drop-drop}
 use Rattle.std.proofs.Math.Seq.{take-append_seam}
@@ -8,15 +8,15 @@ use Rattle.std.specs.Str.{IsUtf8}
 use Rattle.celf_lexer.specs.declared.token.TokenKind.{TokenKind}
 use Rattle.celf_lexer.specs.declared.token.TokenKind.TheVariants as kind
 use Rattle.celf_lexer.specs.declared.token.Token.{Token}
-use Rattle.clf_syntax.specs.Word.{is_name, is_declarable, same_bytes}
+use Rattle.clf_syntax.specs.Word.{all_digits, is_word, is_name, is_declarable, same_bytes}
 use Rattle.celf_lexer.specs.Gap.{gap}
 use Rattle.celf_lexer.specs.Sign.{Front, token, long, bad, word_kind, hash_kind, signs, front}
 use Rattle.celf_lexer.specs.Spelling.{Spelled, a_word, a_constant, behind_hash, back_lolli, a_sign, the_end, word_in, IsFront}
 use Rattle.celf_lexer.specs.Tokens.{placed, first_of, next_token, lexeme_of}
 use Rattle.celf_lexer.proofs.Ascii.{IsUtf8-word}
 use Rattle.celf_lexer.proofs.Bounds.{is_word_kind, word_kind-is_word_kind}
-use Rattle.celf_lexer.proofs.Cases.{if_cases, and_both, and_left, clash}
-use Rattle.celf_lexer.proofs.Longest.{front-is_front}
+use Rattle.celf_lexer.proofs.Cases.{if_cases, and_both, and_left, clash, not_true}
+use Rattle.celf_lexer.proofs.Longest.{front-is_front, word_has_byte}
 use Rattle.celf_lexer.proofs.Signs.{member_passes}
 use Rattle.celf_lexer.proofs.Splits.{is_name-word, word_in-word}
 use Rattle.celf_lexer.proofs.Words.{is_name_kind, is_name-word_kind}
@@ -74,6 +74,38 @@ constant_spelled (back_lolli after g) n = cc
 constant_spelled (a_sign s after m i) n = clash (no_name s.1) (member_passes (λ (u : List ℕ × TokenKind). no_name u.1) signs s signs_are_no_names m) (ap no_name n)
 constant_spelled the_end n = cc
 
+number_word : (w : List ℕ) → word_kind w ≡ kind.Number → all_digits w ≡ true
+number_word [] e = refl
+number_word (b ∷ bs) e =
+    let P : TokenKind → Type 0 = λ k. k ≡ kind.Number → all_digits (b ∷ bs) ≡ true in
+    if_cases P (same_bytes (b ∷ bs) (codes "type")) kind.KwType _ (λ g n. cc)
+    (λ g. if_cases P (same_bytes (b ∷ bs) (codes "Pi")) kind.KwPi _ (λ h n. cc)
+    (λ g. if_cases P (same_bytes (b ∷ bs) (codes "Exists")) kind.KwExists _ (λ h n. cc)
+    (λ g. if_cases P (same_bytes (b ∷ bs) (codes "let")) kind.KwLet _ (λ h n. cc)
+    (λ g. if_cases P (same_bytes (b ∷ bs) (codes "in")) kind.KwIn _ (λ h n. cc)
+    (λ g. if_cases P (same_bytes (b ∷ bs) (codes "_")) kind.Hole _ (λ h n. cc)
+    (λ g. if_cases P (all_digits (b ∷ bs)) kind.Number _ (λ h n. h) (λ h n. cc))))))) e
+
+abbrev is_number : TokenKind → Bool
+is_number kind.Number = true
+is_number _ = false
+
+hash_kind-no_number : (w : List ℕ) → is_number (hash_kind w) ≡ false
+hash_kind-no_number w =
+    if_cases (λ k. is_number k ≡ false) (same_bytes w (codes "1")) kind.Proj1 _ (λ e. refl) (λ e. if_cases (λ k. is_number k ≡ false) (same_bytes w (codes "2")) kind.Proj2 kind.Directive (λ f. refl) (λ f. refl))
+
+signs_are_no_numbers : list_all (λ s. not (is_number s.1)) signs ≡ true
+signs_are_no_numbers = refl
+
+number_spelled : {k : TokenKind} {s after : List ℕ} → Spelled k s after → k ≡ kind.Number → (is_word s ≡ true) × (all_digits s ≡ true)
+number_spelled (a_word w after i e) n = (i, number_word w n)
+number_spelled (a_constant w after i e) n = cc
+number_spelled (behind_hash w after i e) n = clash (is_number (hash_kind w)) (ap is_number n) (hash_kind-no_number w)
+number_spelled (back_lolli after g) n = cc
+number_spelled (a_sign s after m i) n =
+    clash (is_number s.1) (ap is_number n) (not_true (is_number s.1) (member_passes (λ (u : List ℕ × TokenKind). not (is_number u.1)) signs s signs_are_no_numbers m))
+number_spelled the_end n = cc
+
 declarable : (w : List ℕ) → is_name w ≡ true → length w ≤ 255 → is_declarable w ≡ true
 declarable w n l = and_both (is_name w) (nat_le (length w) 255) n (le-leb (length w) 255 l)
 
@@ -94,6 +126,17 @@ constant-declarable text at t e k =
     let p = constant_spelled f.3 k in
     let short : length p.0 ≤ 255 = omega (arith, f.6, ap (λ x. length (word_in x)) p.1) in
     (p.0, spelling_is text t f.0 f.1 f.2 f.4 ∙ p.1, declarable p.0 p.2 short)
+
+-- The spelling of a number is a word of digits alone, of at most 255.
+pub number-digits : (text : List ℕ) (at : ℕ) (t : Token) → next_token text at ≡ Ok t → t.kind ≡ kind.Number
+    → (all_digits (lexeme_of text t).spelling ≡ true) × (0 < length (lexeme_of text t).spelling) × (length (lexeme_of text t).spelling ≤ 255)
+number-digits text at t e k =
+    let f = next_token-is_front text at t e in
+    let s = f.0 in
+    let n = number_spelled f.3 k in
+    let same : (lexeme_of text t).spelling ≡ s = spelling_is text t s f.1 f.2 f.4 in
+    let size : length (lexeme_of text t).spelling ≡ length s = ap length same in
+    (ap all_digits same ∙ n.1, omega (arith, size, word_has_byte s n.0), omega (arith, size, f.6, ap length (word_in-word s n.0)))
 
 -- A name that can be declared is a text.
 pub IsUtf8-declarable : (w : List ℕ) → IsTrue (is_declarable w) → IsUtf8 w

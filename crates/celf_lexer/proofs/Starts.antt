@@ -1,8 +1,6 @@
 -- Where the next token begins, or the byte where none does.
-use Rattle.std.proofs.Common.{◌≡◌, ◌≢◌, ◌≤◌, ◌<◌, ◌+◌, ◌-◌, ℕ, List, [], ◌∷◌, length, drop, Result, Ok, Err, refl, sym, ap, subst, ◌∙◌, arith}
+use Rattle.std.proofs.Common.{◌≡◌, ◌≤◌, ◌<◌, ◌+◌, ℕ, List, [], ◌∷◌, length, drop, Ok, Err, arith}
 use Rattle.std.proofs.lemmas.List.{length-drop}
-use Rattle.celf_lexer.specs.declared.token.TokenKind.{TokenKind}
-use Rattle.celf_lexer.specs.declared.token.TokenKind.TheVariants.{End}
 use Rattle.celf_lexer.specs.declared.token.Token.{Token}
 use Rattle.celf_lexer.specs.declared.token.LexFault.{LexFault}
 use Rattle.celf_lexer.specs.declared.token.LexFault.TheVariants.{BadByte, LongName}
