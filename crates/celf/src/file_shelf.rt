@@ -1,5 +1,5 @@
 //! A shelf over the files of the system.
-ghost use Rattle.std.specs.Prelude.{◌≤◌, None};
+ghost use Rattle.std.specs.Prelude.{◌≡◌, ◌≤◌, None};
 ghost use Rattle.celf_source.specs.Count.{Rose};
 ghost use Rattle.celf_source.specs.Shelf.{untold};
 
@@ -19,7 +19,9 @@ pub struct FileShelf<R: Files + Drop> {
 
 impl<R: Files + Drop> FileShelf<R> {
     /// A shelf with no file open.
-    pub fn new(files: R) -> FileShelf<R> {
+    pub fn new(files: R) -> FileShelf<R>
+        ensures { ⟦<FileShelf<R> as Shelf>⟧.faults result ≡ 0 }
+    {
         FileShelf {
             files,
             open: None,

@@ -16,7 +16,9 @@ pub struct PrintSink<R: Print + Drop> {
 
 impl<R: Print + Drop> PrintSink<R> {
     /// A sink that has not failed.
-    pub fn new(output: R) -> PrintSink<R> {
+    pub fn new(output: R) -> PrintSink<R>
+        ensures { ⟦<PrintSink<R> as Sink>⟧.faults result ≡ 0 }
+    {
         PrintSink { output, faults: 0 }
     }
 
