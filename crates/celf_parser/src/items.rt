@@ -1,5 +1,6 @@
 //! Items.
-ghost use Rattle.std.specs.Prelude.{ℕ, ◌≡◌, ◌≢◌, ◌<◌, ◌≤◌, ◌+◌, length, drop, IfOk, IfSome, IfNone, IsErrOf};
+ghost use Rattle.std.specs.Prelude.{ℕ, ◌≡◌, ◌≢◌, ◌<◌, ◌≤◌, ◌+◌, length, drop, IsTrue, IfOk, IfSome, IfNone, IsErrOf};
+ghost use Rattle.clf_syntax.specs.Word.{is_declarable};
 ghost use Rattle.celf_lexer.specs.Gap.{gap};
 ghost use Rattle.celf_lexer.specs.Tokens.{tokens_at, tokens_from, next_token};
 ghost use Rattle.celf_parser.specs.Surface.{surface, declaration, has_type_word as has_type_word_of};
@@ -25,6 +26,7 @@ pub fn next_item(alloc: Global, bytes: &[u8], at: u32) -> Result<Option<Item>, S
     ensures item { IfOk result (λ found. IfSome found (λ item.
         IsDeclaration NESTING (tokens_from bytes.now at) (declaration item) (tokens_from bytes.now item.span.end))) }
     ensures behind { IfOk result (λ found. IfSome found (λ item. (at < item.span.end) × (item.span.end ≤ length bytes.now))) }
+    ensures name { IfOk result (λ found. IfSome found (λ item. IsTrue (is_declarable (declaration item).name))) }
     ensures none { IfOk result (λ found. IfNone found (at + gap (drop at bytes.now) ≡ length bytes.now)) }
     ensures absent { (start : ℕ) → IsErrOf result (SyntaxFault.NotYet start) → NoDeclaration NESTING (tokens_from bytes.now at) }
     ensures start { (start : ℕ) → IsErrOf result (SyntaxFault.NotYet start) → start ≡ at + gap (drop at bytes.now) }
@@ -43,6 +45,7 @@ fn item_at(alloc: Global, bytes: &[u8], first: Token) -> Result<Option<Item>, Sy
     ensures item { IfOk result (λ found. IfSome found (λ item.
         IsDeclaration NESTING (tokens_at bytes.now first) (declaration item) (tokens_from bytes.now item.span.end))) }
     ensures behind { IfOk result (λ found. IfSome found (λ item. (first.start < item.span.end) × (item.span.end ≤ length bytes.now))) }
+    ensures name { IfOk result (λ found. IfSome found (λ item. IsTrue (is_declarable (declaration item).name))) }
     ensures none { IfOk result (λ found. IfNone found (first.kind ≡ TokenKind.End)) }
     ensures absent { (start : ℕ) → IsErrOf result (SyntaxFault.NotYet start) → NoDeclaration NESTING (tokens_at bytes.now first) }
     ensures start { (start : ℕ) → IsErrOf result (SyntaxFault.NotYet start) → (start ≡ first.start) × (first.kind ≢ TokenKind.End) }
@@ -63,6 +66,7 @@ fn declaration_at(alloc: Global, bytes: &[u8], first: Token) -> Result<Item, Sto
     requires token { IsTokenOf bytes.now first }
     ensures found { IfOk result (λ item. IsDeclaration NESTING (tokens_at bytes.now first) (declaration item) (tokens_from bytes.now item.span.end)) }
     ensures behind { IfOk result (λ item. (first.start < item.span.end) × (item.span.end ≤ length bytes.now)) }
+    ensures name { IfOk result (λ item. IsTrue (is_declarable (declaration item).name)) }
     ensures absent { IsErrOf result Stop.Absent → NoDeclaration NESTING (tokens_at bytes.now first) }
 {
     if !is_name(first.kind) {

@@ -5,3 +5,6 @@ pub mod Standing
 pub mod Spelled
 pub mod ReadsBack
 pub mod Rules
+pub mod Meanings
+pub mod Lines
+pub mod Answering

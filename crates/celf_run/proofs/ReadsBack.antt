@@ -1,5 +1,5 @@
 -- The printed line of an entry reads back as that entry.
-use Rattle.std.proofs.Common.{ℕ, ◌≡◌, ◌+◌, Bool, true, false, not, refl, ◌∙◌, subst, ap, IsTrue, List, [], ◌∷◌, ◌++◌, append_assoc, Some, option_map, codes, arith}
+use Rattle.std.proofs.Common.{ℕ, ◌≡◌, ◌+◌, Bool, true, false, not, refl, ◌∙◌, subst, ap, IsTrue, List, [], ◌∷◌, ◌++◌, length, append_assoc, Some, option_map, codes, arith}
 use Rattle.std.proofs.lemmas.Bool.{or_from}
 use Rattle.celf_lexer.specs.declared.token.TokenKind.TheVariants as kind
 use Rattle.celf_lexer.specs.Tokens.{Lexeme, tokens_of}
@@ -10,7 +10,8 @@ use Rattle.clf_syntax.specs.Word.{is_declarable}
 use Rattle.clf_syntax.specs.TypeTree.{PlainType, function, both as additive_pair}
 use Rattle.clf_sig.specs.Entry.{PlainClass, family_of, constant_of, PlainEntry, PlainSignature}
 use Rattle.celf_run.specs.Reading.{mode_of, type_of, class_of, Reads}
-use Rattle.celf_run.specs.Text.{whole, class_text}
+use Rattle.celf_run.specs.declared.line.Place.TheVariants.{Whole as whole}
+use Rattle.celf_run.specs.Text.{class_text}
 use Rattle.celf_run.specs.Bare.{IsBareSignature, IsBareClass, IsBareEntry}
 use Rattle.celf_run.specs.Transcript.{ReadsBack}
 use Rattle.celf_run.proofs.Options.{combined-some}
@@ -94,7 +95,7 @@ stop-follows us tokens =
 -- a declaration whose tokens stand one behind the other
 declaration-from : (n m : ℕ) (x c s : Lexeme) (xs cs ts us vs ends : List Lexeme) (capital : Bool) (a : Surface)
     → ts ≡ x ∷ xs → x.kind ≡ kind.Name capital → xs ≡ c ∷ cs → c.kind ≡ kind.Colon → IsType n cs a us m → us ≡ s ∷ vs → s.kind ≡ kind.Stop → vs ≡ ends → is_kind_or_type a ≡ true
-    → IsDeclaration n ts (record { name = x.spelling; ty = a; span = record { start = x.start; end = s.start + 1 } }) ends
+    → IsDeclaration n ts (record { name = x.spelling; ty = a; span = record { start = x.start; end = s.start + length s.spelling } }) ends
 declaration-from n m x c s xs cs ts us vs ends capital a ts_is name xs_is colon type us_is stop ends_are allowed =
     rw (ts_is, xs_is, ← ends_are) (declared name colon (rw us_is at type) stop allowed)
 
@@ -111,7 +112,7 @@ line-reads sig name entry text fit spells none =
     let stop = tokens-stop (codes "\n") class.others class.rest_tokens in
     let end = tokens-end stop.others (tokens-blank 10 [] stop.others refl stop.rest_tokens) in (
       class.before,
-      record { name = x.1.first.spelling; ty = class.tree; span = record { start = x.1.first.start; end = stop.first.start + 1 } },
+      record { name = x.1.first.spelling; ty = class.tree; span = record { start = x.1.first.start; end = stop.first.start + length stop.first.spelling } },
       end.0,
       declaration-from class.before class.after x.1.first colon.first stop.first x.1.others colon.others (tokens_of 0 line) class.others stop.others (end.0 ∷ []) x.0 class.tree
           x.1.is x.1.kind_is colon.is colon.kind_is class.parse stop.is stop.kind_is end.1 class.allowed,

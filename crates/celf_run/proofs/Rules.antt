@@ -6,6 +6,7 @@ use Rattle.use_contexts.specs.Context.{Context}
 use Rattle.clf_sig.specs.Entry.{PlainClass, family_of, constant_of, PlainEntry, PlainSignature, place_of, class_at, kind_in, family_kind, names}
 use Rattle.clf_kernel.specs.WellFormed.{WellFormedType, WellFormedClass, WellFormedEntry, MayFollow, AllMayFollow, WellFormedSignature}
 use Rattle.clf_kernel.proofs.Signatures.{bare_families, extended}
+use Rattle.clf_sig.proofs.Names.{is_named}
 use Rattle.celf_run.specs.declared.status.Status.{Status}
 use Rattle.celf_run.specs.Bare.{IsBareType, IsBareClass, IsBareEntry, AreBare, IsBareSignature}
 use Rattle.celf_run.specs.Transcript.{SourceItem, accepted, Allowed, declaration, Answers, no_more, accepts, refuses}
@@ -20,12 +21,16 @@ bare-type sig g (both a b) h = (bare-type sig g a h.0, bare-type sig g b h.1)
 bare-type sig g top h = tt
 bare-type sig g (monad s) h = absurd h
 
+bare-class : (sig : PlainSignature) (c : PlainClass) → IsBareClass sig c → WellFormedClass sig c
+bare-class sig (family_of args) h = rw h tt
+bare-class sig (constant_of a) h = bare-type sig [] a h
+
 pub bare-entry : (sig : PlainSignature) (e : PlainEntry) → IsBareEntry sig e → WellFormedEntry sig e
-bare-entry sig e h = ?
+bare-entry sig e h = (bare-class sig e.class h.0, omega (arith, h.1))
 
 -- The name of no entry is not among the names.
-unnamed : (sig : PlainSignature) (name : List ℕ) → place_of name sig ≡ None → Contains (names sig) name → ⊥
-unnamed sig name h c = ?
+pub unnamed : (sig : PlainSignature) (name : List ℕ) → place_of name sig ≡ None → Contains (names sig) name → ⊥
+unnamed sig name h c = let e = (is_named name sig None (sym h)).1 c in cc
 
 bare-after : (earlier later : PlainSignature) → AreBare earlier later → AllMayFollow earlier later
 bare-after earlier [] h = tt

@@ -15,7 +15,9 @@ use Rattle.clf_syntax.specs.Word.{is_variable_word, is_declarable}
 use Rattle.clf_syntax.specs.TypeTree.{PlainType, family, function, both as additive_pair, top as additive_unit, monad}
 use Rattle.clf_sig.specs.Entry.{family_of, PlainEntry, PlainSignature, class_at}
 use Rattle.celf_run.specs.Reading.{mode_of, meaning_of, type_of}
-use Rattle.celf_run.specs.Text.{Place, whole, operand, factor, arrow_text, grouped, written_name, place_text, type_text, groups_function, groups_pair}
+use Rattle.celf_run.specs.declared.line.Place.{Place}
+use Rattle.celf_run.specs.declared.line.Place.TheVariants.{Whole as whole, Operand as operand, Factor as factor}
+use Rattle.celf_run.specs.Text.{arrow_text, grouped, written_name, place_text, type_text, groups_function, groups_pair}
 use Rattle.celf_run.specs.Bare.{IsBareSignature, IsBareType}
 use Rattle.celf_run.proofs.Options.{option_map-some}
 use Rattle.celf_run.proofs.Bare.{bare-get}

@@ -8,7 +8,8 @@ use Rattle.celf_parser.specs.Grammar.{arrow_of, is_arrow, is_amp, Ends, IsType, 
 use Rattle.clf_syntax.specs.TypeTree.{PlainType, function, both as additive_pair}
 use Rattle.clf_sig.specs.Entry.{PlainSignature}
 use Rattle.celf_run.specs.Reading.{mode_of, type_of}
-use Rattle.celf_run.specs.Text.{Place, whole, operand, factor}
+use Rattle.celf_run.specs.declared.line.Place.{Place}
+use Rattle.celf_run.specs.declared.line.Place.TheVariants.{Whole as whole, Operand as operand, Factor as factor}
 
 -- what a place is in the grammar
 abbrev pub Parse : Place → ℕ → List Lexeme → Surface → List Lexeme → ℕ → Type 0

@@ -11,5 +11,9 @@ pub use Rattle.celf_parser.specs.Surface
 pub use Rattle.celf_parser.specs.Grammar
 pub mod Reading
 pub mod Text
+pub mod Appended
 pub mod Bare
 pub mod Transcript
+pub mod Answering
+pub mod Outcome
+pub mod Words

@@ -4,6 +4,8 @@ use Rattle.std.specs.Option.{option_map}
 use Rattle.clf_syntax.specs.declared.tree.Mode.{Mode}
 use Rattle.clf_syntax.specs.declared.tree.Mode.TheVariants.{Persistent, Affine, Linear}
 use Rattle.clf_syntax.specs.Word.{is_variable_word}
+use Rattle.celf_run.specs.declared.line.Place.{Place}
+use Rattle.celf_run.specs.declared.line.Place.TheVariants.{Whole as whole, Operand as operand, Factor as factor}
 use Rattle.clf_syntax.specs.TypeTree.{PlainType, family, function, both, top, monad, PlainKind}
 use Rattle.clf_sig.specs.Entry.{PlainClass, family_of, constant_of, PlainEntry, PlainSignature}
 
@@ -19,12 +21,6 @@ abbrev pub arrow_text : Mode → List ℕ
 arrow_text Persistent = codes " -> "
 arrow_text Affine = codes " -@ "
 arrow_text Linear = codes " -o "
-
--- how closely a place binds: a whole type; the left of an arrow or the right of &; the left of &
-pub data Place : Type 0 where
-  whole : Place
-  operand : Place
-  factor : Place
 
 abbrev pub grouped : Bool → List ℕ → List ℕ
 grouped true text = 40 ∷ text ++ 41 ∷ []
@@ -45,7 +41,7 @@ spelled f (Some x) (Some y) = Some (f x y)
 spelled f (Some x) None = None
 spelled f None y = None
 
--- The text of a type at a place: of families without indices, functions, pairs and <T>. A part of another form has no
+-- The text of a type at a place, which is a whole type, the left of an arrow or the right of &, or the left of &: of families without indices, functions, pairs and <T>. A part of another form has no
 -- text yet. Without indices no variable occurs in a type, so a persistent function is written with ->.
 abbrev pub type_text : PlainSignature → Place → PlainType → Option (List ℕ)
 type_text sig p (family k []) = Some (place_text sig k)

@@ -1,6 +1,10 @@
 //! Answers to the items of a file, from its bytes to the bytes printed.
 #![tactic(auto)]
 
+mod answer;
+mod line;
+mod meaning;
 mod status;
+mod words;
 
 pub use status::Status;

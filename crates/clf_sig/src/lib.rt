@@ -9,4 +9,4 @@ mod tests;
 
 pub use entry::{Class, Entry};
 pub use item::Core;
-pub use signature::{AddFault, Signature};
+pub use signature::{AddFault, MAX_ENTRIES, Signature};

@@ -7,6 +7,8 @@ use Rattle.celf_parser.specs.Surface.{surface}
 use Rattle.celf_parser.specs.Grammar.{is_colon, is_stop, Ends, IsType, IsDeclaration}
 use Rattle.celf_parser.specs.Absent.{NoType, NoDeclaration}
 use Rattle.celf_parser.specs.Place.{IfTokenOf, IsTokenOf, IsBehind, tokens_on}
+use Rattle.clf_syntax.specs.Word.{is_declarable}
+use Rattle.celf_lexer.proofs.Names.{name-declarable}
 use Rattle.celf_parser.proofs.Leaves.{lexeme-end}
 use Rattle.celf_parser.proofs.Following.{tokens_after-stop, name_kind, stop-has_byte}
 use Rattle.celf_parser.proofs.Declarations.{declaration-no_name, declaration-no_colon, declaration-no_type, declaration-no_stop, declaration-no_whole, declaration-found}
@@ -76,3 +78,10 @@ returns-clause-behind c =
     let stop_of : IsTokenOf text stop = subst (IfTokenOf text) c.in-Some-stop_at.ensures.some.0 c.in_ok-found.ensures.within in
     let byte = stop-has_byte text stop stop_of c.in-Some-stop_at.ensures.some.1 in
     (omega arith, stop_of.within)
+
+pub returns-clause-name : goal.returns-clause-name
+returns-clause-name c =
+    let text = c.args.bytes.now in
+    let named = name_kind c.args.first.kind (sym c.is_name.ensures ∙ c.if-not-is_name.false) in
+    let first = c.requires.token in
+    ap is_declarable c.in_ok-name.ensures ∙ name-declarable text first.place c.args.first named.0 first.first named.1

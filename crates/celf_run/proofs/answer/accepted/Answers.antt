@@ -1,0 +1,19 @@
+use Rattle.std.proofs.Common.{subst, sym, refl, ap}
+use Rattle.clf_sig.specs.Signature.{plain_signature, plain_class}
+use Rattle.celf_run.specs.Bare.{IsBareSignature}
+use Rattle.celf_run.proofs.Rules.{unnamed}
+use Rattle.celf_run.proofs.Bare.{bare-append}
+use Rattle.celf_run.proofs.Answering.{line-some, bare-fresh, plain-added}
+use Rattle.celf_run.proofs.answer.accepted.Goals as goal
+
+pub entry_line-requires : goal.entry_line-requires
+entry_line-requires c = line-some (plain_signature c.args.sig.now) c.args.name.now (plain_class c.args.class) c.requires.bare c.requires.name c.requires.class
+
+pub unreachable-requires : goal.unreachable-requires
+unreachable-requires c = unnamed (plain_signature c.args.sig.now) c.args.name.now c.requires.new (c.in-Err-Duplicate.ensures.duplicate.0 (cc c.in-Err-Duplicate.field-0-is))
+
+pub returns-in-Ok-clause-bare : goal.returns-in-Ok-clause-bare
+returns-in-Ok-clause-bare c =
+    let old = plain_signature c.args.sig.now in
+    let added = plain-added c.args.sig.now c.add.new.self c.args.name.now _ c.in-Ok.ensures.added in
+    subst IsBareSignature (sym added) (bare-append old c.args.name.now _ c.requires.bare c.requires.new c.requires.name (bare-fresh old (plain_class c.args.class) c.requires.class))
