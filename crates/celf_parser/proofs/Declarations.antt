@@ -1,16 +1,11 @@
 -- Declarations, and where there is none.
-use Rattle.std.proofs.Common.{◌≡◌, ◌≢◌, ◌≤◌, ◌<◌, ◌+◌, ◌-◌, ℕ, List, [], ◌∷◌, Bool, true, false, length, refl, sym, ap, subst, ◌∙◌, arith}
-use Rattle.celf_lexer.specs.declared.token.TokenKind.{TokenKind}
+use Rattle.std.proofs.Common.{◌≡◌, ◌+◌, ℕ, List, [], ◌∷◌, Bool, true, false, length, refl, sym, ap, subst, ◌∙◌}
 use Rattle.celf_lexer.specs.declared.token.TokenKind.TheVariants.{Name, Colon, Stop}
-use Rattle.celf_lexer.specs.declared.token.Token.{Token}
-use Rattle.celf_lexer.specs.Tokens.{Lexeme, lexeme_of, tokens_at, tokens_after, tokens_from}
-use Rattle.celf_parser.specs.declared.surface.Span.{Span}
+use Rattle.celf_lexer.specs.Tokens.{Lexeme}
 use Rattle.celf_parser.specs.Surface.{Surface, Declaration}
 use Rattle.celf_parser.specs.Grammar.{is_colon, is_stop, is_name_kind, Ends, IsType, IsDeclaration, declared, is_kind_or_type}
 use Rattle.celf_parser.specs.Absent.{NoType, NoDeclaration}
-use Rattle.celf_parser.specs.Place.{IsTokenOf}
-use Rattle.celf_parser.proofs.Grammar.{one_type, head-same, tail-same, type_moved}
-use Rattle.celf_parser.proofs.Leaves.{lexeme-end}
+use Rattle.celf_parser.proofs.Grammar.{one_type, head-same}
 
 -- None begins with a token that is no name.
 pub declaration-no_name : (n : ℕ) (x : Lexeme) (ts : List Lexeme) → is_name_kind x.kind ≡ false → NoDeclaration n (x ∷ ts)

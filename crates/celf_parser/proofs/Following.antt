@@ -1,15 +1,14 @@
 -- Tokens of a text, and what follows them.
-use Rattle.std.proofs.Common.{◌≡◌, ◌≤◌, ◌<◌, ◌+◌, ◌-◌, ℕ, List, [], ◌∷◌, Bool, true, false, length, take, drop, refl, sym, ap, subst, ◌∙◌, arith, Option, Some, None, Result, Ok, Err}
+use Rattle.std.proofs.Common.{◌≡◌, ◌≤◌, ◌<◌, ◌+◌, ◌-◌, ℕ, List, [], Bool, true, false, length, take, drop, refl, sym, ap, subst, ◌∙◌, arith, Result, Ok, Err}
 use Rattle.std.proofs.lemmas.List.{drop-take, drop-drop}
 use Rattle.std.specs.Result.{result_ok}
 use Rattle.celf_lexer.specs.declared.token.TokenKind.{TokenKind}
 use Rattle.celf_lexer.specs.declared.token.TokenKind.TheVariants.{End, Stop, Name, ConstName}
 use Rattle.celf_lexer.specs.declared.token.Token.{Token}
 use Rattle.celf_lexer.specs.declared.token.LexFault.{LexFault}
-use Rattle.celf_lexer.specs.Tokens.{Lexeme, next_token, tokens_from, tokens_at, tokens_after, is_end, lexeme_of}
+use Rattle.celf_lexer.specs.Tokens.{next_token, tokens_from, tokens_at, tokens_after, is_end, lexeme_of}
 use Rattle.celf_lexer.proofs.Tokens.{tokens_from-ok, tokens_from-err, next_token-stands}
-use Rattle.clf_syntax.specs.Word.{is_declarable}
-use Rattle.std.specs.Prelude.{IsTrue, IsUtf8}
+use Rattle.std.specs.Prelude.{IsUtf8}
 use Rattle.celf_lexer.proofs.Names.{name-declarable, constant-declarable, IsUtf8-declarable}
 use Rattle.celf_parser.specs.Grammar.{is_name_kind}
 use Rattle.celf_parser.specs.Place.{IsTokenOf, IfTokenOf, IsBehind, tokens_on}

@@ -1,11 +1,10 @@
 -- What begins a list of tokens is determined.
-use Rattle.std.proofs.Common.{◌≡◌, ℕ, zero, suc, Bool, true, false, List, [], ◌∷◌, Option, Some, None, is_some, refl, sym, ap, subst, ◌∙◌, drop, arith}
-use Rattle.celf_lexer.specs.declared.token.TokenKind.{TokenKind}
-use Rattle.celf_lexer.specs.declared.token.TokenKind.TheVariants.{KwType, Name, ConstName, TopSign, LeftParen, RightParen, Colon, Stop, Amp, Lolli, Affine, Arrow as ArrowSign}
+use Rattle.std.proofs.Common.{◌≡◌, ℕ, suc, true, List, [], ◌∷◌, Some, is_some, refl, sym, ap, subst, ◌∙◌, arith}
+use Rattle.celf_lexer.specs.declared.token.TokenKind.TheVariants.{Amp}
 use Rattle.celf_lexer.specs.Tokens.{Lexeme}
 use Rattle.celf_parser.specs.declared.surface.Arrow.{Arrow}
-use Rattle.celf_parser.specs.Surface.{Surface, arrow, both, type_word, named, top, Declaration}
-use Rattle.celf_parser.specs.Grammar.{arrow_of, is_arrow, is_amp, Ends, span_of, IsType, alone, arrows, IsWith, single, paired, IsAtom, word, name, constant, unit, grouped, IsDeclaration, declared}
+use Rattle.celf_parser.specs.Surface.{Surface, arrow, both}
+use Rattle.celf_parser.specs.Grammar.{arrow_of, is_arrow, is_amp, Ends, IsType, alone, arrows, IsWith, single, paired, IsAtom, word, name, constant, unit, grouped}
 
 -- one tree, one rest, and one number of parts that may still be opened
 abbrev pub Same : Surface → Surface → List Lexeme → List Lexeme → ℕ → ℕ → Type 0

@@ -1,12 +1,11 @@
 -- Atoms of one token.
-use Rattle.std.proofs.Common.{◌≡◌, ◌≤◌, ◌+◌, ◌-◌, ℕ, List, Bool, true, false, length, take, drop, refl, sym, ap, subst, ◌∙◌, arith, length-drop}
+use Rattle.std.proofs.Common.{◌≡◌, ◌≤◌, ◌+◌, ◌-◌, ℕ, List, Bool, true, false, length, take, drop, sym, ap, subst, ◌∙◌, arith}
 use Rattle.std.proofs.lemmas.Grind.{common_steps}
-use Rattle.celf_lexer.specs.declared.token.TokenKind.{TokenKind}
 use Rattle.celf_lexer.specs.declared.token.TokenKind.TheVariants.{KwType, Name, ConstName, TopSign}
 use Rattle.celf_lexer.specs.declared.token.Token.{Token}
-use Rattle.celf_lexer.specs.Tokens.{Lexeme, lexeme_of, tokens_at, tokens_after}
+use Rattle.celf_lexer.specs.Tokens.{lexeme_of, tokens_at, tokens_after}
 use Rattle.celf_parser.specs.declared.surface.Span.{Span}
-use Rattle.celf_parser.specs.declared.surface.SType.{SType, TypeWord, Family, Top}
+use Rattle.celf_parser.specs.declared.surface.SType.{TypeWord, Family, Top}
 use Rattle.celf_parser.specs.Surface.{Surface, named, surface, surface-TypeWord, surface-Family, surface-Top}
 use Rattle.celf_parser.specs.Grammar.{IsAtom, word, name, constant, unit, span_of}
 use Rattle.celf_parser.specs.Place.{IsTokenOf}

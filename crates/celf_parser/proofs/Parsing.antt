@@ -1,12 +1,12 @@
 -- What the parser meets at each place, and where there is nothing for it.
-use Rattle.std.proofs.Common.{◌≡◌, ◌<◌, ◌≤◌, ◌-◌, ℕ, zero, suc, Bool, true, false, List, [], ◌∷◌, Option, Some, None, refl, sym, ap, subst, ◌∙◌, arith}
+use Rattle.std.proofs.Common.{◌≡◌, ◌<◌, ◌≤◌, ◌-◌, ℕ, suc, Bool, true, false, List, [], ◌∷◌, Some, refl, sym, ap, subst, ◌∙◌, arith}
 use Rattle.celf_lexer.specs.declared.token.TokenKind.{TokenKind}
-use Rattle.celf_lexer.specs.declared.token.TokenKind.TheVariants.{KwType, Name, ConstName, TopSign, LeftParen, RightParen, Colon, Stop, Amp}
+use Rattle.celf_lexer.specs.declared.token.TokenKind.TheVariants.{KwType, Name, ConstName, TopSign, LeftParen, RightParen, Amp}
 use Rattle.celf_lexer.specs.Tokens.{Lexeme}
 use Rattle.celf_parser.specs.declared.surface.Arrow.{Arrow}
-use Rattle.celf_parser.specs.Surface.{Surface, arrow, both, type_word, named, top, Declaration}
-use Rattle.celf_parser.specs.Grammar.{arrow_of, is_arrow, is_amp, is_close, Ends, span_of, IsType, alone, arrows, IsWith, single, paired, IsAtom, word, name, constant, unit, grouped, IsDeclaration, declared, is_kind_or_type}
-use Rattle.celf_parser.specs.Absent.{NoType, NoWith, NoAtom, NoDeclaration}
+use Rattle.celf_parser.specs.Surface.{Surface, arrow, both}
+use Rattle.celf_parser.specs.Grammar.{arrow_of, is_arrow, is_amp, is_close, Ends, IsType, alone, arrows, IsWith, single, paired, IsAtom, word, name, constant, unit, grouped}
+use Rattle.celf_parser.specs.Absent.{NoType, NoWith, NoAtom}
 use Rattle.celf_parser.proofs.Grammar.{one_type, one_with, one_atom, no_arrow, no_amp, tail-same, head-same, type_moved, with_moved}
 
 same_room : (n : ℕ) → 0 < n → suc (n - 1) ≡ n

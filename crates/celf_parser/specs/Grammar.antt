@@ -8,7 +8,7 @@
 -- IsType n ts a us m: the tokens ts begin with the type a, and the tokens us follow it. Before it n more nested parts
 -- may be opened, and behind it m. A part is opened by '(', '&' and each arrow. That of '(' ends with its ')', with all
 -- that was opened in it; the others last to the end of the part around them, or of the item.
-use Rattle.std.specs.Prelude.{ℕ, suc, ◌+◌, ◌≡◌, Bool, true, false, ◌||◌, not, List, [], ◌∷◌, length, drop, Option, Some, None, is_some}
+use Rattle.std.specs.Prelude.{ℕ, suc, ◌+◌, ◌≡◌, Bool, true, false, not, List, [], ◌∷◌, length, drop, Option, Some, None, is_some}
 use Rattle.celf_lexer.specs.declared.token.TokenKind.{TokenKind}
 use Rattle.celf_lexer.specs.declared.token.TokenKind.TheVariants.{KwType, Name, ConstName, TopSign, LeftParen, RightParen, Colon, Stop, Amp, Lolli, Affine, Arrow as ArrowSign}
 use Rattle.celf_lexer.specs.Tokens.{Lexeme}

@@ -1,6 +1,5 @@
 -- Tokens of a text, and what follows them.
 use Rattle.std.specs.Prelude.{ℕ, ◌≡◌, ◌≤◌, ◌<◌, false, List, [], length, Option, Some, None, Ok}
-use Rattle.celf_lexer.specs.declared.token.TokenKind.{TokenKind}
 use Rattle.celf_lexer.specs.declared.token.Token.{Token}
 use Rattle.celf_lexer.specs.Tokens.{Lexeme, tokens_at, next_token, is_end}
 

@@ -1,5 +1,5 @@
 -- Plain surface trees: what contracts see of `SType` and `Item`.
-use Rattle.std.specs.Prelude.{ℕ, ◌≡◌, Bool, true, false, ◌||◌, List, refl}
+use Rattle.std.specs.Prelude.{ℕ, ◌≡◌, Bool, true, false, ◌||◌, List}
 use Rattle.celf_parser.specs.declared.surface.Arrow.{Arrow}
 use Rattle.celf_parser.specs.declared.surface.Span.{Span}
 use Rattle.celf_parser.specs.declared.surface.SType.{SType, Arrow as ArrowForm, With, TypeWord, Family, Top, fold-SType, fold-roll-SType, roll-SType}

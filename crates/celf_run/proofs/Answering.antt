@@ -1,10 +1,10 @@
 -- From what was found of a declaration to its answer.
-use Rattle.std.proofs.Common.{ℕ, ◌≡◌, ◌≢◌, Bool, true, false, refl, ap, sym, ◌∙◌, subst, Option, Some, None, IsSome, is_some, List, [], ◌∷◌, ◌++◌, length, IsTrue, map, append-nil, arith, codes, Result, Ok, Err}
+use Rattle.std.proofs.Common.{ℕ, ◌≡◌, ◌≢◌, true, false, refl, ap, sym, ◌∙◌, subst, Option, Some, None, IsSome, is_some, List, [], ◌∷◌, ◌++◌, length, IsTrue, codes, Result, Ok, Err}
 use Rattle.std.specs.Prelude.{IfOk, OnOk}
 use Rattle.std.proofs.lemmas.List.{length-map}
 use Rattle.clf_syntax.specs.Word.{is_declarable}
 use Rattle.clf_sig.specs.declared.entry.Entry.{Entry}
-use Rattle.clf_sig.specs.Entry.{PlainClass, PlainEntry, PlainSignature, place_of}
+use Rattle.clf_sig.specs.Entry.{PlainClass, PlainSignature, place_of}
 use Rattle.clf_sig.specs.Signature.{Declared, plain_signature, plain_entry}
 use Rattle.clf_sig.proofs.Names.{plain_signature-append}
 use Rattle.celf_parser.specs.Surface.{Surface, Declaration}
@@ -14,7 +14,7 @@ use Rattle.celf_run.specs.Bare.{IsBareSignature, IsBareClass, IsBareEntry}
 use Rattle.celf_run.specs.Transcript.{declares, accepted, refused, room, Allowed, duplicate, full, unknown, declaration, refusal_line}
 use Rattle.celf_run.specs.Answering.{fresh_entry, AnswersBy}
 use Rattle.celf_run.proofs.Rules.{bare-entry}
-use Rattle.celf_run.proofs.Bare.{class_of-bare, bare-append}
+use Rattle.celf_run.proofs.Bare.{class_of-bare}
 use Rattle.celf_run.proofs.ReadsBack.{reads_back}
 
 none_of : (r : Option ℕ) → is_some r ≡ false → r ≡ None

@@ -1,15 +1,14 @@
 -- What is bare is well formed by the rules, and so is what a run holds.
-use Rattle.std.proofs.Common.{ℕ, ◌≡◌, ◌+◌, suc, zero, true, false, refl, ap, sym, ◌∙◌, subst, Option, Some, None, IsSome, option_map, List, [], ◌∷◌, ◌++◌, IsTrue, arith, Contains}
-use Rattle.clf_syntax.specs.Word.{is_declarable}
+use Rattle.std.proofs.Common.{ℕ, ◌≡◌, refl, sym, Some, None, List, [], ◌∷◌, ◌++◌, arith, Contains}
 use Rattle.clf_syntax.specs.TypeTree.{PlainType, family, function, both, top, monad}
 use Rattle.use_contexts.specs.Context.{Context}
-use Rattle.clf_sig.specs.Entry.{PlainClass, family_of, constant_of, PlainEntry, PlainSignature, place_of, class_at, kind_in, family_kind, names}
-use Rattle.clf_kernel.specs.WellFormed.{WellFormedType, WellFormedClass, WellFormedEntry, MayFollow, AllMayFollow, WellFormedSignature}
+use Rattle.clf_sig.specs.Entry.{PlainClass, family_of, constant_of, PlainEntry, PlainSignature, place_of, class_at, family_kind, names}
+use Rattle.clf_kernel.specs.WellFormed.{WellFormedType, WellFormedClass, WellFormedEntry, AllMayFollow, WellFormedSignature}
 use Rattle.clf_kernel.proofs.Signatures.{bare_families, extended}
 use Rattle.clf_sig.proofs.Names.{is_named}
 use Rattle.celf_run.specs.declared.status.Status.{Status}
 use Rattle.celf_run.specs.Bare.{IsBareType, IsBareClass, IsBareEntry, AreBare, IsBareSignature}
-use Rattle.celf_run.specs.Transcript.{SourceItem, accepted, Allowed, declaration, Answers, no_more, accepts, refuses}
+use Rattle.celf_run.specs.Transcript.{SourceItem, declaration, Answers, no_more, accepts, refuses}
 
 bare-family : (sig : PlainSignature) (k : ℕ) → class_at sig k ≡ Some (family_of []) → family_kind sig k ≡ Some []
 bare-family sig k e = rw e refl

@@ -1,18 +1,18 @@
 -- How a turn ends, and how a run goes on from it.
-use Rattle.std.proofs.Common.{ℕ, ◌≡◌, ◌≢◌, ◌≤◌, Bool, true, false, refl, ap, sym, ◌∙◌, subst, Option, Some, None, List, [], ◌∷◌, ◌++◌, length, take, append_assoc, append-nil, arith, codes}
+use Rattle.std.proofs.Common.{ℕ, ◌≡◌, ◌≤◌, Bool, true, false, refl, ap, sym, ◌∙◌, subst, Option, Some, None, List, [], ◌∷◌, ◌++◌, length, take, append_assoc, append-nil, codes}
 use Rattle.celf_parser.specs.Surface.{Declaration}
 use Rattle.celf_parser.specs.Grammar.{IsDeclaration, declared, is_kind_or_type}
 use Rattle.celf_lexer.specs.Tokens.{Lexeme}
 use Rattle.clf_sig.specs.Entry.{PlainEntry, PlainSignature}
-use Rattle.celf_source.specs.Sink.{Appends, AppendsPrefix}
+use Rattle.celf_source.specs.Sink.{Appends}
 use Rattle.celf_run.specs.declared.status.Status.{Status}
 use Rattle.celf_run.specs.declared.status.Status.TheVariants.{Done, Refused, BadWords, ReadFault, WriteFault, NoMemory, TooLarge}
 use Rattle.celf_run.specs.Bare.{IsBareSignature}
 use Rattle.celf_run.specs.Text.{entry_line}
-use Rattle.celf_run.specs.Transcript.{SourceItem, declares, unread, Answer, accepted, refused, Allowed, not_yet, refusal_line, Items, Answers, no_more, accepts, refuses, TranscriptFrom, OnlyBlanks, FirstItem, IsLine, Begun, nothing, front, beyond}
+use Rattle.celf_run.specs.Transcript.{SourceItem, declares, unread, Answer, accepted, refused, Allowed, not_yet, refusal_line, Items, no_more, accepts, refuses, OnlyBlanks, FirstItem, IsLine, Begun, nothing, front, beyond}
 use Rattle.celf_run.specs.Answering.{AnswersBy}
 use Rattle.celf_source.specs.Shelf.{Told, untold, lacking, holding, StandsBehind}
-use Rattle.celf_run.specs.Outcome.{Answered, Outcome, Run}
+use Rattle.celf_run.specs.Outcome.{Outcome, Run}
 use Rattle.celf_run.specs.Turning.{TakesOn, Reached}
 use Rattle.celf_run.proofs.Rules.{bare-signature}
 

@@ -1,7 +1,7 @@
 -- Types, entries and signatures without dependencies: families without arguments, functions, pairs and <T>. So are all that are read so far.
-use Rattle.std.specs.Prelude.{ℕ, ◌≡◌, ◌≤◌, IsTrue, List, [], ◌∷◌, ◌++◌, Option, Some, None}
+use Rattle.std.specs.Prelude.{◌≡◌, IsTrue, [], ◌∷◌, ◌++◌, Some, None}
 use Rattle.clf_syntax.specs.Word.{is_declarable}
-use Rattle.clf_syntax.specs.TypeTree.{PlainType, family, function, both, top, monad, PlainKind}
+use Rattle.clf_syntax.specs.TypeTree.{PlainType, family, function, both, top, monad}
 use Rattle.clf_sig.specs.Entry.{PlainClass, family_of, constant_of, PlainEntry, PlainSignature, place_of, class_at}
 
 abbrev pub IsBareType : PlainSignature → PlainType → Type 0

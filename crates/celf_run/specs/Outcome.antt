@@ -1,5 +1,5 @@
 -- How a run over a text ends, and what is written then.
-use Rattle.std.specs.Prelude.{ℕ, ◌≡◌, ◌≤◌, ◌<◌, List, [], length, Option, Some, None}
+use Rattle.std.specs.Prelude.{ℕ, ◌≡◌, ◌≤◌, ◌<◌, List, [], length, Option}
 use Rattle.clf_sig.specs.Entry.{PlainSignature}
 use Rattle.clf_kernel.specs.WellFormed.{WellFormedSignature}
 use Rattle.celf_source.specs.Shelf.{Told, untold, lacking, holding}

@@ -3,7 +3,6 @@ use Rattle.std.specs.Prelude.{ℕ, ◌≡◌, Bool, true, false, if◌then◌els
 use Rattle.std.specs.Option.{option_map, option_or}
 use Rattle.celf_parser.specs.declared.surface.Arrow.{Arrow}
 use Rattle.celf_parser.specs.declared.surface.Arrow.TheVariants.{To, Lolli, Affine as AffineArrow}
-use Rattle.celf_parser.specs.declared.surface.Span.{Span}
 use Rattle.celf_parser.specs.Surface.{Surface, arrow, both, type_word, named, top, Declaration}
 use Rattle.celf_parser.specs.Grammar.{IsDeclaration}
 use Rattle.celf_lexer.specs.Tokens.{Lexeme, tokens_from}

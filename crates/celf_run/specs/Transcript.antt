@@ -1,5 +1,5 @@
 -- What a run writes for the text that it read: the answers to its items, in order.
-use Rattle.std.specs.Prelude.{ℕ, ◌+◌, ◌≡◌, ◌≤◌, ◌≢◌, IsTrue, List, [], ◌∷◌, ◌++◌, Option, Some, None, IsSome, length, take, drop, codes}
+use Rattle.std.specs.Prelude.{ℕ, ◌+◌, ◌≡◌, ◌≢◌, IsTrue, List, [], ◌∷◌, ◌++◌, Some, None, IsSome, length, take, drop, codes}
 use Rattle.std.specs.Fmt.{decimal}
 use Rattle.celf_lexer.specs.Gap.{gap}
 use Rattle.celf_lexer.specs.Tokens.{Lexeme, tokens_from}

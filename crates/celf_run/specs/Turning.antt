@@ -1,5 +1,5 @@
 -- One turn of a run: an accepted declaration takes it on to the item behind it.
-use Rattle.std.specs.Prelude.{ℕ, ◌≡◌, ◌<◌, ◌≤◌, List, [], ◌∷◌, ◌++◌, length, Option, Some}
+use Rattle.std.specs.Prelude.{ℕ, ◌≡◌, List, [], ◌∷◌, ◌++◌, Option, Some}
 use Rattle.celf_parser.specs.Surface.{Declaration}
 use Rattle.clf_sig.specs.Entry.{PlainEntry, PlainSignature}
 use Rattle.celf_source.specs.Sink.{Appends}

@@ -1,5 +1,4 @@
-use Rattle.std.proofs.Common.{sym, ◌∙◌, ap, subst, Option, arith}
-use Rattle.celf_lexer.specs.declared.token.Token.{Token}
+use Rattle.std.proofs.Common.{sym, ◌∙◌, ap, subst, arith}
 use Rattle.celf_parser.specs.Place.{IfTokenOf, IsBehind, tokens_on}
 use Rattle.celf_parser.proofs.Following.{tokens_after-on, following-stands, following-behind}
 use Rattle.celf_parser.proofs.cursor.following.Goals as goal

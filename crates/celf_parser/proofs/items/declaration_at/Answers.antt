@@ -1,10 +1,10 @@
-use Rattle.std.proofs.Common.{◌≡◌, ◌≤◌, ◌<◌, sym, ◌∙◌, ap, subst, Option, Some, List, ◌∷◌, ◌+◌, Bool, true, false, ℕ, arith}
+use Rattle.std.proofs.Common.{◌≡◌, ◌≤◌, sym, ◌∙◌, ap, subst, Option, Some, List, ◌∷◌, ℕ, arith}
 use Rattle.std.proofs.lemmas.Result.{err_from_is_err_and}
 use Rattle.celf_lexer.specs.declared.token.Token.{Token}
 use Rattle.celf_lexer.specs.Tokens.{Lexeme, lexeme_of, tokens_at, tokens_after, tokens_from}
 use Rattle.celf_parser.specs.declared.items.TheConstants.{NESTING}
 use Rattle.celf_parser.specs.Surface.{surface}
-use Rattle.celf_parser.specs.Grammar.{is_colon, is_stop, Ends, IsType, IsDeclaration}
+use Rattle.celf_parser.specs.Grammar.{is_colon, Ends, IsType, IsDeclaration}
 use Rattle.celf_parser.specs.Absent.{NoType, NoDeclaration}
 use Rattle.celf_parser.specs.Place.{IfTokenOf, IsTokenOf, IsBehind, tokens_on}
 use Rattle.clf_syntax.specs.Word.{is_declarable}

@@ -1,12 +1,10 @@
-use Rattle.std.proofs.Common.{◌≡◌, ◌+◌, ◌∙◌, sym, subst, List, ℕ, Option, Some, None, Result, Ok, Err, drop, length}
+use Rattle.std.proofs.Common.{◌≡◌, ◌∙◌, sym, subst, List, Option, Some, None}
 use Rattle.std.specs.Prelude.{IfOk, IfSome, IfNone}
 use Rattle.std.proofs.lemmas.Result.{IfOk-weaker}
-use Rattle.celf_lexer.specs.Gap.{gap}
-use Rattle.celf_lexer.specs.Tokens.{Lexeme, tokens_from, tokens_at}
-use Rattle.celf_lexer.proofs.Tokens.{tokens_from-ok, tokens_from-err, next_token-stands}
-use Rattle.celf_lexer.proofs.Starts.{next_token-start, next_token-byte, next_token-byte_within}
+use Rattle.celf_lexer.specs.Tokens.{Lexeme, tokens_from}
+use Rattle.celf_lexer.proofs.Tokens.{tokens_from-ok, tokens_from-err}
+use Rattle.celf_lexer.proofs.Starts.{next_token-start, next_token-byte}
 use Rattle.celf_parser.specs.declared.items.TheConstants.{NESTING}
-use Rattle.celf_parser.specs.declared.surface.Item.{Item}
 use Rattle.celf_parser.specs.Surface.{declaration}
 use Rattle.celf_parser.specs.Grammar.{IsDeclaration}
 use Rattle.celf_parser.specs.Absent.{NoDeclaration}

@@ -1,8 +1,8 @@
 use Rattle.celf_parser.specs.Absent.{NoType}
 use Rattle.std.proofs.lemmas.Result.{err_from_is_err_and}
-use Rattle.std.proofs.Common.{Option, ◌≤◌, ◌≡◌, List, ℕ, ◌-◌, subst, ap, sym, ◌∙◌}
+use Rattle.std.proofs.Common.{Option, ◌≤◌, List, ◌-◌, subst}
 use Rattle.celf_lexer.specs.declared.token.Token.{Token}
-use Rattle.celf_lexer.specs.Tokens.{Lexeme, tokens_at, tokens_after, lexeme_of}
+use Rattle.celf_lexer.specs.Tokens.{Lexeme, lexeme_of}
 use Rattle.celf_parser.specs.Surface.{surface}
 use Rattle.celf_parser.specs.Grammar.{IsType, IsWith}
 use Rattle.celf_parser.specs.Place.{IsBehind, tokens_on}

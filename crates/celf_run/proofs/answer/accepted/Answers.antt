@@ -1,4 +1,4 @@
-use Rattle.std.proofs.Common.{subst, sym, refl, ap}
+use Rattle.std.proofs.Common.{subst, sym}
 use Rattle.clf_sig.specs.Signature.{plain_signature, plain_class}
 use Rattle.celf_run.specs.Bare.{IsBareSignature}
 use Rattle.celf_run.proofs.Rules.{unnamed}

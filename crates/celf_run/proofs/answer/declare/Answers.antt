@@ -1,8 +1,6 @@
-use Rattle.std.proofs.Common.{◌≡◌, ◌≢◌, ◌∙◌, ◌++◌, ◌∷◌, [], false, sym, ap, subst, length, Some, None, codes}
-use Rattle.std.specs.Prelude.{OnOk}
-use Rattle.clf_sig.specs.Entry.{place_of}
+use Rattle.std.proofs.Common.{◌≡◌, ◌≢◌, ◌∙◌, ◌++◌, false, sym, ap, subst, length, Some, codes}
 use Rattle.clf_sig.specs.Signature.{plain_signature, plain_class}
-use Rattle.celf_parser.specs.Surface.{surface, Declaration}
+use Rattle.celf_parser.specs.Surface.{surface}
 use Rattle.celf_run.specs.declared.answer.Answered.{Answered}
 use Rattle.celf_run.specs.Text.{entry_line}
 use Rattle.celf_run.specs.Transcript.{room, refusal_line}

@@ -1,4 +1,4 @@
-use Rattle.std.proofs.Common.{ℕ, ◌≡◌, ◌∙◌, ap, sym, ◌++◌, append_assoc, nat_lt, ◌||◌}
+use Rattle.std.proofs.Common.{◌∙◌, ap, sym, ◌++◌, append_assoc, nat_lt, ◌||◌}
 use Rattle.clf_syntax.specs.Word.{is_variable_word}
 use Rattle.clf_sig.specs.Signature.{plain_signature, plain_entry}
 use Rattle.celf_run.proofs.Lines.{mark, place_text-named}

@@ -1,5 +1,4 @@
 use Rattle.std.proofs.Common.{arith}
-use Rattle.clf_sig.specs.Signature.{plain_signature}
 use Rattle.celf_run.proofs.Turns.{reached-onward, reached-ended}
 use Rattle.celf_run.proofs.top.answer_all.Goals as goal
 

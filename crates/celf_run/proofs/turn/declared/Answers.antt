@@ -1,4 +1,4 @@
-use Rattle.std.proofs.Common.{◌≡◌, sym, subst, refl, take, List, ℕ, [], true}
+use Rattle.std.proofs.Common.{◌≡◌, sym, subst, refl, take, List, ℕ, []}
 use Rattle.clf_sig.specs.Signature.{plain_signature}
 use Rattle.celf_source.specs.Sink.{Appends}
 use Rattle.celf_parser.specs.Surface.{declaration}

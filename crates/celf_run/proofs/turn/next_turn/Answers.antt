@@ -1,4 +1,4 @@
-use Rattle.std.proofs.Common.{◌≡◌, ◌≢◌, sym, subst, refl, List, ℕ, [], Option, None, length, arith}
+use Rattle.std.proofs.Common.{◌≡◌, subst, refl, [], Option}
 use Rattle.std.specs.Prelude.{IfNone}
 use Rattle.clf_sig.specs.Signature.{plain_signature}
 use Rattle.celf_parser.specs.declared.surface.Item.{Item}

@@ -1,4 +1,4 @@
-use Rattle.std.proofs.Common.{◌≡◌, sym, subst, refl, take, List, ℕ, []}
+use Rattle.std.proofs.Common.{sym, subst, refl, take, List, ℕ, []}
 use Rattle.celf_source.specs.Sink.{Appends}
 use Rattle.celf_run.specs.Transcript.{Begun, nothing}
 use Rattle.celf_run.proofs.Turns.{not-yet-refused, not-yet-begun, appends-nothing}

@@ -1,0 +1,225 @@
+//! Runs over files that are held in memory, with the text that the language's rules give.
+use crate::{Status, run};
+use celf_source::{MemShelf, MemSink, Shelf, ShelfFile, Sink, SureShelf, SureSink};
+use clf_syntax::Name;
+use std::alloc::Global;
+use std::process::Abort;
+use std::test::Fail;
+
+fn words_of(alloc: Global, words: &[&str]) -> Result<Vec<Name>, Fail> {
+    let mut names = Vec::new(alloc);
+    for word in words {
+        names.push(Name::new(alloc, word)?)?;
+    }
+    Ok(names)
+}
+
+fn answer<F: Shelf, W: Sink>(alloc: Global, shelf: &mut F, out: &mut W) -> Result<Status, Fail> {
+    let words = words_of(alloc, &["celf", "file"])?;
+    Ok(run(alloc, words.as_slice(), shelf, out))
+}
+
+/// Asserts that the pieces, which make a text, are answered by these bytes and this status.
+fn assert_answer(
+    rt: &impl Abort,
+    alloc: Global,
+    pieces: &[&[u8]],
+    printed: &[&[u8]],
+    status: Status,
+) -> Result<(), Fail> {
+    let (text, wanted) = (joined(alloc, pieces)?, joined(alloc, printed)?);
+    let mut out = SureSink::new(alloc)?;
+    let ended = answer(alloc, &mut SureShelf::new(alloc, text)?, &mut out)?;
+    assert_eq!(rt; ended, status);
+    assert_eq!(rt; out.written(), wanted.as_slice());
+    Ok(())
+}
+
+fn joined(alloc: Global, pieces: &[&[u8]]) -> Result<Vec<u8>, Fail> {
+    let mut bytes = Vec::new(alloc);
+    for piece in pieces {
+        bytes.extend_from_slice(piece)?;
+    }
+    Ok(bytes)
+}
+
+#[test]
+fn items_are_answered_in_order(rt: HostRuntime) -> Result<(), Fail> {
+    let alloc = rt.alloc();
+    for (text, printed, status) in [
+        ("", "", Status::Done),
+        ("% nothing", "", Status::Done),
+        (
+            "a : type. f : a -o a & <T>.",
+            "a : type.\nf : a -o a & <T>.\n",
+            Status::Done,
+        ),
+        (
+            "a : type. a : type.",
+            "a : type.\nrefused at 10: duplicate a.\n",
+            Status::Refused,
+        ),
+        (
+            "a : type. #check",
+            "a : type.\nrefused at 10: not yet.\n",
+            Status::Refused,
+        ),
+        (
+            "a : type. c : b.",
+            "a : type.\nrefused at 14: unknown name b.\n",
+            Status::Refused,
+        ),
+        (
+            "a : type. c : b -o a. d : a.",
+            "a : type.\nrefused at 14: unknown name b.\n",
+            Status::Refused,
+        ),
+        (
+            "x1 : type. c : $x1. x : type.",
+            "x1 : type.\nc : $x1.\nx : type.\n",
+            Status::Done,
+        ),
+        (
+            "o : type. a-o : type. s-z : o -o a-o -@ o.",
+            "o : type.\na-o : type.\ns-z : o -o a-o -@ o.\n",
+            Status::Done,
+        ),
+        (
+            "%1\n a\t%2\n:%3\r\n type %.\n.%4\nc:a&<T>->a. % the last",
+            "a : type.\nc : a & <T> -> a.\n",
+            Status::Done,
+        ),
+    ] {
+        assert_answer(
+            &rt,
+            alloc,
+            &[text.as_bytes()],
+            &[printed.as_bytes()],
+            status,
+        )?;
+    }
+    Ok(())
+}
+
+#[test]
+fn types_are_printed_with_few_parentheses(rt: HostRuntime) -> Result<(), Fail> {
+    let alloc = rt.alloc();
+    for (ty, printed) in [
+        ("a -> b -o c", "a -> b -o c"),
+        ("a -> (b -o c)", "a -> b -o c"),
+        ("(a -> b) -o c", "(a -> b) -o c"),
+        ("a & b -@ c", "a & b -@ c"),
+        ("(a & b) -@ c", "a & b -@ c"),
+        ("(a & b) & c", "(a & b) & c"),
+        ("a & (b & c)", "a & b & c"),
+        ("a & b & c", "a & b & c"),
+        ("(a -o b) & c", "(a -o b) & c"),
+        ("a & (b -o c)", "a & (b -o c)"),
+        ("((a))", "a"),
+        ("<T> & $a", "<T> & a"),
+    ] {
+        let families = b"a : type.\nb : type.\nc : type.\n".as_slice();
+        assert_answer(
+            &rt,
+            alloc,
+            &[families, b"d : ", ty.as_bytes(), b"."],
+            &[families, b"d : ", printed.as_bytes(), b".\n"],
+            Status::Done,
+        )?;
+    }
+    Ok(())
+}
+
+#[test]
+fn limits_are_exact(rt: HostRuntime) -> Result<(), Fail> {
+    let alloc = rt.alloc();
+    // The limit of 1,000 nested parts itself is tried on the built program, by tools/check-limits.
+    let (open, close) = (vec![in alloc; b'('; 100]?, vec![in alloc; b')'; 100]?);
+    assert_answer(
+        &rt,
+        alloc,
+        &[
+            b"a : type.\nd : ",
+            open.as_slice(),
+            b"a",
+            close.as_slice(),
+            b".",
+        ],
+        &[b"a : type.\n", b"d : a.\n"],
+        Status::Done,
+    )?;
+    let longest = vec![in alloc; b'a'; 255]?;
+    let word = longest.as_slice();
+    assert_answer(
+        &rt,
+        alloc,
+        &[word, b":type."],
+        &[word, b" : type.\n"],
+        Status::Done,
+    )?;
+    assert_answer(
+        &rt,
+        alloc,
+        &[word, b"a:type."],
+        &[b"refused at 0: not yet.\n"],
+        Status::Refused,
+    )?;
+    for (blanks, status) in [(16_777_216, Status::Done), (16_777_217, Status::TooLarge)] {
+        let blanks = vec![in alloc; b' '; blanks]?;
+        assert_answer(&rt, alloc, &[blanks.as_slice()], &[], status)?;
+    }
+    Ok(())
+}
+
+#[test]
+fn words_are_two(rt: HostRuntime) -> Result<(), Fail> {
+    let alloc = rt.alloc();
+    let rows: [(&[&str], Status); 6] = [
+        (&[], Status::BadWords),
+        (&["celf"], Status::BadWords),
+        (&["celf", ""], Status::BadWords),
+        (&["celf", "-file"], Status::BadWords),
+        (&["celf", "file", "file"], Status::BadWords),
+        (&["", "file"], Status::Done),
+    ];
+    for (words, status) in rows {
+        let mut shelf = SureShelf::new(alloc, b"a : type.".to_vec(alloc)?)?;
+        let mut out = SureSink::new(alloc)?;
+        let words = words_of(alloc, words)?;
+        assert_eq!(rt; run(alloc, words.as_slice(), &mut shelf, &mut out), status);
+        assert_eq!(rt; out.written().is_empty(), status == Status::BadWords);
+    }
+    Ok(())
+}
+
+#[test]
+fn each_call_of_shelf_and_sink_fails_in_turn(rt: HostRuntime) -> Result<(), Fail> {
+    let alloc = rt.alloc();
+    let text = b"a : type. b : type. c : a -o b. d : e.";
+    let printed = b"a : type.\nb : type.\nc : a -o b.\nrefused at 36: unknown name e.\n";
+    // One call opens the file and two read it; a call is made for each line. No call has the number 9.
+    for (reading, writing, status, written) in [
+        (1, 9, Status::ReadFault, 0),
+        (2, 9, Status::ReadFault, 0),
+        (3, 9, Status::ReadFault, 0),
+        (9, 1, Status::WriteFault, 0),
+        (9, 2, Status::WriteFault, 10),
+        (9, 3, Status::WriteFault, 20),
+        (9, 4, Status::WriteFault, 32),
+        (9, 9, Status::Refused, printed.len()),
+    ] {
+        let file = ShelfFile {
+            name: Name::new(alloc, "file")?,
+            bytes: text.to_vec(alloc)?,
+        };
+        let mut shelf = MemShelf::new(alloc, vec![in alloc; file]?, vec![in alloc; reading]?)?;
+        let mut out = MemSink::new(alloc, vec![in alloc; writing]?)?;
+        assert_eq!(rt; answer(alloc, &mut shelf, &mut out)?, status);
+        assert_eq!(rt; out.written(), &printed[..written]);
+    }
+    let mut empty = MemShelf::new(alloc, Vec::new(alloc), Vec::new(alloc))?;
+    let mut out = SureSink::new(alloc)?;
+    assert_eq!(rt; answer(alloc, &mut empty, &mut out)?, Status::ReadFault);
+    assert!(rt; out.written().is_empty());
+    Ok(())
+}
