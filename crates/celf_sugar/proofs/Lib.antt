@@ -1,0 +1,4 @@
+pub mod EarliestLaws
+pub mod FunctionLaws
+pub mod LeadingLaws
+pub mod AnswerLaws

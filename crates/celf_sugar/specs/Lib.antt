@@ -1,0 +1,11 @@
+pub use Rattle.clf_syntax.specs.Word
+pub use Rattle.celf_surface.specs.Surface
+pub mod PlainTree
+pub mod Plain
+pub mod Earliest
+pub mod Sugar
+pub mod Faults
+pub mod FaultLists
+pub mod SugarLists
+pub mod ClassLeading
+pub mod Answers

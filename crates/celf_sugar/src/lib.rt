@@ -1,0 +1,25 @@
+//! Items with their sugar removed.
+#![tactic(auto)]
+
+mod earliest;
+mod fault;
+mod first;
+mod item;
+mod item_fault;
+mod kind_place;
+mod leading;
+mod not_async;
+mod number;
+mod object;
+mod plain;
+mod redex;
+#[cfg(test)]
+mod tests;
+mod types;
+
+pub use fault::SugarFault;
+pub use item::desugar;
+pub use plain::{
+    PBinder, PClass, PElim, PEntry, PExpr, PMarked, PName, PObj, PObjForm, PStep, PTele, PTy,
+    PTyForm, Plain, PlainBody,
+};

@@ -1,0 +1,285 @@
+//! Plain objects.
+ghost use Rattle.std.specs.Prelude.{◌≡◌, IfOk, map, [], ◌∷◌, ◌++◌};
+ghost use Rattle.std.specs.List.{flat_map};
+ghost use Rattle.celf_surface.specs.declared.surface.SObj.{out-SObj};
+ghost use Rattle.celf_surface.specs.Surface.{object_tree, argument_tree, step_tree, tuple_tree, expression_tree, pattern_tree};
+ghost use Rattle.celf_sugar.specs.PlainTree.{tuple_of};
+ghost use Rattle.celf_sugar.specs.Plain.{plain_object, plain_form, plain_elim, plain_step, plain_marked, plain_expression};
+ghost use Rattle.celf_sugar.specs.Sugar.{object as object_of, head as head_of, acts as acts_of, steps as steps_of, entries_of_tuple, binders as binders_of, mark as mark_of};
+ghost use Rattle.celf_sugar.specs.SugarLists.{act_of, plain_step_of};
+
+use crate::plain::{PBinder, PElim, PExpr, PMarked, PName, PObj, PObjForm, PStep};
+use celf_surface::{SArg, SExpr, SMode, SObj, SObjForm, SPat, SStep, STuple};
+use clf_syntax::{Mode, Name};
+use sqlite_items::{Boxed, Items};
+use std::alloc::{AllocError, Global};
+
+/// The plain object of an object. It fails only where memory runs out.
+#[cycle(object)]
+#[tactic(auto, using(celf_surface::specs::Surface::surface_laws, crate::specs::Plain::plain_laws, crate::specs::SugarLists::sugar_laws))]
+pub fn object(alloc: Global, obj: &SObj) -> Result<PObj, AllocError>
+    ensures { IfOk result (λ o. plain_object o ≡ object_of (object_tree obj.now)) }
+{
+    Ok(PObj {
+        span: obj.span,
+        form: object_form(alloc, obj)?,
+    })
+}
+
+#[cycle(object)]
+#[tactic(auto, using(celf_surface::specs::Surface::surface_laws, crate::specs::Plain::plain_laws, crate::specs::SugarLists::sugar_laws))]
+fn object_form(alloc: Global, obj: &SObj) -> Result<PObjForm, AllocError>
+    ensures { IfOk result (λ f. plain_form f (out-SObj obj.now).span ≡ object_of (object_tree obj.now)) }
+{
+    match &obj.form {
+        SObjForm::Lam { mode, name, body } => {
+            let body = Boxed::new(alloc, object(alloc, body.get())?)?;
+            Ok(PObjForm::Lam {
+                mode: *mode,
+                name: copy_name(alloc, name)?,
+                body,
+            })
+        }
+        SObjForm::Pair { left, right } => {
+            let left = Boxed::new(alloc, object(alloc, left.get())?)?;
+            Ok(PObjForm::Pair {
+                left,
+                right: Boxed::new(alloc, object(alloc, right.get())?)?,
+            })
+        }
+        SObjForm::Unit => Ok(PObjForm::Unit),
+        SObjForm::Hole => Ok(PObjForm::Hole),
+        SObjForm::Braces { expr } => Ok(PObjForm::Mon {
+            expr: expression(alloc, expr.get())?,
+        }),
+        SObjForm::App { .. }
+        | SObjForm::Named { .. }
+        | SObjForm::First { .. }
+        | SObjForm::Second { .. } => {
+            let head = head_name(alloc, obj)?;
+            Ok(PObjForm::At {
+                head,
+                spine: spine_of_head(alloc, obj)?,
+            })
+        }
+    }
+}
+
+/// The head of an object; a name without bytes where it has none.
+#[tactic(auto, using(celf_surface::specs::Surface::surface_laws, crate::specs::Plain::plain_laws))]
+fn head_name(alloc: Global, obj: &SObj) -> Result<PName, AllocError>
+    ensures { IfOk result (λ n. n ≡ head_of (object_tree obj.now)) }
+{
+    match &obj.form {
+        SObjForm::App { head, args: _ } => head_name(alloc, head.get()),
+        SObjForm::Named { name, dollar } => Ok(PName {
+            name: name.copy(alloc)?,
+            dollar: *dollar,
+            span: obj.span,
+        }),
+        SObjForm::First { body } | SObjForm::Second { body } => head_name(alloc, body.get()),
+        SObjForm::Lam { .. }
+        | SObjForm::Hole
+        | SObjForm::Unit
+        | SObjForm::Pair { .. }
+        | SObjForm::Braces { .. } => Ok(PName {
+            name: Name::new(alloc, "")?,
+            dollar: false,
+            span: obj.span,
+        }),
+    }
+}
+
+/// What is done to the head of an object.
+#[cycle(object)]
+#[tactic(auto, using(celf_surface::specs::Surface::surface_laws, crate::specs::Plain::plain_laws, crate::specs::SugarLists::sugar_laws))]
+fn spine_of_head(alloc: Global, obj: &SObj) -> Result<Items<PElim>, AllocError>
+    ensures { IfOk result (λ es. map plain_elim es ≡ acts_of (object_tree obj.now)) }
+{
+    match &obj.form {
+        SObjForm::App { head, args } => {
+            let spine = spine_of_head(alloc, head.get())?;
+            joined(spine, arguments(alloc, args.as_slice())?)
+        }
+        SObjForm::First { body } => { projected(spine_of_head(alloc, body.get())?, PElim::First) }
+        SObjForm::Second { body } => { projected(spine_of_head(alloc, body.get())?, PElim::Second) }
+        SObjForm::Named { .. }
+        | SObjForm::Lam { .. }
+        | SObjForm::Hole
+        | SObjForm::Unit
+        | SObjForm::Pair { .. }
+        | SObjForm::Braces { .. } => Ok(Items::new(alloc)),
+    }
+}
+
+/// A spine with more behind it.
+fn joined(spine: Items<PElim>, more: Items<PElim>) -> Result<Items<PElim>, AllocError>
+    ensures { IfOk result (λ es. map plain_elim es ≡ map plain_elim spine ++ map plain_elim more) }
+{
+    let mut spine = spine;
+    spine.append(more)?;
+    Ok(spine)
+}
+
+/// A spine with a projection behind it.
+fn projected(spine: Items<PElim>, projection: PElim) -> Result<Items<PElim>, AllocError>
+    ensures { IfOk result (λ es. map plain_elim es ≡ map plain_elim spine ++ plain_elim projection ∷ []) }
+{
+    let mut spine = spine;
+    spine.push(projection)?;
+    Ok(spine)
+}
+
+#[cycle(object)]
+#[tactic(auto, using(celf_surface::specs::Surface::surface_laws, crate::specs::Plain::plain_laws, crate::specs::SugarLists::sugar_laws))]
+fn arguments(alloc: Global, args: &[SArg]) -> Result<Items<PElim>, AllocError>
+    ensures { IfOk result (λ es. map plain_elim es ≡ map act_of (map argument_tree args.now)) }
+{
+    let mut elims = Items::new(alloc);
+    for arg in args {
+        elims.push(argument(alloc, arg)?)?;
+    }
+    Ok(elims)
+}
+
+#[cycle(object)]
+#[tactic(auto, using(celf_surface::specs::Surface::surface_laws, crate::specs::Plain::plain_laws, crate::specs::SugarLists::sugar_laws))]
+fn argument(alloc: Global, arg: &SArg) -> Result<PElim, AllocError>
+    ensures { IfOk result (λ e. plain_elim e ≡ act_of (argument_tree arg.now)) }
+{
+    Ok(PElim::Arg {
+        mode: arg.mode,
+        obj: object(alloc, &arg.obj)?,
+    })
+}
+
+#[cycle(object)]
+#[tactic(auto, using(celf_surface::specs::Surface::surface_laws, crate::specs::Plain::plain_laws, crate::specs::SugarLists::sugar_laws))]
+fn expression(alloc: Global, expr: &SExpr) -> Result<PExpr, AllocError>
+    ensures { IfOk result (λ e. plain_expression e ≡ (steps_of (expression_tree expr.now).0, tuple_of (entries_of_tuple (expression_tree expr.now).1))) }
+{
+    let steps = steps(alloc, expr.steps.as_slice())?;
+    Ok(PExpr {
+        steps,
+        result: tuple(alloc, &expr.result)?,
+    })
+}
+
+#[cycle(object)]
+#[tactic(auto, using(celf_surface::specs::Surface::surface_laws, crate::specs::Plain::plain_laws, crate::specs::SugarLists::sugar_laws))]
+fn steps(alloc: Global, steps: &[SStep]) -> Result<Items<PStep>, AllocError>
+    ensures { IfOk result (λ ss. map plain_step ss ≡ map plain_step_of (map step_tree steps.now)) }
+{
+    let mut plain = Items::new(alloc);
+    for written in steps {
+        plain.push(step(alloc, written)?)?;
+    }
+    Ok(plain)
+}
+
+#[cycle(object)]
+#[tactic(auto, using(celf_surface::specs::Surface::surface_laws, crate::specs::Plain::plain_laws, crate::specs::SugarLists::sugar_laws))]
+fn step(alloc: Global, step: &SStep) -> Result<PStep, AllocError>
+    ensures { IfOk result (λ s. plain_step s ≡ plain_step_of (step_tree step.now)) }
+{
+    let pattern = binders(alloc, &step.pattern)?;
+    let head = head_name(alloc, &step.rhs)?;
+    Ok(PStep {
+        pattern,
+        head,
+        spine: spine_of_head(alloc, &step.rhs)?,
+    })
+}
+
+/// The entries of a tuple, as one flat list.
+#[cycle(object)]
+#[tactic(auto, using(celf_surface::specs::Surface::surface_laws, crate::specs::Plain::plain_laws, crate::specs::SugarLists::sugar_laws))]
+fn tuple(alloc: Global, tuple: &STuple) -> Result<Items<PMarked>, AllocError>
+    ensures { IfOk result (λ es. map plain_marked es ≡ entries_of_tuple (tuple_tree tuple.now)) }
+{
+    match tuple {
+        STuple::One => Ok(Items::new(alloc)),
+        STuple::List(parts) => tuples(alloc, parts.as_slice()),
+        STuple::Marked { mode, obj } => marked(alloc, mark(*mode), obj),
+        STuple::Bare(obj) => marked(alloc, SMode::Bare, obj),
+    }
+}
+
+#[cycle(object)]
+#[tactic(auto, using(celf_surface::specs::Surface::surface_laws, crate::specs::Plain::plain_laws, crate::specs::SugarLists::sugar_laws))]
+fn tuples(alloc: Global, tuples: &[STuple]) -> Result<Items<PMarked>, AllocError>
+    ensures { IfOk result (λ es. map plain_marked es ≡ flat_map entries_of_tuple (map tuple_tree tuples.now)) }
+{
+    let mut entries = Items::new(alloc);
+    for part in tuples {
+        entries.append(tuple(alloc, part)?)?;
+    }
+    Ok(entries)
+}
+
+/// One entry of a tuple.
+#[cycle(object)]
+#[tactic(auto, using(celf_surface::specs::Surface::surface_laws, crate::specs::Plain::plain_laws, crate::specs::SugarLists::sugar_laws))]
+fn marked(alloc: Global, mode: SMode, obj: &SObj) -> Result<Items<PMarked>, AllocError>
+    ensures { IfOk result (λ es. map plain_marked es ≡ (mode, object_of (object_tree obj.now)) ∷ []) }
+{
+    let mut entries = Items::new(alloc);
+    entries.push(PMarked {
+        mode,
+        obj: object(alloc, obj)?,
+    })?;
+    Ok(entries)
+}
+
+/// The mark of an entry.
+fn mark(mode: Mode) -> SMode
+    ensures { result ≡ mark_of mode }
+{
+    match mode {
+        Mode::Persistent => SMode::Persistent,
+        Mode::Affine => SMode::Affine,
+        Mode::Linear => SMode::Linear,
+    }
+}
+
+/// The entries of a pattern, as one flat list.
+#[cycle(binders)]
+#[tactic(auto, using(celf_surface::specs::Surface::surface_laws, crate::specs::SugarLists::sugar_laws))]
+fn binders(alloc: Global, pattern: &SPat) -> Result<Items<PBinder>, AllocError>
+    ensures { IfOk result (λ bs. bs ≡ binders_of (pattern_tree pattern.now)) }
+{
+    match pattern {
+        SPat::One => Ok(Items::new(alloc)),
+        SPat::Entry { mode, name } => {
+            let mut entries = Items::new(alloc);
+            entries.push(PBinder {
+                mode: *mode,
+                name: copy_name(alloc, name)?,
+            })?;
+            Ok(entries)
+        }
+        SPat::List(parts) => all_binders(alloc, parts.as_slice()),
+    }
+}
+
+#[cycle(binders)]
+#[tactic(auto, using(celf_surface::specs::Surface::surface_laws, crate::specs::SugarLists::sugar_laws))]
+fn all_binders(alloc: Global, patterns: &[SPat]) -> Result<Items<PBinder>, AllocError>
+    ensures { IfOk result (λ bs. bs ≡ flat_map binders_of (map pattern_tree patterns.now)) }
+{
+    let mut entries = Items::new(alloc);
+    for pattern in patterns {
+        entries.append(binders(alloc, pattern)?)?;
+    }
+    Ok(entries)
+}
+
+/// An equal name. It fails only where memory runs out.
+fn copy_name(alloc: Global, name: &Option<Name>) -> Result<Option<Name>, AllocError>
+    ensures { IfOk result (λ n. n ≡ name.now) }
+{
+    match name {
+        None => Ok(None),
+        Some(name) => Ok(Some(name.copy(alloc)?)),
+    }
+}

@@ -1,0 +1,2 @@
+pub use Rattle.clf_syntax.specs.Word
+pub mod Surface
