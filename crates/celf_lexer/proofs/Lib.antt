@@ -1,4 +1,3 @@
-pub mod Cases
 pub mod Words
 pub mod Bounds
 pub mod Tokens

@@ -1,6 +1,6 @@
 -- The spellings of the tokens of a text, as callers read them.
 use Rattle.std.proofs.Common.{◌≡◌, ◌∙◌, ℕ, ◌+◌, ◌-◌, ◌≤◌, nat_le, ◌<◌, Bool, true, false, not, List, [], ◌∷◌, ◌++◌, length, take, drop, codes, Ok, IsTrue, refl, ap, sym, subst, arith}
-use Rattle.std.proofs.lemmas.Bool.{le-leb}
+use Rattle.std.proofs.lemmas.Bool.{le-leb, cond_both, and_from, and_parts, both_ways, not-true}
 use Rattle.std.proofs.lemmas.List.{drop-drop}
 use Rattle.std.proofs.Math.Seq.{take-append_seam}
 use Rattle.std.specs.List.{list_all}
@@ -15,7 +15,6 @@ use Rattle.celf_lexer.specs.Spelling.{Spelled, a_word, a_constant, behind_hash, 
 use Rattle.celf_lexer.specs.Tokens.{placed, first_of, next_token, lexeme_of}
 use Rattle.celf_lexer.proofs.Ascii.{IsUtf8-word}
 use Rattle.celf_lexer.proofs.Bounds.{is_word_kind, word_kind-is_word_kind}
-use Rattle.celf_lexer.proofs.Cases.{if_cases, and_both, and_left, clash, not_true}
 use Rattle.celf_lexer.proofs.Longest.{front-is_front, word_has_byte}
 use Rattle.celf_lexer.proofs.Signs.{member_passes}
 use Rattle.celf_lexer.proofs.Splits.{is_name-word, word_in-word}
@@ -53,7 +52,7 @@ no_name _ = true
 
 hash_kind-no_name : (w : List ℕ) → no_name (hash_kind w) ≡ true
 hash_kind-no_name w =
-    if_cases (λ k. no_name k ≡ true) (same_bytes w (codes "1")) kind.Proj1 _ (λ e. refl) (λ e. if_cases (λ k. no_name k ≡ true) (same_bytes w (codes "2")) kind.Proj2 kind.Directive (λ f. refl) (λ f. refl))
+    cond_both (same_bytes w (codes "1")) kind.Proj1 _ (λ k. no_name k ≡ true) (λ e. refl) (λ e. cond_both (same_bytes w (codes "2")) kind.Proj2 kind.Directive (λ k. no_name k ≡ true) (λ f. refl) (λ f. refl))
 
 signs_are_no_names : list_all (λ s. no_name s.1) signs ≡ true
 signs_are_no_names = refl
@@ -61,30 +60,30 @@ signs_are_no_names = refl
 name_spelled : {k : TokenKind} {s after : List ℕ} → Spelled k s after → (c : Bool) → k ≡ kind.Name c → is_name s ≡ true
 name_spelled (a_word w after i e) c n = is_name-word_kind w i ∙ ap is_name_kind n
 name_spelled (a_constant w after i e) c n = cc
-name_spelled (behind_hash w after i e) c n = clash (no_name (hash_kind w)) (hash_kind-no_name w) (ap no_name n)
+name_spelled (behind_hash w after i e) c n = absurd (both_ways (no_name (hash_kind w)) (ap no_name n) (hash_kind-no_name w))
 name_spelled (back_lolli after g) c n = cc
-name_spelled (a_sign s after m i) c n = clash (no_name s.1) (member_passes (λ (u : List ℕ × TokenKind). no_name u.1) signs s signs_are_no_names m) (ap no_name n)
+name_spelled (a_sign s after m i) c n = absurd (both_ways (no_name s.1) (ap no_name n) (member_passes (λ (u : List ℕ × TokenKind). no_name u.1) signs s signs_are_no_names m))
 name_spelled the_end c n = cc
 
 constant_spelled : {k : TokenKind} {s after : List ℕ} → Spelled k s after → k ≡ kind.ConstName → (w : List ℕ) × (s ≡ 36 ∷ w) × (is_name w ≡ true)
-constant_spelled (a_word w after i e) n = clash (is_word_kind (word_kind w)) (word_kind-is_word_kind w) (ap is_word_kind n)
+constant_spelled (a_word w after i e) n = absurd (both_ways (is_word_kind (word_kind w)) (ap is_word_kind n) (word_kind-is_word_kind w))
 constant_spelled (a_constant w after i e) n = (w, refl, i)
-constant_spelled (behind_hash w after i e) n = clash (no_name (hash_kind w)) (hash_kind-no_name w) (ap no_name n)
+constant_spelled (behind_hash w after i e) n = absurd (both_ways (no_name (hash_kind w)) (ap no_name n) (hash_kind-no_name w))
 constant_spelled (back_lolli after g) n = cc
-constant_spelled (a_sign s after m i) n = clash (no_name s.1) (member_passes (λ (u : List ℕ × TokenKind). no_name u.1) signs s signs_are_no_names m) (ap no_name n)
+constant_spelled (a_sign s after m i) n = absurd (both_ways (no_name s.1) (ap no_name n) (member_passes (λ (u : List ℕ × TokenKind). no_name u.1) signs s signs_are_no_names m))
 constant_spelled the_end n = cc
 
 number_word : (w : List ℕ) → word_kind w ≡ kind.Number → all_digits w ≡ true
 number_word [] e = refl
 number_word (b ∷ bs) e =
     let P : TokenKind → Type 0 = λ k. k ≡ kind.Number → all_digits (b ∷ bs) ≡ true in
-    if_cases P (same_bytes (b ∷ bs) (codes "type")) kind.KwType _ (λ g n. cc)
-    (λ g. if_cases P (same_bytes (b ∷ bs) (codes "Pi")) kind.KwPi _ (λ h n. cc)
-    (λ g. if_cases P (same_bytes (b ∷ bs) (codes "Exists")) kind.KwExists _ (λ h n. cc)
-    (λ g. if_cases P (same_bytes (b ∷ bs) (codes "let")) kind.KwLet _ (λ h n. cc)
-    (λ g. if_cases P (same_bytes (b ∷ bs) (codes "in")) kind.KwIn _ (λ h n. cc)
-    (λ g. if_cases P (same_bytes (b ∷ bs) (codes "_")) kind.Hole _ (λ h n. cc)
-    (λ g. if_cases P (all_digits (b ∷ bs)) kind.Number _ (λ h n. h) (λ h n. cc))))))) e
+    cond_both (same_bytes (b ∷ bs) (codes "type")) kind.KwType _ P (λ g n. cc)
+    (λ g. cond_both (same_bytes (b ∷ bs) (codes "Pi")) kind.KwPi _ P (λ h n. cc)
+    (λ g. cond_both (same_bytes (b ∷ bs) (codes "Exists")) kind.KwExists _ P (λ h n. cc)
+    (λ g. cond_both (same_bytes (b ∷ bs) (codes "let")) kind.KwLet _ P (λ h n. cc)
+    (λ g. cond_both (same_bytes (b ∷ bs) (codes "in")) kind.KwIn _ P (λ h n. cc)
+    (λ g. cond_both (same_bytes (b ∷ bs) (codes "_")) kind.Hole _ P (λ h n. cc)
+    (λ g. cond_both (all_digits (b ∷ bs)) kind.Number _ P (λ h n. h) (λ h n. cc))))))) e
 
 abbrev is_number : TokenKind → Bool
 is_number kind.Number = true
@@ -92,7 +91,7 @@ is_number _ = false
 
 hash_kind-no_number : (w : List ℕ) → is_number (hash_kind w) ≡ false
 hash_kind-no_number w =
-    if_cases (λ k. is_number k ≡ false) (same_bytes w (codes "1")) kind.Proj1 _ (λ e. refl) (λ e. if_cases (λ k. is_number k ≡ false) (same_bytes w (codes "2")) kind.Proj2 kind.Directive (λ f. refl) (λ f. refl))
+    cond_both (same_bytes w (codes "1")) kind.Proj1 _ (λ k. is_number k ≡ false) (λ e. refl) (λ e. cond_both (same_bytes w (codes "2")) kind.Proj2 kind.Directive (λ k. is_number k ≡ false) (λ f. refl) (λ f. refl))
 
 signs_are_no_numbers : list_all (λ s. not (is_number s.1)) signs ≡ true
 signs_are_no_numbers = refl
@@ -100,14 +99,14 @@ signs_are_no_numbers = refl
 number_spelled : {k : TokenKind} {s after : List ℕ} → Spelled k s after → k ≡ kind.Number → (is_word s ≡ true) × (all_digits s ≡ true)
 number_spelled (a_word w after i e) n = (i, number_word w n)
 number_spelled (a_constant w after i e) n = cc
-number_spelled (behind_hash w after i e) n = clash (is_number (hash_kind w)) (ap is_number n) (hash_kind-no_number w)
+number_spelled (behind_hash w after i e) n = absurd (both_ways (is_number (hash_kind w)) (hash_kind-no_number w) (ap is_number n))
 number_spelled (back_lolli after g) n = cc
 number_spelled (a_sign s after m i) n =
-    clash (is_number s.1) (ap is_number n) (not_true (is_number s.1) (member_passes (λ (u : List ℕ × TokenKind). not (is_number u.1)) signs s signs_are_no_numbers m))
+    absurd (both_ways (is_number s.1) (not-true (is_number s.1) (member_passes (λ (u : List ℕ × TokenKind). not (is_number u.1)) signs s signs_are_no_numbers m)) (ap is_number n))
 number_spelled the_end n = cc
 
 declarable : (w : List ℕ) → is_name w ≡ true → length w ≤ 255 → is_declarable w ≡ true
-declarable w n l = and_both (is_name w) (nat_le (length w) 255) n (le-leb (length w) 255 l)
+declarable w n l = and_from (is_name w) (nat_le (length w) 255) n (le-leb (length w) 255 l)
 
 -- The spelling of a name is a name that can be declared.
 pub name-declarable : (text : List ℕ) (at : ℕ) (t : Token) (c : Bool) → next_token text at ≡ Ok t → t.kind ≡ kind.Name c → IsTrue (is_declarable (lexeme_of text t).spelling)
@@ -127,17 +126,6 @@ constant-declarable text at t e k =
     let short : length p.0 ≤ 255 = omega (arith, f.6, ap (λ x. length (word_in x)) p.1) in
     (p.0, spelling_is text t f.0 f.1 f.2 f.4 ∙ p.1, declarable p.0 p.2 short)
 
--- The spelling of a number is a word of digits alone, of at most 255.
-pub number-digits : (text : List ℕ) (at : ℕ) (t : Token) → next_token text at ≡ Ok t → t.kind ≡ kind.Number
-    → (all_digits (lexeme_of text t).spelling ≡ true) × (0 < length (lexeme_of text t).spelling) × (length (lexeme_of text t).spelling ≤ 255)
-number-digits text at t e k =
-    let f = next_token-is_front text at t e in
-    let s = f.0 in
-    let n = number_spelled f.3 k in
-    let same : (lexeme_of text t).spelling ≡ s = spelling_is text t s f.1 f.2 f.4 in
-    let size : length (lexeme_of text t).spelling ≡ length s = ap length same in
-    (ap all_digits same ∙ n.1, omega (arith, size, word_has_byte s n.0), omega (arith, size, f.6, ap length (word_in-word s n.0)))
-
 -- A name that can be declared is a text.
 pub IsUtf8-declarable : (w : List ℕ) → IsTrue (is_declarable w) → IsUtf8 w
-IsUtf8-declarable w d = IsUtf8-word w (is_name-word w (and_left (is_name w) (nat_le (length w) 255) d))
+IsUtf8-declarable w d = IsUtf8-word w (is_name-word w (and_parts (is_name w) (nat_le (length w) 255) d).0)

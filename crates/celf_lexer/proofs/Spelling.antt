@@ -8,6 +8,9 @@ use Rattle.celf_lexer.specs.declared.token.TokenKind.TheVariants as kind
 use Rattle.celf_lexer.specs.Gap.{is_blank, gap}
 use Rattle.celf_lexer.specs.Sign.{Front, token, long, bad, rest_length, word_length, word_kind, is_back_lolli, of_word, word_front, front}
 use Rattle.celf_lexer.specs.Tokens.{placed, first_of, Lexeme, is_end, token_first, tokens_within, tokens_of}
+use Rattle.celf_lexer.specs.Spelling.{stops_word}
+use Rattle.celf_lexer.proofs.Bounds.{word_kind-no_end}
+use Rattle.celf_lexer.proofs.Splits.{word_split}
 
 -- The tokens of these bytes, from some place on.
 pub data AreTokens : List Lexeme → List ℕ → Type 0 where
@@ -129,9 +132,9 @@ abbrev pub ends_word : List ℕ → Bool
 ends_word [] = true
 ends_word (b ∷ bs) = not (is_name_byte b || b == 45)
 
-ends_word-rest_length : (rest : List ℕ) → ends_word rest ≡ true → rest_length rest ≡ 0
-ends_word-rest_length [] h = refl
-ends_word-rest_length (b ∷ bs) h =
+ends_word-stops : (rest : List ℕ) → ends_word rest ≡ true → stops_word rest ≡ true
+ends_word-stops [] h = refl
+ends_word-stops (b ∷ bs) h =
     let parts = or_parts (is_name_byte b) (b == 45) (not-true _ h) in
     rw (parts.0, parts.1)
 
@@ -141,24 +144,8 @@ ends_word-back_lolli word (b ∷ []) h = rw (or_parts (is_name_byte b) (b == 45)
 ends_word-back_lolli word (b ∷ c ∷ bs) h =
     rw (or_parts (is_name_byte b) (b == 45) (not-true _ h)).1 (and_left (same_bytes word (codes "o") && false) _ (and_right (same_bytes word (codes "o")) false refl))
 
--- A word goes on within longer bytes as it does alone.
-goes_on-append : (b : ℕ) (bs rest : List ℕ) → goes_on b bs ≡ true → goes_on b (bs ++ rest) ≡ true
-goes_on-append b (c ∷ bs) rest h = h
-goes_on-append b [] rest h =
-    ⊎_elim (λ name. or_left (is_name_byte b) (b == 45 && name_byte_first rest) name)
-    (λ dash. let no : false ≡ true = rw (and_right (b == 45) false refl) at dash in absurd (cc)) (or_cases (is_name_byte b) (b == 45 && false) h)
-
-rest_length-append : (bs rest : List ℕ) → is_word_rest bs ≡ true → rest_length rest ≡ 0 → rest_length (bs ++ rest) ≡ length bs
-rest_length-append [] rest h none = none
-rest_length-append (b ∷ bs) rest h none =
-    let parts = and_parts (goes_on b bs) (is_word_rest bs) h in
-    rw (goes_on-append b bs rest parts.0, rest_length-append bs rest parts.1 none) (omega arith)
-
 word_length-append : (word rest : List ℕ) → is_word word ≡ true → ends_word rest ≡ true → word_length (word ++ rest) ≡ length word
-word_length-append [] rest h ends = absurd (cc)
-word_length-append (b ∷ bs) rest h ends =
-    let parts = and_parts (begins_word b) (is_word_rest bs) h in
-    rw (parts.0, rest_length-append bs rest parts.1 (ends_word-rest_length rest ends)) (omega arith)
+word_length-append word rest h ends = word_split word rest h (ends_word-stops rest ends)
 
 take-word : (word rest : List ℕ) → is_word word ≡ true → ends_word rest ≡ true → take (word_length (word ++ rest)) (word ++ rest) ≡ word
 take-word word rest h ends = take_at word rest (word_length (word ++ rest)) (sym (word_length-append word rest h ends))
@@ -179,18 +166,6 @@ gap-word (b ∷ bs) rest h =
 
 of_word-short : (before : ℕ) (word : List ℕ) (k : TokenKind) → length word ≤ 255 → of_word before word k ≡ token k (before + length word)
 of_word-short before word k short = rw (le-ltb 255 (length word) short)
-
-word_kind-no_end : (word : List ℕ) → is_end (word_kind word) ≡ false
-word_kind-no_end [] = refl
-word_kind-no_end (b ∷ bs) =
-    let P : TokenKind → Type 0 = λ k. is_end k ≡ false in
-    cond_both (same_bytes (b ∷ bs) (codes "type")) _ _ P (λ e. refl)
-    (λ e. cond_both (same_bytes (b ∷ bs) (codes "Pi")) _ _ P (λ e. refl)
-    (λ e. cond_both (same_bytes (b ∷ bs) (codes "Exists")) _ _ P (λ e. refl)
-    (λ e. cond_both (same_bytes (b ∷ bs) (codes "let")) _ _ P (λ e. refl)
-    (λ e. cond_both (same_bytes (b ∷ bs) (codes "in")) _ _ P (λ e. refl)
-    (λ e. cond_both (same_bytes (b ∷ bs) (codes "_")) _ _ P (λ e. refl)
-    (λ e. cond_both (all_digits (b ∷ bs)) _ _ P (λ e. refl) (λ e. refl)))))))
 
 front-word : (word rest : List ℕ) → is_word word ≡ true → length word ≤ 255 → ends_word rest ≡ true → front (word ++ rest) ≡ token (word_kind word) (length word)
 unfolding front

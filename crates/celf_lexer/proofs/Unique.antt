@@ -1,5 +1,6 @@
 -- At most one token begins some bytes.
 use Rattle.std.proofs.Common.{◌≡◌, ◌∙◌, ℕ, ◌==◌, Bool, true, not, ◌&&◌, if◌then◌else◌, inl, inr, List, [], ◌∷◌, ◌++◌, length, take, codes, refl, ap, ap₂, sym, subst, arith}
+use Rattle.std.proofs.lemmas.Bool.{cond_both, and_parts, not-true, both_ways}
 use Rattle.std.proofs.Math.Seq.{take-append_seam}
 use Rattle.std.specs.List.{list_all, Contains}
 use Rattle.celf_lexer.specs.declared.token.TokenKind.{TokenKind}
@@ -7,7 +8,6 @@ use Rattle.celf_lexer.specs.declared.token.TokenKind.TheVariants as kind
 use Rattle.clf_syntax.specs.Word.{begins_word, is_word, is_word_rest, same_bytes}
 use Rattle.celf_lexer.specs.Sign.{Front, token, long, bad, word_kind, hash_kind, signs, front}
 use Rattle.celf_lexer.specs.Spelling.{Spelled, a_word, a_constant, behind_hash, back_lolli, a_sign, the_end, word_in, IsFront}
-use Rattle.celf_lexer.proofs.Cases.{if_cases, and_left, and_right, not_true, clash}
 use Rattle.celf_lexer.proofs.Bounds.{same_bytes-equal}
 use Rattle.celf_lexer.proofs.Signs.{member_cases, member_passes, same_bytes-refl}
 use Rattle.celf_lexer.proofs.Longest.{Apart, apart, front-is_front}
@@ -33,35 +33,35 @@ sign_kind-found : (ts : List (List ℕ × TokenKind)) (t : List ℕ × TokenKind
 unfolding sign_kind
 sign_kind-found [] t d (k, h, e) = absurd (omega arith)
 sign_kind-found (u ∷ us) t d m =
-    if_cases (λ k. k ≡ t.1) (same_bytes u.0 t.0) u.1 (sign_kind us t.0)
+    cond_both (same_bytes u.0 t.0) u.1 (sign_kind us t.0) (λ k. k ≡ t.1)
     (λ same. elim (member_cases u us t m) [
       | inl e ↦ ap (λ (v : List ℕ × TokenKind). v.1) e
-      | inr n ↦ clash (same_bytes u.0 t.0) same (not_true (same_bytes u.0 t.0) (member_passes (λ v. not (same_bytes u.0 v.0)) us t (and_left (list_all (λ v. not (same_bytes u.0 v.0)) us) (distinct us) d) n))
+      | inr n ↦ absurd (both_ways (same_bytes u.0 t.0) (not-true (same_bytes u.0 t.0) (member_passes (λ v. not (same_bytes u.0 v.0)) us t (and_parts (list_all (λ v. not (same_bytes u.0 v.0)) us) (distinct us) d).0 n)) same)
     ])
     (λ other. elim (member_cases u us t m) [
-      | inl e ↦ clash (same_bytes u.0 t.0) (ap (λ (v : List ℕ × TokenKind). same_bytes u.0 v.0) (sym e) ∙ same_bytes-refl u.0) other
-      | inr n ↦ sign_kind-found us t (and_right (list_all (λ v. not (same_bytes u.0 v.0)) us) (distinct us) d) n
+      | inl e ↦ absurd (both_ways (same_bytes u.0 t.0) other (ap (λ (v : List ℕ × TokenKind). same_bytes u.0 v.0) (sym e) ∙ same_bytes-refl u.0))
+      | inr n ↦ sign_kind-found us t (and_parts (list_all (λ v. not (same_bytes u.0 v.0)) us) (distinct us) d).1 n
     ])
 
 word_kind_of : (w : List ℕ) → is_word w ≡ true → kind_of w ≡ word_kind w
 unfolding kind_of
 word_kind_of [] i = cc
 word_kind_of (b ∷ bs) i =
-    if_cases (λ k. k ≡ word_kind (b ∷ bs)) (begins_word b) (if same_bytes (b ∷ bs) (codes "o-") then kind.BackLolli else word_kind (b ∷ bs)) _
-    (λ h. if_cases (λ k. k ≡ word_kind (b ∷ bs)) (same_bytes (b ∷ bs) (codes "o-")) kind.BackLolli (word_kind (b ∷ bs))
-    (λ s. clash (is_word (b ∷ bs)) i (ap is_word (same_bytes-equal (b ∷ bs) (codes "o-") s)))
+    cond_both (begins_word b) (if same_bytes (b ∷ bs) (codes "o-") then kind.BackLolli else word_kind (b ∷ bs)) _ (λ k. k ≡ word_kind (b ∷ bs))
+    (λ h. cond_both (same_bytes (b ∷ bs) (codes "o-")) kind.BackLolli (word_kind (b ∷ bs)) (λ k. k ≡ word_kind (b ∷ bs))
+    (λ s. absurd (both_ways (is_word (b ∷ bs)) (ap is_word (same_bytes-equal (b ∷ bs) (codes "o-") s)) i))
     (λ s. refl))
-    (λ h. clash (begins_word b) (and_left (begins_word b) (is_word_rest bs) i) h)
+    (λ h. absurd (both_ways (begins_word b) h (and_parts (begins_word b) (is_word_rest bs) i).0))
 
 sign_kind_of : (s : List ℕ) → Apart s → kind_of s ≡ sign_kind signs s
 unfolding kind_of
 sign_kind_of [] a = absurd (omega (arith, a.some))
 sign_kind_of (b ∷ bs) a =
     let P : TokenKind → Type 0 = λ k. k ≡ sign_kind signs (b ∷ bs) in
-    if_cases P (begins_word b) (if same_bytes (b ∷ bs) (codes "o-") then kind.BackLolli else word_kind (b ∷ bs)) _
-    (λ h. clash (begins_word b) h a.no_word)
-    (λ h. if_cases P (b == 36) kind.ConstName _ (λ g. clash (b == 36) g a.no_dollar)
-    (λ g. if_cases P (b == 35) (hash_kind bs) _ (λ f. clash (b == 35) f a.no_hash) (λ f. refl)))
+    cond_both (begins_word b) (if same_bytes (b ∷ bs) (codes "o-") then kind.BackLolli else word_kind (b ∷ bs)) _ P
+    (λ h. absurd (both_ways (begins_word b) a.no_word h))
+    (λ h. cond_both (b == 36) kind.ConstName _ P (λ g. absurd (both_ways (b == 36) a.no_dollar g))
+    (λ g. cond_both (b == 35) (hash_kind bs) _ P (λ f. absurd (both_ways (b == 35) a.no_hash f)) (λ f. refl)))
 
 -- A spelling has one kind.
 spelled_kind : {k : TokenKind} {s after : List ℕ} → Spelled k s after → k ≡ kind_of s
