@@ -15,3 +15,6 @@ pub mod Typing
 pub mod WellFormed
 pub mod Clean
 pub mod Laws
+pub mod Refusal
+pub mod Checking
+pub mod Reach

@@ -1,0 +1,33 @@
+-- Trees without dependencies: types without indices, and objects without monads.
+use Rattle.std.specs.Prelude.{ℕ, ◌≡◌, Bool, true, false, ◌&&◌, [], ◌∷◌, Some}
+use Rattle.clf_syntax.specs.Tree.{Object, lam, pair, unit, monadic, atomic, hole, PlainNeutral, bare, app, fst, snd}
+use Rattle.clf_syntax.specs.TypeTree.{PlainType, PlainKind}
+use Rattle.use_contexts.specs.Context.{Context}
+use Rattle.clf_sig.specs.Entry.{PlainSignature, family_kind, constant_type}
+use Rattle.clf_kernel.specs.Laws.{without_indices}
+
+-- No constant's type has indices, and no family has arguments.
+abbrev pub IsSimpleSignature : PlainSignature → Type 0
+IsSimpleSignature sig = ((c : ℕ) (a : PlainType) → constant_type sig c ≡ Some a → without_indices a ≡ true)
+    × ((f : ℕ) (k : PlainKind) → family_kind sig f ≡ Some k → k ≡ [])
+
+-- No type of the context has indices.
+abbrev pub IsSimpleContext : Context → Type 0
+IsSimpleContext [] = Unit {0}
+IsSimpleContext (e ∷ g) = (without_indices e.1 ≡ true) × IsSimpleContext g
+
+-- whether no monadic object stands in it
+abbrev mutual
+  pub without_monads : Object → Bool
+  without_monads (lam m b) = without_monads b
+  without_monads (pair l r) = without_monads l && without_monads r
+  without_monads unit = true
+  without_monads (monadic e) = false
+  without_monads (atomic n) = neutral_without_monads n
+  without_monads hole = true
+
+  pub neutral_without_monads : PlainNeutral → Bool
+  neutral_without_monads (bare x) = true
+  neutral_without_monads (app m r n) = neutral_without_monads r && without_monads n
+  neutral_without_monads (fst r) = neutral_without_monads r
+  neutral_without_monads (snd r) = neutral_without_monads r
