@@ -1,3 +1,5 @@
 pub mod Longer
 pub mod Signatures
 pub mod Held
+pub mod WithoutIndices
+pub mod Agreement

@@ -7,7 +7,8 @@ use Rattle.clf_syntax.specs.TypeTree.{PlainType, family, function, both, top, mo
 use Rattle.use_contexts.specs.Context.{Context}
 use Rattle.clf_sig.specs.Entry.{PlainSignature, Declaration, PlainClass, family_of, constant_of, kind_in, type_in, names, family_kind, constant_type}
 use Rattle.clf_kernel.specs.WellFormed.{IndicesHaveTypes, WellFormedType, WellFormedTelescope, WellFormedKind, WellFormedClass, MayFollow, AllMayFollow}
-use Rattle.clf_kernel.specs.Laws.{BareFamilies, CompoundTypes, without_indices, telescope_without_indices, AnyContext, Extended, EachFollows, NamesDiffer, EntriesWellFormed}
+use Rattle.clf_kernel.specs.Reach.{without_indices, telescope_without_indices}
+use Rattle.clf_kernel.specs.Laws.{BareFamilies, CompoundTypes, AnyContext, Extended, EachFollows, NamesDiffer, EntriesWellFormed}
 use Rattle.clf_kernel.proofs.Longer.{longer, kept_type, kept_kind, weakening}
 
 no_arguments : (sig : PlainSignature) (g : Context) (k : PlainKind) → IndicesHaveTypes sig g [] k → k ≡ []

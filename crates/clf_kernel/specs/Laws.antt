@@ -1,15 +1,19 @@
 -- Laws of well-formed types and signatures, as statements; the functions of the crate's `laws` state them.
-use Rattle.std.specs.Prelude.{ℕ, ◌≡◌, ◌↔◌, Bool, true, false, ◌&&◌, List, [], ◌∷◌, ◌++◌, Some}
+use Rattle.std.specs.Prelude.{ℕ, ◌≡◌, ◌↔◌, true, false, List, [], ◌∷◌, ◌++◌, Some}
 use Rattle.std.specs.List.{slice_get}
 use Rattle.clf_syntax.specs.declared.tree.Mode.{Mode}
 use Rattle.clf_syntax.specs.Tree.{Object, PlainNeutral, Expression}
-use Rattle.clf_syntax.specs.TypeTree.{PlainType, family, function, both, top, monad, Telescope, end, binding, PlainKind}
-use Rattle.use_contexts.specs.Context.{Context}
-use Rattle.use_contexts.specs.Holding.{Holding}
+use Rattle.clf_syntax.specs.TypeTree.{PlainType, family, function, both, top, monad, Telescope, PlainKind}
+use Rattle.use_contexts.specs.Context.{Context, modes}
+use Rattle.use_contexts.specs.Holding.{Holding, WellMarked}
+use Rattle.use_contexts.specs.Rows.{IsPart, Agrees}
 use Rattle.clf_sig.specs.Entry.{PlainSignature, Declaration, names, family_kind, constant_type}
 use Rattle.clf_kernel.specs.Typing.{HasType, NeutralHasType, HasResult}
 use Rattle.clf_kernel.specs.WellFormed.{WellFormedType, WellFormedTelescope, WellFormedKind, WellFormedContext, MayFollow, WellFormedSignature}
 use Rattle.clf_kernel.specs.Clean.{IsNotPersistent, CleanType, CleanTelescope, CleanContext}
+use Rattle.clf_kernel.specs.Reach.{without_indices, IsSimpleSignature, IsSimpleContext, without_monads, neutral_without_monads}
+use Rattle.clf_kernel.specs.Refusal.{Outcome, passed, refused}
+use Rattle.clf_kernel.specs.Checking.{Leftover, answer_of, checked, inferred}
 use Rattle.clf_syntax.specs.Occurs.{occurs, occurs_type, occurs_telescope}
 
 -- A family without arguments is a well-formed type exactly where the signature has it so.
@@ -23,20 +27,6 @@ CompoundTypes = (sig : PlainSignature) (g : Context)
     × ((a b : PlainType) → WellFormedType sig g (both a b) ↔ (WellFormedType sig g a × WellFormedType sig g b))
     × WellFormedType sig g top
     × ((s : Telescope) → WellFormedType sig g (monad s) ↔ WellFormedTelescope sig g s)
-
--- whether all families of a type stand without indices
-abbrev mutual
-  pub without_indices : PlainType → Bool
-  without_indices (family f []) = true
-  without_indices (family f (n ∷ ns)) = false
-  without_indices (function m a b) = without_indices a && without_indices b
-  without_indices (both a b) = without_indices a && without_indices b
-  without_indices top = true
-  without_indices (monad s) = telescope_without_indices s
-
-  pub telescope_without_indices : Telescope → Bool
-  telescope_without_indices end = true
-  telescope_without_indices (binding m a s) = without_indices a && telescope_without_indices s
 
 -- A type without indices is well formed in every context where it is in one.
 abbrev pub AnyContext : Type 0
@@ -80,3 +70,22 @@ WellFormedIsClean = (sig : PlainSignature) (g : Context)
     → ((a : PlainType) → WellFormedType sig g a → CleanType a × ((i : ℕ) → IsNotPersistent g i → occurs_type i a ≡ false))
     × ((s : Telescope) → WellFormedTelescope sig g s → CleanTelescope s × ((i : ℕ) → IsNotPersistent g i → occurs_telescope i s ≡ false))
     × (WellFormedContext sig g → CleanContext g)
+
+-- The check of an object without monads against a type without indices agrees with the rules: what is left stands for exactly the parts
+-- of the holding under which the rules type the object, and a refusal comes only where there is no such part.
+abbrev pub ChecksExactly : Type 0
+ChecksExactly = (sig : PlainSignature) (g : Context) (h : Holding) (n : Object) (t : PlainType)
+    → IsSimpleSignature sig → IsSimpleContext g → WellMarked (modes g) h → without_monads n ≡ true → without_indices t ≡ true
+    → Agrees (modes g) h (answer_of (checked sig g h n t)) (λ p. HasType sig g p n t)
+
+-- An outcome with a type agrees with a property of parts and types: where it passed, the type has no indices, the row that is left stands
+-- for exactly the parts that have the property at that type, and they have it at no other. Where it is refused, no part has it at any type.
+abbrev pub AgreesWithType : Context → Holding → Outcome (PlainType × Leftover) → (Holding → PlainType → Type 0) → Type 0
+AgreesWithType g h (passed f) P = (without_indices f.0 ≡ true) × Agrees (modes g) h (Some f.1) (λ p. P p f.0) × ((p : Holding) (a : PlainType) → P p a → a ≡ f.0)
+AgreesWithType g h (refused path cause) P = (p : Holding) (a : PlainType) → IsPart (modes g) h p → P p a → ⊥
+
+-- So it is with the type that is found of a neutral.
+abbrev pub InfersExactly : Type 0
+InfersExactly = (sig : PlainSignature) (g : Context) (h : Holding) (r : PlainNeutral)
+    → IsSimpleSignature sig → IsSimpleContext g → WellMarked (modes g) h → neutral_without_monads r ≡ true
+    → AgreesWithType g h (inferred sig g h r) (λ p a. NeutralHasType sig g p r a)

@@ -14,7 +14,7 @@ pub use Rattle.clf_sig.specs.Entry
 pub mod Typing
 pub mod WellFormed
 pub mod Clean
-pub mod Laws
+pub mod Reach
 pub mod Refusal
 pub mod Checking
-pub mod Reach
+pub mod Laws

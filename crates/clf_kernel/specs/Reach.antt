@@ -1,10 +1,23 @@
 -- Trees without dependencies: types without indices, and objects without monads.
 use Rattle.std.specs.Prelude.{ℕ, ◌≡◌, Bool, true, false, ◌&&◌, [], ◌∷◌, Some}
 use Rattle.clf_syntax.specs.Tree.{Object, lam, pair, unit, monadic, atomic, hole, PlainNeutral, bare, app, fst, snd}
-use Rattle.clf_syntax.specs.TypeTree.{PlainType, PlainKind}
+use Rattle.clf_syntax.specs.TypeTree.{PlainType, family, function, both, top, monad, Telescope, end, binding, PlainKind}
 use Rattle.use_contexts.specs.Context.{Context}
 use Rattle.clf_sig.specs.Entry.{PlainSignature, family_kind, constant_type}
-use Rattle.clf_kernel.specs.Laws.{without_indices}
+
+-- whether all families of a type stand without indices
+abbrev mutual
+  pub without_indices : PlainType → Bool
+  without_indices (family f []) = true
+  without_indices (family f (n ∷ ns)) = false
+  without_indices (function m a b) = without_indices a && without_indices b
+  without_indices (both a b) = without_indices a && without_indices b
+  without_indices top = true
+  without_indices (monad s) = telescope_without_indices s
+
+  pub telescope_without_indices : Telescope → Bool
+  telescope_without_indices end = true
+  telescope_without_indices (binding m a s) = without_indices a && telescope_without_indices s
 
 -- No constant's type has indices, and no family has arguments.
 abbrev pub IsSimpleSignature : PlainSignature → Type 0

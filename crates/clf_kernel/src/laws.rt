@@ -1,5 +1,5 @@
 //! Laws of the rules, each stated by a function that does nothing.
-ghost use Rattle.clf_kernel.specs.Laws.{AnyContext, BareFamilies, CompoundTypes, EachFollows, EntriesWellFormed, Extended, MentionsHeldAlone, NamesDiffer, Weakening, WellFormedIsClean};
+ghost use Rattle.clf_kernel.specs.Laws.{AnyContext, BareFamilies, ChecksExactly, CompoundTypes, EachFollows, EntriesWellFormed, Extended, InfersExactly, MentionsHeldAlone, NamesDiffer, Weakening, WellFormedIsClean};
 
 /// Which types are well formed: families without arguments, functions, pairs, the unit and monads.
 #[tactic(auto, using(crate::proofs::Signatures::signature_laws))]
@@ -29,4 +29,12 @@ pub fn weakening()
 pub fn clean()
     ensures objects { MentionsHeldAlone }
     ensures types { WellFormedIsClean }
+{}
+
+/// What the check of an object leaves stands for exactly the parts of the holding under which the rules type the object;
+/// it refuses only where there is no such part.
+#[tactic(auto, using(crate::proofs::Agreement::checking_laws))]
+pub fn checking()
+    ensures objects { ChecksExactly }
+    ensures neutrals { InfersExactly }
 {}
