@@ -162,7 +162,7 @@ AtomicHas P t p = (f : ℕ) × (ns os : List Object) × (t ≡ family f ns) × P
 same-number : (i v : ℕ) → (i == v) ≡ true → i ≡ v
 same-number i v e = grind arith
 
-other-number : (i v : ℕ) → (i == v) ≡ false → i ≡ v → ⊥
+pub other-number : (i v : ℕ) → (i == v) ≡ false → i ≡ v → ⊥
 other-number i v e q = grind arith
 
 family-number : {f i : ℕ} {ns os : List Object} → family f ns ≡ family i os → f ≡ i
@@ -220,7 +220,7 @@ weak-marked (m ∷ ms) (x ∷ l) w = (kept m x w.0, weak-marked ms l w.1)
     kept Affine x e q = cc
     kept Linear x e q = cc
 
-allowed-marked : (m : Mode) (ms : List Mode) (l : Holding) → WellMarked ms l → WellMarked ms (allowed m ms l)
+pub allowed-marked : (m : Mode) (ms : List Mode) (l : Holding) → WellMarked ms l → WellMarked ms (allowed m ms l)
 allowed-marked Persistent ms l w = alone-marked ms
 allowed-marked Affine ms l w = weak-marked ms l w
 allowed-marked Linear ms l w = w
@@ -328,7 +328,7 @@ second-agrees g h place (passed (top, x)) P u = λ p t w y. let e = u.2 p (both 
 second-agrees g h place (passed ((monad s), x)) P u = λ p t w y. let e = u.2 p (both y.0 t) y.1 in absurd (cc)
 
 -- ---- heads
-same-some : {X : Type 0} {a b : X} → Some a ≡ Some b → a ≡ b
+pub same-some : {X : Type 0} {a b : X} → Some a ≡ Some b → a ≡ b
 same-some e = cc
 
 none-some : {X : Type 0} {a : X} → None ≡ Some a → ⊥

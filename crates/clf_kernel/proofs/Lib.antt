@@ -3,3 +3,4 @@ pub mod Signatures
 pub mod Held
 pub mod WithoutIndices
 pub mod Agreement
+pub mod Explanations

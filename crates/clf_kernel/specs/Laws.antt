@@ -12,7 +12,8 @@ use Rattle.clf_kernel.specs.Typing.{HasType, NeutralHasType, HasResult}
 use Rattle.clf_kernel.specs.WellFormed.{WellFormedType, WellFormedTelescope, WellFormedKind, WellFormedContext, MayFollow, WellFormedSignature}
 use Rattle.clf_kernel.specs.Clean.{IsNotPersistent, CleanType, CleanTelescope, CleanContext}
 use Rattle.clf_kernel.specs.Reach.{without_indices, IsSimpleSignature, IsSimpleContext, without_monads, neutral_without_monads}
-use Rattle.clf_kernel.specs.Refusal.{Outcome, passed, refused}
+use Rattle.clf_kernel.specs.Refusal.{Cause, Outcome, passed, refused}
+use Rattle.clf_kernel.specs.Explained.{ExplainedAt, ExplainedInNeutral}
 use Rattle.clf_kernel.specs.Checking.{Leftover, answer_of, checked, inferred}
 use Rattle.clf_syntax.specs.Occurs.{occurs, occurs_type, occurs_telescope}
 
@@ -89,3 +90,15 @@ abbrev pub InfersExactly : Type 0
 InfersExactly = (sig : PlainSignature) (g : Context) (h : Holding) (r : PlainNeutral)
     → IsSimpleSignature sig → IsSimpleContext g → WellMarked (modes g) h → neutral_without_monads r ≡ true
     → AgreesWithType g h (inferred sig g h r) (λ p a. NeutralHasType sig g p r a)
+
+-- A refusal of an object tells the truth: at its path stands a part that is refused for its cause.
+abbrev pub RefusesTruly : Type 0
+RefusesTruly = (sig : PlainSignature) (g : Context) (h : Holding) (n : Object) (t : PlainType) (path : List ℕ) (why : Cause)
+    → IsSimpleSignature sig → IsSimpleContext g → WellMarked (modes g) h → without_monads n ≡ true → without_indices t ≡ true
+    → checked sig g h n t ≡ refused path why → ExplainedAt sig g h n t path why
+
+-- So does a refusal of a neutral.
+abbrev pub RefusesNeutralsTruly : Type 0
+RefusesNeutralsTruly = (sig : PlainSignature) (g : Context) (h : Holding) (r : PlainNeutral) (path : List ℕ) (why : Cause)
+    → IsSimpleSignature sig → IsSimpleContext g → WellMarked (modes g) h → neutral_without_monads r ≡ true
+    → inferred sig g h r ≡ refused path why → ExplainedInNeutral sig g h r path why

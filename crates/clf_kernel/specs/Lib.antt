@@ -17,4 +17,5 @@ pub mod Clean
 pub mod Reach
 pub mod Refusal
 pub mod Checking
+pub mod Explained
 pub mod Laws

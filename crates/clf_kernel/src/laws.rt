@@ -1,5 +1,5 @@
 //! Laws of the rules, each stated by a function that does nothing.
-ghost use Rattle.clf_kernel.specs.Laws.{AnyContext, BareFamilies, ChecksExactly, CompoundTypes, EachFollows, EntriesWellFormed, Extended, InfersExactly, MentionsHeldAlone, NamesDiffer, Weakening, WellFormedIsClean};
+ghost use Rattle.clf_kernel.specs.Laws.{AnyContext, BareFamilies, ChecksExactly, CompoundTypes, EachFollows, EntriesWellFormed, Extended, InfersExactly, MentionsHeldAlone, NamesDiffer, RefusesNeutralsTruly, RefusesTruly, Weakening, WellFormedIsClean};
 
 /// Which types are well formed: families without arguments, functions, pairs, the unit and monads.
 #[tactic(auto, using(crate::proofs::Signatures::signature_laws))]
@@ -37,4 +37,11 @@ pub fn clean()
 pub fn checking()
     ensures objects { ChecksExactly }
     ensures neutrals { InfersExactly }
+{}
+
+/// A refusal tells the truth: at its path stands a part that is refused for its cause.
+#[tactic(auto, using(crate::proofs::Explanations::refusal_laws))]
+pub fn refusals()
+    ensures objects { RefusesTruly }
+    ensures neutrals { RefusesNeutralsTruly }
 {}

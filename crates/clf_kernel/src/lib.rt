@@ -3,4 +3,4 @@
 
 mod laws;
 
-pub use laws::{checking, clean, weakening, well_formed_signatures, well_formed_types};
+pub use laws::{checking, clean, refusals, weakening, well_formed_signatures, well_formed_types};
