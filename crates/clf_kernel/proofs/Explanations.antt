@@ -1,5 +1,5 @@
 -- Refusals tell the truth: at the path stands a part that is refused for the cause.
-use Rattle.std.proofs.Common.{◌≡◌, ℕ, zero, suc, ◌==◌, Bool, true, false, not, ◌&&◌, ◌||◌, if◌then◌else◌, List, [], ◌∷◌, length, Option, None, Some, option_map, slice_get, refl, sym, ap, subst, arith}
+use Rattle.std.proofs.Common.{◌≡◌, ℕ, zero, suc, ◌==◌, Bool, true, false, not, ◌&&◌, ◌||◌, if◌then◌else◌, List, [], ◌∷◌, length, Option, None, Some, option_map, slice_get, refl, sym, ap, subst, ◌∙◌, ◌<◌, ◌≤◌, arith}
 use Rattle.clf_syntax.specs.declared.tree.Mode.{Mode}
 use Rattle.clf_syntax.specs.declared.tree.Mode.TheVariants.{Persistent, Affine, Linear}
 use Rattle.clf_syntax.specs.declared.tree.Head.{Head}
@@ -9,7 +9,7 @@ use Rattle.clf_syntax.specs.TypeTree.{PlainType, family, function, both, top, mo
 use Rattle.use_contexts.specs.Context.{Context, modes}
 use Rattle.use_contexts.specs.Holding.{Holding, WellMarked}
 use Rattle.use_contexts.specs.Rows.{implies, within, stands, differs, IsPart, EachWithin, EachStands, Stands, Agrees, newest_difference, is_unused, now, later, allowed, outside, slack_outside}
-use Rattle.use_contexts.proofs.Bits.{at_entry, given, given_3, and-left, and-right}
+use Rattle.use_contexts.proofs.Bits.{at_entry, given, given_3, and-left, and-right, and-both}
 use Rattle.use_contexts.proofs.RowLaws.{IsPart-stands}
 use Rattle.use_contexts.proofs.UseLaws.{WellMarked-part}
 use Rattle.clf_sig.specs.Entry.{PlainSignature, constant_type}
@@ -17,7 +17,7 @@ use Rattle.clf_kernel.specs.Typing.{HasType, NeutralHasType}
 use Rattle.clf_kernel.specs.Refusal.{unused, mode_differs, family_differs, Outcome, passed, refused, at_part, and_then}
 use Rattle.clf_kernel.specs.Checking.{Leftover, answer_of, same_mode, eliminations, constant_left, held_left, variable_left, head_left, closed_scope, lambda_left, joined_left, pair_left, unit_left, found_left, atomic_left, argument_left, first_left, second_left, checked, inferred}
 use Rattle.clf_kernel.specs.Reach.{without_indices, IsSimpleSignature, IsSimpleContext, without_monads, neutral_without_monads}
-use Rattle.clf_kernel.specs.Explained.{MaySynthesize, object_at, neutral_with, whole, in_body, in_left_part, in_right_part, in_neutral, at_head, at_argument, at_first, at_second, before_argument, before_first, before_second, in_argument_part, lambda_at_none, argument_to_none, pair_at_none, first_of_none, second_of_none, unit_at_none, neutral_at_none, neutral_of_none, hole_stands, metavariable_stands, lambda_differs, argument_differs, variable_not_held, variable_unused, parts_differ, other_family, no_variable, no_constant, ExplainedAt, ExplainedInNeutral}
+use Rattle.clf_kernel.specs.Explained.{DiffersAt, MaySynthesize, object_at, neutral_with, whole, in_body, in_left_part, in_right_part, in_neutral, at_head, at_argument, at_first, at_second, before_argument, before_first, before_second, in_argument_part, lambda_at_none, argument_to_none, pair_at_none, first_of_none, second_of_none, unit_at_none, neutral_at_none, neutral_of_none, hole_stands, metavariable_stands, lambda_differs, argument_differs, variable_not_held, variable_unused, parts_differ, other_family, no_variable, no_constant, ExplainedAt, ExplainedInNeutral}
 use Rattle.clf_kernel.specs.Laws.{AgreesWithType, RefusesTruly, RefusesNeutralsTruly}
 use Rattle.clf_kernel.proofs.Agreement.{same-mode, other-mode, other-number, allowed-marked, object-agrees, neutral-agrees}
 
@@ -45,7 +45,7 @@ each-used_of [] h l s w = tt
 each-used_of (m ∷ ms) h l s w = (used_stands m (now h) (now l) s w.0, each-used_of ms (later h) (later l) s w.1)
 
 -- what has an answer holds of some part
-some-part : (ms : List Mode) (h : Holding) (a : Leftover) (P : Holding → Type 0) → Agrees ms h (Some a) P → (p : Holding) × IsPart ms h p × P p
+pub some-part : (ms : List Mode) (h : Holding) (a : Leftover) (P : Holding → Type 0) → Agrees ms h (Some a) P → (p : Holding) × IsPart ms h p × P p
 some-part ms h a P x =
     let p = used_of ms h a.0 in
     let s : Stands ms h a.0 a.1 (used_of ms h a.0) = (length-used_of ms h a.0, each-used_of ms h a.0 a.1 x.0.1) in
@@ -92,7 +92,7 @@ second_holds m h x s y t p a b c =
     alike_same p (not y) (given_3 (differs m x s y t) (stands m h y t p) (within m h x) (alike p (not y))
     (at_entry (λ m h x s y t p _ _. implies (differs m x s y t) (implies (stands m h y t p) (implies (within m h x) (alike p (not y))))) refl refl refl m h x s y t p true true) a b c)
 
-abbrev DifferAt : List Mode → Holding → Holding → Bool → Holding → Bool → ℕ → Type 0
+abbrev pub DifferAt : List Mode → Holding → Holding → Bool → Holding → Bool → ℕ → Type 0
 DifferAt ms h l s r t i = (held : Bool) × (slice_get ms i ≡ Some Linear)
     × ((p : Holding) → Stands ms h l s p → slice_get p i ≡ Some held)
     × ((p : Holding) → Stands ms h r t p → slice_get p i ≡ Some (not held))
@@ -114,7 +114,7 @@ differ-later m ms h l s r t i d = (
   (λ p x. get-later p (length ms) i (not d.0) x.0 (d.3 (later p) (length-later p (length ms) x.0, x.1.1))),
 )
 
-differ-at : (ms : List Mode) (h l : Holding) (s : Bool) (r : Holding) (t : Bool) (i : ℕ) → newest_difference ms l s r t ≡ Some i → EachWithin ms h l → EachWithin ms h r → DifferAt ms h l s r t i
+pub differ-at : (ms : List Mode) (h l : Holding) (s : Bool) (r : Holding) (t : Bool) (i : ℕ) → newest_difference ms l s r t ≡ Some i → EachWithin ms h l → EachWithin ms h r → DifferAt ms h l s r t i
 differ-at [] h l s r t i e a b = absurd (cc)
 differ-at (m ∷ ms) h [] s r t i e a b = absurd (cc)
 differ-at (m ∷ ms) h (x ∷ l) s [] t i e a b = absurd (cc)
@@ -128,6 +128,94 @@ differ-at (m ∷ ms) h (x ∷ l) s (y ∷ r) t i e a b =
     by false f None i n rest = absurd (cc)
     by false f (Some j) zero n rest = absurd (cc)
     by false f (Some j) (suc i) n rest = let same : Some j ≡ Some i = cc in differ-later m ms h (x ∷ l) s (y ∷ r) t i (rest i same)
+
+-- the entries of the largest part that a row stands for
+abbrev most : Bool → Bool → Bool → Bool
+most h l s = h && (not l || s)
+
+most_stands : (h l s : Bool) → within Linear h l ≡ true → stands Linear h l s (most h l s) ≡ true
+most_stands h l s a =
+    given (within Linear h l) (stands Linear h l s (most h l s))
+    (at_entry (λ m h l s _ _ _ _ _. implies (within Linear h l) (stands Linear h l s (most h l s))) refl refl refl Linear h l s true true true true true) a
+
+abbrev opposite_at : Bool → Bool → Bool → Bool → Bool → Bool → Bool
+opposite_at h x s y t held =
+    (alike (used Linear h x) held && alike (most h x s) held) && (alike (used Linear h y) (not held) && alike (most h y t) (not held))
+
+opposite_differs : (h x s y t held : Bool) → opposite_at h x s y t held ≡ true → differs Linear x s y t ≡ true
+opposite_differs h x s y t held a =
+    given (opposite_at h x s y t held) (differs Linear x s y t)
+    (at_entry (λ m h x s y t held _ _. implies (opposite_at h x s y t held) (differs Linear x s y t)) refl refl refl Linear h x s y t held true true) a
+
+same_alike : (a b : Bool) → Some a ≡ Some b → alike a b ≡ true
+same_alike true true e = refl
+same_alike true false e = cc
+same_alike false true e = cc
+same_alike false false e = refl
+
+found-here : (m : Mode) (ms : List Mode) (h : Holding) (x : Bool) (l : Holding) (s y : Bool) (r : Holding) (t : Bool) → EachWithin (m ∷ ms) h (x ∷ l) → EachWithin (m ∷ ms) h (y ∷ r)
+    → DifferAt (m ∷ ms) h (x ∷ l) s (y ∷ r) t 0 → differs m x s y t ≡ true
+found-here Persistent ms h x l s y r t a b d = let e = d.1 in cc
+found-here Affine ms h x l s y r t a b d = let e = d.1 in cc
+found-here Linear ms h x l s y r t a b d =
+    let p = used_of ms (later h) l in
+    let q = used_of ms (later h) r in
+    let np : length (true ∷ p) ≡ length (Linear ∷ ms) = ap suc (length-used_of ms (later h) l) in
+    let nq : length (true ∷ q) ≡ length (Linear ∷ ms) = ap suc (length-used_of ms (later h) r) in
+    let ep = each-used_of ms (later h) l s a.1 in
+    let eq = each-used_of ms (later h) r t b.1 in
+    let one = d.2 (used Linear (now h) x ∷ p) (np, (used_stands Linear (now h) x s a.0, ep)) in
+    let two = d.2 (most (now h) x s ∷ p) (np, (most_stands (now h) x s a.0, ep)) in
+    let three = d.3 (used Linear (now h) y ∷ q) (nq, (used_stands Linear (now h) y t b.0, eq)) in
+    let four = d.3 (most (now h) y t ∷ q) (nq, (most_stands (now h) y t b.0, eq)) in
+    opposite_differs (now h) x s y t d.0
+    (and-both (alike (used Linear (now h) x) d.0 && alike (most (now h) x s) d.0) (alike (used Linear (now h) y) (not d.0) && alike (most (now h) y t) (not d.0))
+    (and-both (alike (used Linear (now h) x) d.0) (alike (most (now h) x s) d.0) (same_alike (used Linear (now h) x) d.0 one) (same_alike (most (now h) x s) d.0 two))
+    (and-both (alike (used Linear (now h) y) (not d.0)) (alike (most (now h) y t) (not d.0)) (same_alike (used Linear (now h) y) (not d.0) three) (same_alike (most (now h) y t) (not d.0) four)))
+
+found-later : (m : Mode) (ms : List Mode) (h : Holding) (x : Bool) (l : Holding) (s y : Bool) (r : Holding) (t : Bool) (j : ℕ) → EachWithin (m ∷ ms) h (x ∷ l) → EachWithin (m ∷ ms) h (y ∷ r)
+    → DifferAt (m ∷ ms) h (x ∷ l) s (y ∷ r) t (suc j) → DifferAt ms (later h) l s r t j
+found-later m ms h x l s y r t j a b d = (
+  d.0,
+  d.1,
+  (λ p w. d.2 (used m (now h) x ∷ p) (ap suc w.0, (used_stands m (now h) x s a.0, w.1))),
+  (λ p w. d.3 (used m (now h) y ∷ p) (ap suc w.0, (used_stands m (now h) y t b.0, w.1))),
+)
+
+-- Where two rows' parts differ at an entry, the newest difference is there, or is newer.
+pub differ-found : (ms : List Mode) (h l : Holding) (s : Bool) (r : Holding) (t : Bool) (j : ℕ) → length l ≡ length ms → length r ≡ length ms → EachWithin ms h l → EachWithin ms h r
+    → DifferAt ms h l s r t j → (i : ℕ) × (newest_difference ms l s r t ≡ Some i) × (i ≤ j)
+differ-found [] h l s r t j n k a b d = let e = d.1 in absurd (cc)
+differ-found (m ∷ ms) h [] s r t j n k a b d = absurd (omega arith)
+differ-found (m ∷ ms) h (x ∷ l) s [] t j n k a b d = absurd (omega arith)
+differ-found (m ∷ ms) h (x ∷ l) s (y ∷ r) t j n k a b d =
+    by (differs m x s y t) refl (newest_difference ms l s r t) j d (λ i e. differ-found ms (later h) l s r t i (omega arith) (omega arith) a.1 b.1 e)
+  where
+    by : (z : Bool) → differs m x s y t ≡ z → (o : Option ℕ) → (j : ℕ) → DifferAt (m ∷ ms) h (x ∷ l) s (y ∷ r) t j
+        → ((i : ℕ) → DifferAt ms (later h) l s r t i → (f : ℕ) × (o ≡ Some f) × (f ≤ i)) → (f : ℕ) × ((if z then Some 0 else option_map suc o) ≡ Some f) × (f ≤ j)
+    by true f o j e rest = (0, refl, omega arith)
+    by false f o zero e rest = let g = found-here m ms h x l s y r t a b e in absurd (cc)
+    by false f o (suc j) e rest = let g = rest j (found-later m ms h x l s y r t j a b e) in (suc g.0, ap (option_map suc) g.1, omega (arith, g.2))
+
+-- what differs at an entry of a pair, said of the rows that its parts leave
+pub rows-differ : (sig : PlainSignature) (g : Context) (h : Holding) (l : Object) (a : PlainType) (r : Object) (c : PlainType) (u v : Leftover) (i : ℕ)
+    → Agrees (modes g) h (Some u) (λ p. HasType sig g p l a) → Agrees (modes g) h (Some v) (λ p. HasType sig g p r c)
+    → DiffersAt sig g h l a r c i → DifferAt (modes g) h u.0 u.1 v.0 v.1 i
+rows-differ sig g h l a r c u v i x y d = (
+  d.0,
+  d.1,
+  (λ p s. let w = IsPart-stands (modes g) h u.0 u.1 p s in d.2 p w (x.2 p w s)),
+  (λ p s. let w = IsPart-stands (modes g) h v.0 v.1 p s in d.3 p w (y.2 p w s)),
+)
+
+-- and back
+pub parts-differ : (sig : PlainSignature) (g : Context) (h : Holding) (l : Object) (a : PlainType) (r : Object) (c : PlainType) (u v : Leftover) (i : ℕ)
+    → Agrees (modes g) h (Some u) (λ p. HasType sig g p l a) → Agrees (modes g) h (Some v) (λ p. HasType sig g p r c)
+    → DifferAt (modes g) h u.0 u.1 v.0 v.1 i → DiffersAt sig g h l a r c i
+parts-differ sig g h l a r c u v i x y d = (d.0, d.1, (λ p w t. d.2 p (x.1 p w t)), (λ p w t. d.3 p (y.1 p w t)))
+
+not-newer : (i j : ℕ) (o : Option ℕ) → o ≡ Some i → j < i → (f : ℕ) × (o ≡ Some f) × (f ≤ j) → ⊥
+not-newer i j o e l f = let same : Some i ≡ Some f.0 = sym e ∙ f.1 in let k : i ≡ f.0 = cc in let q = f.2 in omega arith
 
 -- ---- outcomes
 -- A refusal has a part at its path that is refused for its cause.
@@ -203,14 +291,14 @@ module _ (sig : PlainSignature) (g : Context) (h : Holding) where
       → Explained sig g h (pair l r) (both a c) (joined_left g u v o)
   joined-explained l r a c u v None e x y = tt
   joined-explained l r a c u v (Some i) e x y =
-      let d = differ-at (modes g) h u.0 u.1 v.0 v.1 i e x.0.1 y.0.1 in (
+      let d = parts-differ sig g h l a r c u v i x y (differ-at (modes g) h u.0 u.1 v.0 v.1 i e x.0.1 y.0.1) in (
         g,
         h,
         object_at (pair l r) (both a c),
         whole,
-        parts_differ d.0 (some-part (modes g) h u (λ p. HasType sig g p l a) x) (some-part (modes g) h v (λ p. HasType sig g p r c) y) d.1
-            (λ p w t. d.2 p (x.1 p w t))
-            (λ p w t. d.3 p (y.1 p w t)),
+        parts_differ (some-part (modes g) h u (λ p. HasType sig g p l a) x) (some-part (modes g) h v (λ p. HasType sig g p r c) y) d
+            (λ j q f. not-newer i j (newest_difference (modes g) u.0 u.1 v.0 v.1) e q
+            (differ-found (modes g) h u.0 u.1 v.0 v.1 j x.0.0 y.0.0 x.0.1 y.0.1 (rows-differ sig g h l a r c u v j x y f))),
       )
 
   parts-explained : (l r : Object) (a c : PlainType) (x y : Outcome Leftover)

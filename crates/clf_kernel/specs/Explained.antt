@@ -1,6 +1,6 @@
 -- What a refusal says: the part at its path, with its context and the row from which its check starts, and what is wrong there.
 -- All of it is said in the words of the rules: of the types that objects and neutrals have under parts of a row.
-use Rattle.std.specs.Prelude.{ℕ, suc, ◌-◌, ◌≡◌, Bool, true, false, not, List, [], ◌∷◌, length, Some, None}
+use Rattle.std.specs.Prelude.{ℕ, suc, ◌-◌, ◌<◌, ◌≡◌, Bool, true, false, not, List, [], ◌∷◌, length, Some, None}
 use Rattle.std.specs.List.{slice_get}
 use Rattle.clf_syntax.specs.declared.tree.Mode.{Mode}
 use Rattle.clf_syntax.specs.declared.tree.Mode.TheVariants.{Linear}
@@ -79,6 +79,12 @@ IsNoPair t = (a c : PlainType) → t ≡ both a c → ⊥
 abbrev pub IsNoFamily : PlainType → Type 0
 IsNoFamily t = (f : ℕ) (ns : List Object) → t ≡ family f ns → ⊥
 
+-- The variable i is linear. It is held by all parts of the row under which the one object has its type, and by none under which the other has.
+abbrev pub DiffersAt : PlainSignature → Context → Holding → Object → PlainType → Object → PlainType → ℕ → Type 0
+DiffersAt sig g h l a r c i = (held : Bool) × (slice_get (modes g) i ≡ Some Linear)
+    × ((p : Holding) → IsPart (modes g) h p → HasType sig g p l a → slice_get p i ≡ Some held)
+    × ((p : Holding) → IsPart (modes g) h p → HasType sig g p r c → slice_get p i ≡ Some (not held))
+
 -- Refuses sig g h x why: in the context g and from the row h, the part x is refused for this cause.
 pub data Refuses : PlainSignature → Context → Holding → CheckedPart → Cause → Type 0 where
   -- A lambda stands at no function, or what an argument is put to is none.
@@ -117,11 +123,9 @@ pub data Refuses : PlainSignature → Context → Holding → CheckedPart → Ca
       → MayHaveType sig ((Linear, a) ∷ g) (true ∷ h) b c
       → ((p : Holding) → IsPart (Linear ∷ modes g) (true ∷ h) p → HasType sig ((Linear, a) ∷ g) p b c → slice_get p 0 ≡ Some false)
       → Refuses sig g h (object_at (lam Linear b) (function Linear a c)) (unused (suc (length g)))
-  -- A linear variable is held by all parts under which the one part of a pair has its type, and by none under which the other has.
-  parts_differ : {sig : PlainSignature} {g : Context} {h : Holding} {l r : Object} {a c : PlainType} {i : ℕ} (held : Bool)
-      → MayHaveType sig g h l a → MayHaveType sig g h r c → slice_get (modes g) i ≡ Some Linear
-      → ((p : Holding) → IsPart (modes g) h p → HasType sig g p l a → slice_get p i ≡ Some held)
-      → ((p : Holding) → IsPart (modes g) h p → HasType sig g p r c → slice_get p i ≡ Some (not held))
+  -- The parts of a pair differ at a variable, and at no newer one.
+  parts_differ : {sig : PlainSignature} {g : Context} {h : Holding} {l r : Object} {a c : PlainType} {i : ℕ}
+      → MayHaveType sig g h l a → MayHaveType sig g h r c → DiffersAt sig g h l a r c i → ((j : ℕ) → j < i → DiffersAt sig g h l a r c j → ⊥)
       → Refuses sig g h (object_at (pair l r) (both a c)) (pairs_differ (length g - i))
   -- The neutral has another family than the wanted one.
   other_family : {sig : PlainSignature} {g : Context} {h : Holding} {r : PlainNeutral} {wanted found : ℕ} {ns : List Object} (os : List Object)
