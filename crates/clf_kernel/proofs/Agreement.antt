@@ -37,7 +37,7 @@ same-mode Affine Linear e = cc
 same-mode Linear Persistent e = cc
 same-mode Linear Affine e = cc
 
-itself-mode : (m : Mode) → same_mode m m ≡ true
+pub itself-mode : (m : Mode) → same_mode m m ≡ true
 itself-mode Persistent = refl
 itself-mode Affine = refl
 itself-mode Linear = refl

@@ -22,7 +22,7 @@ use Rattle.clf_kernel.specs.Laws.{AgreesWithType, RefusesTruly, RefusesNeutralsT
 use Rattle.clf_kernel.proofs.Agreement.{same-mode, other-mode, other-number, allowed-marked, object-agrees, neutral-agrees}
 
 -- ---- a row stands for some part: that with the entries that are used
-abbrev used : Mode → Bool → Bool → Bool
+abbrev pub used : Mode → Bool → Bool → Bool
 used Persistent h l = h
 used Affine h l = h && not l
 used Linear h l = h && not l
@@ -32,7 +32,7 @@ used_stands m h l s a =
     given (within m h l) (stands m h l s (used m h l))
     (at_entry (λ m h l s _ _ _ _ _. implies (within m h l) (stands m h l s (used m h l))) refl refl refl m h l s true true true true true) a
 
-abbrev used_of : List Mode → Holding → Holding → Holding
+abbrev pub used_of : List Mode → Holding → Holding → Holding
 used_of [] h l = []
 used_of (m ∷ ms) h l = used m (now h) (now l) ∷ used_of ms (later h) (later l)
 
@@ -44,13 +44,16 @@ each-used_of : (ms : List Mode) (h l : Holding) (s : Bool) → EachWithin ms h l
 each-used_of [] h l s w = tt
 each-used_of (m ∷ ms) h l s w = (used_stands m (now h) (now l) s w.0, each-used_of ms (later h) (later l) s w.1)
 
--- what has an answer holds of some part
-pub some-part : (ms : List Mode) (h : Holding) (a : Leftover) (P : Holding → Type 0) → Agrees ms h (Some a) P → (p : Holding) × IsPart ms h p × P p
-some-part ms h a P x =
+-- what has an answer holds of that part
+pub used-part : (ms : List Mode) (h : Holding) (a : Leftover) (P : Holding → Type 0) → Agrees ms h (Some a) P → IsPart ms h (used_of ms h a.0) × P (used_of ms h a.0)
+used-part ms h a P x =
     let p = used_of ms h a.0 in
-    let s : Stands ms h a.0 a.1 (used_of ms h a.0) = (length-used_of ms h a.0, each-used_of ms h a.0 a.1 x.0.1) in
+    let s : Stands ms h a.0 a.1 p = (length-used_of ms h a.0, each-used_of ms h a.0 a.1 x.0.1) in
     let w = IsPart-stands ms h a.0 a.1 p s in
-    (p, w, x.2 p w s)
+    (w, x.2 p w s)
+
+pub some-part : (ms : List Mode) (h : Holding) (a : Leftover) (P : Holding → Type 0) → Agrees ms h (Some a) P → (p : Holding) × IsPart ms h p × P p
+some-part ms h a P x = let p = used-part ms h a P x in (used_of ms h a.0, p.0, p.1)
 
 -- ---- entries of parts
 get-now : (p : Holding) (n : ℕ) (b : Bool) → length p ≡ suc n → now p ≡ b → slice_get p 0 ≡ Some b
@@ -72,11 +75,11 @@ difference_linear Persistent x s y t e = cc
 difference_linear Affine x s y t e = cc
 difference_linear Linear x s y t e = refl
 
-abbrev alike : Bool → Bool → Bool
+abbrev pub alike : Bool → Bool → Bool
 alike true b = b
 alike false b = not b
 
-alike_same : (a b : Bool) → alike a b ≡ true → a ≡ b
+pub alike_same : (a b : Bool) → alike a b ≡ true → a ≡ b
 alike_same true true e = refl
 alike_same false false e = refl
 alike_same true false e = cc

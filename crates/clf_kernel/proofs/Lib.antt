@@ -4,3 +4,4 @@ pub mod Held
 pub mod WithoutIndices
 pub mod Agreement
 pub mod Explanations
+pub mod FirstRefusals

@@ -1,0 +1,216 @@
+-- A part at a path that is refused for a cause is the check's refusal: it is the first, and the one that is answered.
+use Rattle.std.proofs.Common.{◌≡◌, ◌≤◌, ◌<◌, ℕ, zero, suc, ◌-◌, ◌==◌, Bool, true, false, not, ◌&&◌, ◌||◌, if◌then◌else◌, List, [], ◌∷◌, length, Option, None, Some, slice_get, refl, sym, ap, subst, ◌∙◌, arith}
+use Rattle.clf_syntax.specs.declared.tree.Mode.{Mode}
+use Rattle.clf_syntax.specs.declared.tree.Mode.TheVariants.{Persistent, Affine, Linear}
+use Rattle.clf_syntax.specs.declared.tree.Head.TheVariants.{Const, Var, Meta}
+use Rattle.clf_syntax.specs.Tree.{Object, lam, pair, unit, monadic, atomic, hole, PlainNeutral, bare, app, fst, snd}
+use Rattle.clf_syntax.specs.TypeTree.{PlainType, family, function, both, top, monad}
+use Rattle.use_contexts.specs.Context.{Context, modes}
+use Rattle.use_contexts.specs.Holding.{Holding, WellMarked}
+use Rattle.use_contexts.specs.Rows.{implies, within, stands, IsPart, EachWithin, EachStands, Agrees, newest_difference, is_unused, now, later, allowed}
+use Rattle.use_contexts.proofs.Bits.{at_entry, given_3, and-left, and-right, and-both}
+use Rattle.use_contexts.proofs.UseLaws.{WellMarked-part, scope-agrees}
+use Rattle.clf_sig.specs.Entry.{PlainSignature, constant_type}
+use Rattle.clf_kernel.specs.Typing.{HasType, NeutralHasType}
+use Rattle.clf_kernel.specs.Refusal.{Cause, not_function, not_pair, not_top, not_atomic, unused, mode_differs, family_differs, pairs_differ, not_held, unknown_head, Outcome, passed, refused, at_part, and_then}
+use Rattle.clf_kernel.specs.Checking.{Leftover, answer_of, same_mode, eliminations, constant_left, held_left, variable_left, head_left, closed_scope, lambda_left, joined_left, pair_left, unit_left, found_left, atomic_left, argument_left, first_left, second_left, checked, inferred}
+use Rattle.clf_kernel.specs.Reach.{without_indices, IsSimpleSignature, IsSimpleContext, without_monads, neutral_without_monads}
+use Rattle.clf_kernel.specs.Explained.{MayHaveType, MaySynthesize, CheckedPart, object_at, neutral_with, Reaches, ReachesInNeutral, whole, in_body, in_left_part, in_right_part, in_neutral, at_head, at_argument, at_first, at_second, before_argument, before_first, before_second, in_argument_part, IsNoFunction, IsNoPair, IsNoFamily, DiffersAt, Refuses, lambda_at_none, argument_to_none, pair_at_none, first_of_none, second_of_none, unit_at_none, neutral_at_none, neutral_of_none, hole_stands, metavariable_stands, lambda_differs, argument_differs, variable_not_held, variable_unused, parts_differ, other_family, no_variable, no_constant, ExplainedAt, ExplainedInNeutral}
+use Rattle.clf_kernel.specs.Laws.{AgreesWithType}
+use Rattle.clf_kernel.proofs.Agreement.{itself-mode, allowed-marked, object-agrees, neutral-agrees}
+use Rattle.clf_kernel.proofs.Explanations.{some-part, alike, alike_same, differ-at, differ-found, rows-differ, parts-differ, used, used_of, used-part}
+
+-- ---- what may have a type passes
+typed-passes : (ms : List Mode) (h : Holding) (o : Outcome Leftover) (P : Holding → Type 0) → Agrees ms h (answer_of o) P → (p : Holding) × IsPart ms h p × P p
+    → (y : Leftover) × (o ≡ passed y)
+typed-passes ms h (passed y) P u t = (y, refl)
+typed-passes ms h (refused path why) P u t = absurd (u t.0 t.1 t.2)
+
+synthesized-passes : (g : Context) (h : Holding) (o : Outcome (PlainType × Leftover)) (P : Holding → PlainType → Type 0) (a : PlainType) → AgreesWithType g h o P
+    → (p : Holding) × IsPart (modes g) h p × P p a → (x : Leftover) × (o ≡ passed (a, x))
+synthesized-passes g h (passed (b, x)) P a u t = let e : a ≡ b = u.2 t.0 a t.2 in (x, ap (λ c. passed (c, x)) (sym e))
+synthesized-passes g h (refused path why) P a u t = absurd (u t.0 a t.1 t.2)
+
+-- ---- refusals of types
+lambda-at-none : (m : Mode) (g : Context) (t : PlainType) (body : PlainType → PlainType → Outcome Leftover) → IsNoFunction t → lambda_left m g t body ≡ refused [] (not_function t)
+lambda-at-none m g (function k a c) body f = absurd (f k a c refl)
+lambda-at-none m g (family i ns) body f = refl
+lambda-at-none m g (both a c) body f = refl
+lambda-at-none m g top body f = refl
+lambda-at-none m g (monad s) body f = refl
+
+pair-at-none : (g : Context) (t : PlainType) (left right : PlainType → Outcome Leftover) → IsNoPair t → pair_left g t left right ≡ refused [] (not_pair t)
+pair-at-none g (both a c) left right f = absurd (f a c refl)
+pair-at-none g (family i ns) left right f = refl
+pair-at-none g (function m a c) left right f = refl
+pair-at-none g top left right f = refl
+pair-at-none g (monad s) left right f = refl
+
+unit-at-none : (h : Holding) (t : PlainType) → (t ≡ top → ⊥) → unit_left h t ≡ refused [] (not_top t)
+unit-at-none h top f = absurd (f refl)
+unit-at-none h (family i ns) f = refl
+unit-at-none h (function m a c) f = refl
+unit-at-none h (both a c) f = refl
+unit-at-none h (monad s) f = refl
+
+neutral-at-none : (t : PlainType) (f : PlainType × Leftover) → IsNoFamily t → atomic_left t f ≡ refused [] (not_atomic t)
+neutral-at-none (family i ns) f n = absurd (n i ns refl)
+neutral-at-none (function m a c) f n = refl
+neutral-at-none (both a c) f n = refl
+neutral-at-none top f n = refl
+neutral-at-none (monad s) f n = refl
+
+neutral-of-none : (wanted : ℕ) (t : PlainType) (a : Leftover) → IsNoFamily t → found_left wanted t a ≡ refused [] (not_atomic t)
+neutral-of-none wanted (family i ns) a n = absurd (n i ns refl)
+neutral-of-none wanted (function m d c) a n = refl
+neutral-of-none wanted (both d c) a n = refl
+neutral-of-none wanted top a n = refl
+neutral-of-none wanted (monad s) a n = refl
+
+argument-to-none : (m : Mode) (g : Context) (place : ℕ) (t : PlainType) (x : Leftover) (argument : Holding → PlainType → Outcome Leftover) → IsNoFunction t
+    → argument_left m g place (t, x) argument ≡ refused (place ∷ []) (not_function t)
+argument-to-none m g place (function k a c) x argument f = absurd (f k a c refl)
+argument-to-none m g place (family i ns) x argument f = refl
+argument-to-none m g place (both a c) x argument f = refl
+argument-to-none m g place top x argument f = refl
+argument-to-none m g place (monad s) x argument f = refl
+
+first-of-none : (place : ℕ) (t : PlainType) (x : Leftover) → IsNoPair t → first_left place (t, x) ≡ refused (place ∷ []) (not_pair t)
+first-of-none place (both a c) x f = absurd (f a c refl)
+first-of-none place (family i ns) x f = refl
+first-of-none place (function m a c) x f = refl
+first-of-none place top x f = refl
+first-of-none place (monad s) x f = refl
+
+second-of-none : (place : ℕ) (t : PlainType) (x : Leftover) → IsNoPair t → second_left place (t, x) ≡ refused (place ∷ []) (not_pair t)
+second-of-none place (both a c) x f = absurd (f a c refl)
+second-of-none place (family i ns) x f = refl
+second-of-none place (function m a c) x f = refl
+second-of-none place top x f = refl
+second-of-none place (monad s) x f = refl
+
+-- ---- refusals of modes and families
+modes-differ : (m k : Mode) → (k ≡ m → ⊥) → same_mode m k ≡ false
+modes-differ Persistent Persistent f = absurd (f refl)
+modes-differ Affine Affine f = absurd (f refl)
+modes-differ Linear Linear f = absurd (f refl)
+modes-differ Persistent Affine f = refl
+modes-differ Persistent Linear f = refl
+modes-differ Affine Persistent f = refl
+modes-differ Affine Linear f = refl
+modes-differ Linear Persistent f = refl
+modes-differ Linear Affine f = refl
+
+numbers-differ : (i v : ℕ) → (i ≡ v → ⊥) → (i == v) ≡ false
+numbers-differ i v f = grind arith
+
+unless : {X : Type 0} (b : Bool) (x y : X) → b ≡ false → (if b then x else y) ≡ y
+unless true x y e = absurd (cc)
+unless false x y e = refl
+
+where_so : {X : Type 0} (b : Bool) (x y : X) → b ≡ true → (if b then x else y) ≡ x
+where_so true x y e = refl
+where_so false x y e = absurd (cc)
+
+-- ---- a linear variable that no part holds
+abbrev unused_at : Context → Outcome Leftover
+unused_at g = refused [] (unused (suc (length g)))
+
+unused-scope : (g : Context) (h : Holding) (y : Leftover) (P : Holding → Type 0) → Agrees (Linear ∷ modes g) (true ∷ h) (Some y) P
+    → ((p : Holding) → IsPart (Linear ∷ modes g) (true ∷ h) p → P p → slice_get p 0 ≡ Some false) → (x : Bool) → is_unused Linear (now y.0) y.1 ≡ x
+    → (if x then unused_at g else passed (later y.0, y.1)) ≡ unused_at g
+unused-scope g h y P u f true e = refl
+unused-scope g h y P u f false e =
+    let rest : Leftover = (later y.0, y.1) in
+    let z = subst (λ b. Agrees (modes g) h (if b then None else Some rest) (λ p. P (true ∷ p))) e (scope-agrees Linear (modes g) h (Some y) P u) in
+    let p = some-part (modes g) h rest (λ p. P (true ∷ p)) z in
+    let q = f (true ∷ p.0) (ap suc p.1.0, (refl, p.1.1)) p.2 in
+    absurd (cc)
+
+-- ---- an entry at which the parts of a pair differ
+newest-one : (i : ℕ) (o : Option ℕ) → ((j : ℕ) → o ≡ Some j → j < i → ⊥) → (j : ℕ) × (o ≡ Some j) × (j ≤ i) → o ≡ Some i
+newest-one i o f d = let e : d.0 ≡ i = same d.0 (d.2) (f d.0 d.1) in d.1 ∙ ap Some e
+  where
+    same : (j : ℕ) → j ≤ i → (j < i → ⊥) → j ≡ i
+    same j a b = grind arith
+
+-- ---- a row is determined by the parts that it stands for
+same_entry : (m : Mode) (h a s b t : Bool) → stands m h b t (used m h a) ≡ true → stands m h a s (used m h b) ≡ true → (within m h a && within m h b) ≡ true → a ≡ b
+same_entry m h a s b t x y z =
+    alike_same a b (given_3 (stands m h b t (used m h a)) (stands m h a s (used m h b)) (within m h a && within m h b) (alike a b)
+        (at_entry (λ m h a s b t _ _ _. implies (stands m h b t (used m h a)) (implies (stands m h a s (used m h b)) (implies (within m h a && within m h b) (alike a b)))) refl refl refl m h a s b t true true true)
+        x y z)
+
+same-each : (ms : List Mode) (h a : Holding) (s : Bool) (b : Holding) (t : Bool) → length a ≡ length ms → length b ≡ length ms → EachWithin ms h a → EachWithin ms h b
+    → EachStands ms h b t (used_of ms h a) → EachStands ms h a s (used_of ms h b) → a ≡ b
+same-each [] h [] s [] t m n u v x y = refl
+same-each [] h (e ∷ a) s b t m n u v x y = absurd (omega arith)
+same-each [] h [] s (e ∷ b) t m n u v x y = absurd (omega arith)
+same-each (i ∷ ms) h [] s b t m n u v x y = absurd (omega arith)
+same-each (i ∷ ms) h (e ∷ a) s [] t m n u v x y = absurd (omega arith)
+same-each (i ∷ ms) h (e ∷ a) s (f ∷ b) t m n u v x y =
+    let here = same_entry i (now h) e s f t x.0 y.0 (and-both (within i (now h) e) (within i (now h) f) u.0 v.0) in
+    let rest = same-each ms (later h) a s b t (omega arith) (omega arith) u.1 v.1 x.1 y.1 in
+    cc (here, rest)
+
+same-row : (ms : List Mode) (h : Holding) (a b : Leftover) (P : Holding → Type 0) → Agrees ms h (Some a) P → Agrees ms h (Some b) P → a.0 ≡ b.0
+same-row ms h a b P x y =
+    let p = used-part ms h a P x in
+    let q = used-part ms h b P y in
+    same-each ms h a.0 a.1 b.0 b.1 x.0.0 y.0.0 x.0.1 y.0.1 (y.1 (used_of ms h a.0) p.0 p.1).1 (x.1 (used_of ms h b.0) q.0 q.1).1
+
+-- ---- refusals of the whole
+module _ (sig : PlainSignature) (simple : IsSimpleSignature sig) (g : Context) (c : IsSimpleContext g) (h : Holding) (w : WellMarked (modes g) h) where
+  -- a neutral that may synthesize a type passes with it
+  inferred-as : (r : PlainNeutral) (a : PlainType) → neutral_without_monads r ≡ true → MaySynthesize sig g h r a → (x : Leftover) × (inferred sig g h r ≡ passed (a, x))
+  inferred-as r a n t = synthesized-passes g h (inferred sig g h r) (λ p b. NeutralHasType sig g p r b) a (neutral-agrees sig simple r g h c w n) t
+
+  checked-as : (n : Object) (t : PlainType) → without_monads n ≡ true → without_indices t ≡ true → MayHaveType sig g h n t → (y : Leftover) × (checked sig g h n t ≡ passed y)
+  checked-as n t m e u = typed-passes (modes g) h (checked sig g h n t) (λ p. HasType sig g p n t) (object-agrees sig simple n g h t c w m e) u
+
+  unused-exact : (b : Object) (a d : PlainType) → without_monads b ≡ true → without_indices a ≡ true → without_indices d ≡ true
+      → MayHaveType sig ((Linear, a) ∷ g) (true ∷ h) b d
+      → ((p : Holding) → IsPart (Linear ∷ modes g) (true ∷ h) p → HasType sig ((Linear, a) ∷ g) p b d → slice_get p 0 ≡ Some false)
+      → checked sig g h (lam Linear b) (function Linear a d) ≡ refused [] (unused (suc (length g)))
+  unused-exact b a d m i j t f =
+      let body = checked sig ((Linear, a) ∷ g) (true ∷ h) b d in
+      let u = object-agrees sig simple b ((Linear, a) ∷ g) (true ∷ h) d (i, c) ((λ q. refl), w) m j in
+      let y = typed-passes (Linear ∷ modes g) (true ∷ h) body (λ p. HasType sig ((Linear, a) ∷ g) p b d) u t in
+      let v = subst (λ o. Agrees (Linear ∷ modes g) (true ∷ h) (answer_of o) (λ p. HasType sig ((Linear, a) ∷ g) p b d)) y.1 u in
+      ap (λ o. and_then (at_part 0 o) (closed_scope Linear g)) y.1
+      ∙ unused-scope g h y.0 (λ p. HasType sig ((Linear, a) ∷ g) p b d) v f (is_unused Linear (now y.0.0) y.0.1) refl
+
+  differ-exact : (l r : Object) (a d : PlainType) (i : ℕ) → without_monads l ≡ true → without_monads r ≡ true → without_indices a ≡ true → without_indices d ≡ true
+      → MayHaveType sig g h l a → MayHaveType sig g h r d → DiffersAt sig g h l a r d i → ((j : ℕ) → j < i → DiffersAt sig g h l a r d j → ⊥)
+      → checked sig g h (pair l r) (both a d) ≡ refused [] (pairs_differ (length g - i))
+  differ-exact l r a d i m n e f s t here newer =
+      let x = checked-as l a m e s in
+      let y = checked-as r d n f t in
+      let u = subst (λ o. Agrees (modes g) h (answer_of o) (λ p. HasType sig g p l a)) x.1 (object-agrees sig simple l g h a c w m e) in
+      let v = subst (λ o. Agrees (modes g) h (answer_of o) (λ p. HasType sig g p r d)) y.1 (object-agrees sig simple r g h d c w n f) in
+      let o = newest_difference (modes g) x.0.0 x.0.1 y.0.0 y.0.1 in
+      let found = differ-found (modes g) h x.0.0 x.0.1 y.0.0 y.0.1 i u.0.0 v.0.0 u.0.1 v.0.1 (rows-differ sig g h l a r d x.0 y.0 i u v here) in
+      let place = newest-one i o
+          (λ j q k. newer j k (parts-differ sig g h l a r d x.0 y.0 j u v (differ-at (modes g) h x.0.0 x.0.1 y.0.0 y.0.1 j q u.0.1 v.0.1))) found in
+      ap (λ z. and_then (at_part 0 z) (λ p. and_then (at_part 1 (checked sig g h r d)) (λ q. joined_left g p q (newest_difference (modes g) p.0 p.1 q.0 q.1)))) x.1
+      ∙ ap (λ z. and_then (at_part 1 z) (λ q. joined_left g x.0 q (newest_difference (modes g) x.0.0 x.0.1 q.0 q.1))) y.1
+      ∙ ap (λ z. joined_left g x.0 y.0 z) place
+
+  whole-exact : (n : Object) (t : PlainType) (why : Cause) → Refuses sig g h (object_at n t) why → without_monads n ≡ true → without_indices t ≡ true
+      → checked sig g h n t ≡ refused [] why
+  whole-exact n t why (lambda_at_none {m = m} {b = b} f) k e = lambda-at-none m g t (λ a d. checked sig ((m, a) ∷ g) (true ∷ h) b d) f
+  whole-exact n t why (pair_at_none {l = l} {r = r} f) k e = pair-at-none g t (λ a. checked sig g h l a) (λ d. checked sig g h r d) f
+  whole-exact n t why (unit_at_none f) k e = unit-at-none h t f
+  whole-exact n t why (neutral_at_none {r = r} a s f) k e = let x = inferred-as r a k s in ap (λ o. and_then o (atomic_left t)) x.1 ∙ neutral-at-none t (a, x.0) f
+  whole-exact n t why (neutral_of_none {r = r} {f = f} {ns = ns} {a = a} s u) k e =
+      let x = inferred-as r a k s in ap (λ o. and_then o (atomic_left (family f ns))) x.1 ∙ neutral-of-none f a x.0 u
+  whole-exact n t why hole_stands k e = refl
+  whole-exact n t why (lambda_differs {m = m} {k = j} {b = b} {a = a} {c = d} f) k e =
+      unless (same_mode m j) (and_then (at_part 0 (checked sig ((m, a) ∷ g) (true ∷ h) b d)) (closed_scope m g)) (refused [] (mode_differs j m)) (modes-differ m j f)
+  whole-exact n t why (variable_unused {b = b} {a = a} {c = d} s f) k e = unused-exact b a d k (and-left (without_indices a) (without_indices d) e) (and-right (without_indices a) (without_indices d) e) s f
+  whole-exact n t why (parts_differ {l = l} {r = r} {a = a} {c = d} {i = i} s u f q) k e =
+      differ-exact l r a d i (and-left (without_monads l) (without_monads r) k) (and-right (without_monads l) (without_monads r) k)
+      (and-left (without_indices a) (without_indices d) e) (and-right (without_indices a) (without_indices d) e) s u f q
+  whole-exact n t why (other_family {r = r} {wanted = wanted} {found = found} {ns = ns} os s f) k e =
+      let x = inferred-as r (family found os) k s in
+      ap (λ o. and_then o (atomic_left (family wanted ns))) x.1 ∙ unless (wanted == found) (passed x.0) (refused [] (family_differs found wanted)) (numbers-differ wanted found f)
