@@ -14,11 +14,11 @@ use Rattle.use_contexts.proofs.RowLaws.{IsPart-stands}
 use Rattle.use_contexts.proofs.UseLaws.{WellMarked-part}
 use Rattle.clf_sig.specs.Entry.{PlainSignature, constant_type}
 use Rattle.clf_kernel.specs.Typing.{HasType, NeutralHasType}
-use Rattle.clf_kernel.specs.Refusal.{unused, mode_differs, family_differs, Outcome, passed, refused, at_part, and_then}
+use Rattle.clf_kernel.specs.Refusal.{Cause, unused, mode_differs, family_differs, Outcome, passed, refused, at_part, and_then}
 use Rattle.clf_kernel.specs.Checking.{Leftover, answer_of, same_mode, eliminations, constant_left, held_left, variable_left, head_left, closed_scope, lambda_left, joined_left, pair_left, unit_left, found_left, atomic_left, argument_left, first_left, second_left, checked, inferred}
 use Rattle.clf_kernel.specs.Reach.{without_indices, IsSimpleSignature, IsSimpleContext, without_monads, neutral_without_monads}
 use Rattle.clf_kernel.specs.Explained.{DiffersAt, MaySynthesize, object_at, neutral_with, whole, in_body, in_left_part, in_right_part, in_neutral, at_head, at_argument, at_first, at_second, before_argument, before_first, before_second, in_argument_part, lambda_at_none, argument_to_none, pair_at_none, first_of_none, second_of_none, unit_at_none, neutral_at_none, neutral_of_none, hole_stands, metavariable_stands, lambda_differs, argument_differs, variable_not_held, variable_unused, parts_differ, other_family, no_variable, no_constant, ExplainedAt, ExplainedInNeutral}
-use Rattle.clf_kernel.specs.Laws.{AgreesWithType, RefusesTruly, RefusesNeutralsTruly}
+use Rattle.clf_kernel.specs.Laws.{AgreesWithType}
 use Rattle.clf_kernel.proofs.Agreement.{same-mode, other-mode, other-number, allowed-marked, object-agrees, neutral-agrees}
 
 -- ---- a row stands for some part: that with the entries that are used
@@ -466,10 +466,13 @@ module _ (sig : PlainSignature) (s : IsSimpleSignature sig) where
     neutral-explained (fst r) g h c w n = first-explained sig g h r (inferred sig g h r) (neutral-agrees sig s r g h c w n) (neutral-explained r g h c w n)
     neutral-explained (snd r) g h c w n = second-explained sig g h r (inferred sig g h r) (neutral-agrees sig s r g h c w n) (neutral-explained r g h c w n)
 
-pub refuses_truly : RefusesTruly
-refuses_truly sig g h n t path why s c w m e q = subst (λ o. Explained sig g h n t o) q (object-explained sig s n g h t c w m e)
+-- in words of the equation that the laws have
+pub explained-object : (sig : PlainSignature) (g : Context) (h : Holding) (n : Object) (t : PlainType) (path : List ℕ) (why : Cause)
+    → IsSimpleSignature sig → IsSimpleContext g → WellMarked (modes g) h → without_monads n ≡ true → without_indices t ≡ true
+    → checked sig g h n t ≡ refused path why → ExplainedAt sig g h n t path why
+explained-object sig g h n t path why s c w m e q = subst (λ o. Explained sig g h n t o) q (object-explained sig s n g h t c w m e)
 
-pub refuses_neutrals_truly : RefusesNeutralsTruly
-refuses_neutrals_truly sig g h r path why s c w m q = subst (λ o. NeutralExplained sig g h r o) q (neutral-explained sig s r g h c w m)
-
-pub ruleset refusal_laws = (refuses_truly, refuses_neutrals_truly)
+pub explained-neutral : (sig : PlainSignature) (g : Context) (h : Holding) (r : PlainNeutral) (path : List ℕ) (why : Cause)
+    → IsSimpleSignature sig → IsSimpleContext g → WellMarked (modes g) h → neutral_without_monads r ≡ true
+    → inferred sig g h r ≡ refused path why → ExplainedInNeutral sig g h r path why
+explained-neutral sig g h r path why s c w m q = subst (λ o. NeutralExplained sig g h r o) q (neutral-explained sig s r g h c w m)

@@ -91,14 +91,14 @@ InfersExactly = (sig : PlainSignature) (g : Context) (h : Holding) (r : PlainNeu
     → IsSimpleSignature sig → IsSimpleContext g → WellMarked (modes g) h → neutral_without_monads r ≡ true
     → AgreesWithType g h (inferred sig g h r) (λ p a. NeutralHasType sig g p r a)
 
--- A refusal of an object tells the truth: at its path stands a part that is refused for its cause.
-abbrev pub RefusesTruly : Type 0
-RefusesTruly = (sig : PlainSignature) (g : Context) (h : Holding) (n : Object) (t : PlainType) (path : List ℕ) (why : Cause)
+-- A refusal of an object comes exactly where at its path stands a part that is refused for its cause.
+abbrev pub RefusesExactly : Type 0
+RefusesExactly = (sig : PlainSignature) (g : Context) (h : Holding) (n : Object) (t : PlainType) (path : List ℕ) (why : Cause)
     → IsSimpleSignature sig → IsSimpleContext g → WellMarked (modes g) h → without_monads n ≡ true → without_indices t ≡ true
-    → checked sig g h n t ≡ refused path why → ExplainedAt sig g h n t path why
+    → (checked sig g h n t ≡ refused path why) ↔ ExplainedAt sig g h n t path why
 
 -- So does a refusal of a neutral.
-abbrev pub RefusesNeutralsTruly : Type 0
-RefusesNeutralsTruly = (sig : PlainSignature) (g : Context) (h : Holding) (r : PlainNeutral) (path : List ℕ) (why : Cause)
+abbrev pub RefusesNeutralsExactly : Type 0
+RefusesNeutralsExactly = (sig : PlainSignature) (g : Context) (h : Holding) (r : PlainNeutral) (path : List ℕ) (why : Cause)
     → IsSimpleSignature sig → IsSimpleContext g → WellMarked (modes g) h → neutral_without_monads r ≡ true
-    → inferred sig g h r ≡ refused path why → ExplainedInNeutral sig g h r path why
+    → (inferred sig g h r ≡ refused path why) ↔ ExplainedInNeutral sig g h r path why

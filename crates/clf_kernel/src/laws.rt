@@ -1,5 +1,5 @@
 //! Laws of the rules, each stated by a function that does nothing.
-ghost use Rattle.clf_kernel.specs.Laws.{AnyContext, BareFamilies, ChecksExactly, CompoundTypes, EachFollows, EntriesWellFormed, Extended, InfersExactly, MentionsHeldAlone, NamesDiffer, RefusesNeutralsTruly, RefusesTruly, Weakening, WellFormedIsClean};
+ghost use Rattle.clf_kernel.specs.Laws.{AnyContext, BareFamilies, ChecksExactly, CompoundTypes, EachFollows, EntriesWellFormed, Extended, InfersExactly, MentionsHeldAlone, NamesDiffer, RefusesExactly, RefusesNeutralsExactly, Weakening, WellFormedIsClean};
 
 /// Which types are well formed: families without arguments, functions, pairs, the unit and monads.
 #[tactic(auto, using(crate::proofs::Signatures::signature_laws))]
@@ -39,9 +39,8 @@ pub fn checking()
     ensures neutrals { InfersExactly }
 {}
 
-/// A refusal tells the truth: at its path stands a part that is refused for its cause.
-#[tactic(auto, using(crate::proofs::Explanations::refusal_laws))]
+/// A refusal comes exactly where at its path stands a part that the rules refuse for its cause.
 pub fn refusals()
-    ensures objects { RefusesTruly }
-    ensures neutrals { RefusesNeutralsTruly }
+    ensures objects { RefusesExactly }
+    ensures neutrals { RefusesNeutralsExactly }
 {}
