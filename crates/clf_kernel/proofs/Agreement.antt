@@ -1,6 +1,7 @@
 -- The check of objects agrees with the rules, construct by construct: what each one makes of the outcomes of its parts
 -- agrees where these agree.
 use Rattle.std.proofs.Common.{◌≡◌, ℕ, zero, suc, ◌+◌, not, ◌==◌, Bool, true, false, ◌&&◌, ◌||◌, if◌then◌else◌, List, [], ◌∷◌, length, Option, None, Some, slice_get, refl, sym, ap, subst, ◌∙◌, arith}
+use Rattle.std.proofs.lemmas.Option.{none-some, same_Some}
 use Rattle.clf_syntax.specs.declared.tree.Mode.{Mode}
 use Rattle.clf_syntax.specs.declared.tree.Mode.TheVariants.{Persistent, Affine, Linear}
 use Rattle.clf_syntax.specs.declared.tree.Head.{Head}
@@ -23,6 +24,7 @@ use Rattle.clf_kernel.specs.Refusal.{unused, mode_differs, family_differs, Outco
 use Rattle.clf_kernel.specs.Checking.{Leftover, answer_of, same_mode, constant_left, held_left, variable_left, head_left, closed_scope, lambda_left, joined_left, pair_left, unit_left, found_left, atomic_left, argument_left, first_left, second_left, eliminations, checked, inferred}
 use Rattle.clf_kernel.specs.Reach.{without_indices, IsSimpleSignature, IsSimpleContext, without_monads, neutral_without_monads}
 use Rattle.clf_kernel.specs.Laws.{AgreesWithType, ChecksExactly, InfersExactly}
+use Rattle.clf_kernel.proofs.Held.{same_number}
 use Rattle.clf_kernel.proofs.WithoutIndices.{renamed-type, same-type, itself-type, simple-variable}
 
 -- ---- types and modes
@@ -159,9 +161,6 @@ unit-left-agrees g h (monad s) w = λ p u e. absurd (cc)
 abbrev AtomicHas : (Holding → PlainType → Type 0) → PlainType → Holding → Type 0
 AtomicHas P t p = (f : ℕ) × (ns os : List Object) × (t ≡ family f ns) × P p (family f os) × JoinedEach os ns
 
-same-number : (i v : ℕ) → (i == v) ≡ true → i ≡ v
-same-number i v e = grind arith
-
 pub other-number : (i v : ℕ) → (i == v) ≡ false → i ≡ v → ⊥
 other-number i v e q = grind arith
 
@@ -174,7 +173,7 @@ same-family-agrees : (g : Context) (h : Holding) (wanted found : ℕ) (b : Bool)
     → Agrees (modes g) h (answer_of (if b then passed a else refused [] (family_differs found wanted))) (AtomicHas P (family wanted []))
 same-family-agrees g h wanted found true e a P x one =
     agrees-same (modes g) h (Some a) (λ p. P p (family found [])) (AtomicHas P (family wanted []))
-    (λ p y. (wanted, [], [], refl, subst (λ i. P p (family i [])) (sym (same-number wanted found e)) y, tt))
+    (λ p y. (wanted, [], [], refl, subst (λ i. P p (family i [])) (sym (same_number wanted found e)) y, tt))
     (λ p y. subst (P p) (one p (family y.0 y.2) y.4) y.4) x
 same-family-agrees g h wanted found false e a P x one = λ p w y.
     other-number wanted found e (family-number y.3 ∙ family-number (one p (family y.0 y.2) y.4))
@@ -328,27 +327,22 @@ second-agrees g h place (passed (top, x)) P u = λ p t w y. let e = u.2 p (both 
 second-agrees g h place (passed ((monad s), x)) P u = λ p t w y. let e = u.2 p (both y.0 t) y.1 in absurd (cc)
 
 -- ---- heads
-pub same-some : {X : Type 0} {a b : X} → Some a ≡ Some b → a ≡ b
-same-some e = cc
-
-none-some : {X : Type 0} {a : X} → None ≡ Some a → ⊥
-none-some e = cc
+-- a variable of the context has a mark
+pub marked-there : (g : Context) (h : Holding) (i : ℕ) → WellMarked (modes g) h → (e : Mode × PlainType) → slice_get g i ≡ Some e → slice_get h i ≡ None → ⊥
+marked-there [] h i w e q x = cc
+marked-there (d ∷ g) [] i w e q x = absurd w
+marked-there (d ∷ g) (b ∷ h) zero w e q x = cc
+marked-there (d ∷ g) (b ∷ h) (suc i) w e q x = marked-there g h i w.1 e q x
 
 constant-agrees : (sig : PlainSignature) → IsSimpleSignature sig → (g : Context) (h : Holding) → WellMarked (modes g) h → (c : ℕ) (o : Option PlainType) → constant_type sig c ≡ o
     → AgreesWithType g h (constant_left c h o) (λ p a. HeadHasType sig g p (Const c) a)
-constant-agrees sig s g h w c None e = λ p a u y. none-some (sym e ∙ y.0)
+constant-agrees sig s g h w c None e = λ p a u y. none-some a (sym e ∙ y.0)
 constant-agrees sig s g h w c (Some a) e = (
   s.0 c a e,
   agrees-same (modes g) h (Some (h, false)) (λ p. is_weak (modes g) p ≡ true) (λ p. HeadHasType sig g p (Const c) a) (λ p y. (e, y)) (λ p y. y.1)
       (idle-agrees (modes g) h (IsPart-self (modes g) h w)),
-  (λ p b y. same-some (sym y.0 ∙ e)),
+  (λ p b y. same_Some b a (sym y.0 ∙ e)),
 )
-
-not-there : (h p : Holding) (i : ℕ) → length p ≡ length h → slice_get h i ≡ None → slice_get p i ≡ Some true → ⊥
-not-there h [] i n e f = cc
-not-there [] (y ∷ p) i n e f = absurd (omega arith)
-not-there (x ∷ h) (y ∷ p) zero n e f = cc
-not-there (x ∷ h) (y ∷ p) (suc i) n e f = not-there h p i (omega arith) e f
 
 held-agrees : (sig : PlainSignature) (g : Context) → IsSimpleContext g → (h : Holding) → WellMarked (modes g) h → (i : ℕ) (e : Mode × PlainType) → slice_get g i ≡ Some e
     → (o : Option Bool) → slice_get h i ≡ o → AgreesWithType g h (held_left g h i e.1 o) (λ p a. HeadHasType sig g p (Var i) a)
@@ -361,16 +355,16 @@ held-agrees sig g s h w i e q (Some true) x =
           (take-agrees (modes g) h i (IsPart-self (modes g) h w) x),
       (λ p a y.
           let b = y.1.1 in
-          let same : (y.1.0, b) ≡ e = same-some (sym y.1.2 ∙ q) in
+          let same : (y.1.0, b) ≡ e = same_Some (y.1.0, b) e (sym y.1.2 ∙ q) in
           let there : b ≡ e.1 = ap (λ d. d.1) same in
           y.1.3 ∙ ap (ren_type (up (i + 1))) there ∙ renamed-type (up (i + 1)) e.1 simple),
     )
 held-agrees sig g s h w i e q (Some false) x = λ p a u y. take-refused (modes g) h i x p u y.0
-held-agrees sig g s h w i e q None x = λ p a u y. not-there h p i (u.0 ∙ sym (IsPart-self (modes g) h w).0) x y.0.0
+held-agrees sig g s h w i e q None x = λ p a u y. marked-there g h i w e q x
 
 variable-agrees : (sig : PlainSignature) (g : Context) → IsSimpleContext g → (h : Holding) → WellMarked (modes g) h → (i : ℕ) (o : Option (Mode × PlainType)) → slice_get g i ≡ o
     → AgreesWithType g h (variable_left g h i o) (λ p a. HeadHasType sig g p (Var i) a)
-variable-agrees sig g s h w i None q = λ p a u y. none-some (sym q ∙ y.1.2)
+variable-agrees sig g s h w i None q = λ p a u y. none-some (y.1.0, y.1.1) (sym q ∙ y.1.2)
 variable-agrees sig g s h w i (Some e) q = held-agrees sig g s h w i e q (slice_get h i) refl
 
 head-agrees : (sig : PlainSignature) → IsSimpleSignature sig → (g : Context) → IsSimpleContext g → (h : Holding) → WellMarked (modes g) h → (x : Head)

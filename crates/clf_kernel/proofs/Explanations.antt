@@ -1,5 +1,6 @@
 -- Refusals tell the truth: at the path stands a part that is refused for the cause.
 use Rattle.std.proofs.Common.{◌≡◌, ℕ, zero, suc, ◌==◌, Bool, true, false, not, ◌&&◌, ◌||◌, if◌then◌else◌, List, [], ◌∷◌, length, Option, None, Some, option_map, slice_get, refl, sym, ap, subst, ◌∙◌, ◌<◌, ◌≤◌, arith}
+use Rattle.std.proofs.Math.Bool.{beq}
 use Rattle.clf_syntax.specs.declared.tree.Mode.{Mode}
 use Rattle.clf_syntax.specs.declared.tree.Mode.TheVariants.{Persistent, Affine, Linear}
 use Rattle.clf_syntax.specs.declared.tree.Head.{Head}
@@ -19,7 +20,7 @@ use Rattle.clf_kernel.specs.Checking.{Leftover, answer_of, same_mode, eliminatio
 use Rattle.clf_kernel.specs.Reach.{without_indices, IsSimpleSignature, IsSimpleContext, without_monads, neutral_without_monads}
 use Rattle.clf_kernel.specs.Explained.{DiffersAt, MaySynthesize, object_at, neutral_with, whole, in_body, in_left_part, in_right_part, in_neutral, at_head, at_argument, at_first, at_second, before_argument, before_first, before_second, in_argument_part, lambda_at_none, argument_to_none, pair_at_none, first_of_none, second_of_none, unit_at_none, neutral_at_none, neutral_of_none, hole_stands, metavariable_stands, lambda_differs, argument_differs, variable_not_held, variable_unused, parts_differ, other_family, no_variable, no_constant, ExplainedAt, ExplainedInNeutral}
 use Rattle.clf_kernel.specs.Laws.{AgreesWithType}
-use Rattle.clf_kernel.proofs.Agreement.{same-mode, other-mode, other-number, allowed-marked, object-agrees, neutral-agrees}
+use Rattle.clf_kernel.proofs.Agreement.{marked-there, same-mode, other-mode, other-number, allowed-marked, object-agrees, neutral-agrees}
 
 -- ---- a row stands for some part: that with the entries that are used
 abbrev pub used : Mode → Bool → Bool → Bool
@@ -75,25 +76,21 @@ difference_linear Persistent x s y t e = cc
 difference_linear Affine x s y t e = cc
 difference_linear Linear x s y t e = refl
 
-abbrev pub alike : Bool → Bool → Bool
-alike true b = b
-alike false b = not b
-
-pub alike_same : (a b : Bool) → alike a b ≡ true → a ≡ b
-alike_same true true e = refl
-alike_same false false e = refl
-alike_same true false e = cc
-alike_same false true e = cc
+pub same_from_beq : (a b : Bool) → beq a b ≡ true → a ≡ b
+same_from_beq true true e = refl
+same_from_beq false false e = refl
+same_from_beq true false e = cc
+same_from_beq false true e = cc
 
 first_holds : (m : Mode) (h x s y t p : Bool) → differs m x s y t ≡ true → stands m h x s p ≡ true → within m h y ≡ true → p ≡ y
 first_holds m h x s y t p a b c =
-    alike_same p y (given_3 (differs m x s y t) (stands m h x s p) (within m h y) (alike p y)
-    (at_entry (λ m h x s y t p _ _. implies (differs m x s y t) (implies (stands m h x s p) (implies (within m h y) (alike p y)))) refl refl refl m h x s y t p true true) a b c)
+    same_from_beq p y (given_3 (differs m x s y t) (stands m h x s p) (within m h y) (beq p y)
+    (at_entry (λ m h x s y t p _ _. implies (differs m x s y t) (implies (stands m h x s p) (implies (within m h y) (beq p y)))) refl refl refl m h x s y t p true true) a b c)
 
 second_holds : (m : Mode) (h x s y t p : Bool) → differs m x s y t ≡ true → stands m h y t p ≡ true → within m h x ≡ true → p ≡ not y
 second_holds m h x s y t p a b c =
-    alike_same p (not y) (given_3 (differs m x s y t) (stands m h y t p) (within m h x) (alike p (not y))
-    (at_entry (λ m h x s y t p _ _. implies (differs m x s y t) (implies (stands m h y t p) (implies (within m h x) (alike p (not y))))) refl refl refl m h x s y t p true true) a b c)
+    same_from_beq p (not y) (given_3 (differs m x s y t) (stands m h y t p) (within m h x) (beq p (not y))
+    (at_entry (λ m h x s y t p _ _. implies (differs m x s y t) (implies (stands m h y t p) (implies (within m h x) (beq p (not y))))) refl refl refl m h x s y t p true true) a b c)
 
 abbrev pub DifferAt : List Mode → Holding → Holding → Bool → Holding → Bool → ℕ → Type 0
 DifferAt ms h l s r t i = (held : Bool) × (slice_get ms i ≡ Some Linear)
@@ -143,18 +140,18 @@ most_stands h l s a =
 
 abbrev opposite_at : Bool → Bool → Bool → Bool → Bool → Bool → Bool
 opposite_at h x s y t held =
-    (alike (used Linear h x) held && alike (most h x s) held) && (alike (used Linear h y) (not held) && alike (most h y t) (not held))
+    (beq (used Linear h x) held && beq (most h x s) held) && (beq (used Linear h y) (not held) && beq (most h y t) (not held))
 
 opposite_differs : (h x s y t held : Bool) → opposite_at h x s y t held ≡ true → differs Linear x s y t ≡ true
 opposite_differs h x s y t held a =
     given (opposite_at h x s y t held) (differs Linear x s y t)
     (at_entry (λ m h x s y t held _ _. implies (opposite_at h x s y t held) (differs Linear x s y t)) refl refl refl Linear h x s y t held true true) a
 
-same_alike : (a b : Bool) → Some a ≡ Some b → alike a b ≡ true
-same_alike true true e = refl
-same_alike true false e = cc
-same_alike false true e = cc
-same_alike false false e = refl
+beq_from_same : (a b : Bool) → Some a ≡ Some b → beq a b ≡ true
+beq_from_same true true e = refl
+beq_from_same true false e = cc
+beq_from_same false true e = cc
+beq_from_same false false e = refl
 
 found-here : (m : Mode) (ms : List Mode) (h : Holding) (x : Bool) (l : Holding) (s y : Bool) (r : Holding) (t : Bool) → EachWithin (m ∷ ms) h (x ∷ l) → EachWithin (m ∷ ms) h (y ∷ r)
     → DifferAt (m ∷ ms) h (x ∷ l) s (y ∷ r) t 0 → differs m x s y t ≡ true
@@ -172,9 +169,9 @@ found-here Linear ms h x l s y r t a b d =
     let three = d.3 (used Linear (now h) y ∷ q) (nq, (used_stands Linear (now h) y t b.0, eq)) in
     let four = d.3 (most (now h) y t ∷ q) (nq, (most_stands (now h) y t b.0, eq)) in
     opposite_differs (now h) x s y t d.0
-    (and-both (alike (used Linear (now h) x) d.0 && alike (most (now h) x s) d.0) (alike (used Linear (now h) y) (not d.0) && alike (most (now h) y t) (not d.0))
-    (and-both (alike (used Linear (now h) x) d.0) (alike (most (now h) x s) d.0) (same_alike (used Linear (now h) x) d.0 one) (same_alike (most (now h) x s) d.0 two))
-    (and-both (alike (used Linear (now h) y) (not d.0)) (alike (most (now h) y t) (not d.0)) (same_alike (used Linear (now h) y) (not d.0) three) (same_alike (most (now h) y t) (not d.0) four)))
+    (and-both (beq (used Linear (now h) x) d.0 && beq (most (now h) x s) d.0) (beq (used Linear (now h) y) (not d.0) && beq (most (now h) y t) (not d.0))
+    (and-both (beq (used Linear (now h) x) d.0) (beq (most (now h) x s) d.0) (beq_from_same (used Linear (now h) x) d.0 one) (beq_from_same (most (now h) x s) d.0 two))
+    (and-both (beq (used Linear (now h) y) (not d.0)) (beq (most (now h) y t) (not d.0)) (beq_from_same (used Linear (now h) y) (not d.0) three) (beq_from_same (most (now h) y t) (not d.0) four)))
 
 found-later : (m : Mode) (ms : List Mode) (h : Holding) (x : Bool) (l : Holding) (s y : Bool) (r : Holding) (t : Bool) (j : ℕ) → EachWithin (m ∷ ms) h (x ∷ l) → EachWithin (m ∷ ms) h (y ∷ r)
     → DifferAt (m ∷ ms) h (x ∷ l) s (y ∷ r) t (suc j) → DifferAt ms (later h) l s r t j
@@ -236,13 +233,6 @@ unheld l s false e q = refl
 unheld true true true e q = cc
 unheld true false true e q = cc
 unheld false s true e q = cc
-
--- a variable of the context has a mark
-marked-there : (g : Context) (h : Holding) (i : ℕ) → WellMarked (modes g) h → (e : Mode × PlainType) → slice_get g i ≡ Some e → slice_get h i ≡ None → ⊥
-marked-there [] h i w e q x = cc
-marked-there (d ∷ g) [] i w e q x = absurd w
-marked-there (d ∷ g) (b ∷ h) zero w e q x = cc
-marked-there (d ∷ g) (b ∷ h) (suc i) w e q x = marked-there g h i w.1 e q x
 
 module _ (sig : PlainSignature) (g : Context) (h : Holding) where
   scope-explained : (m : Mode) (b : Object) (a c : PlainType) (y : Leftover) (x : Bool) → is_unused m (now y.0) y.1 ≡ x

@@ -1,5 +1,7 @@
 -- A part at a path that is refused for a cause is the check's refusal: it is the first, and the one that is answered.
 use Rattle.std.proofs.Common.{◌≡◌, ◌≤◌, ◌<◌, ℕ, suc, ◌-◌, ◌==◌, Bool, true, false, ◌&&◌, ◌||◌, if◌then◌else◌, List, [], ◌∷◌, length, Option, None, Some, slice_get, refl, sym, ap, subst, ◌∙◌, arith}
+use Rattle.std.proofs.Math.Bool.{beq}
+use Rattle.std.proofs.lemmas.Bool.{cond-true, cond-false}
 use Rattle.clf_syntax.specs.declared.tree.Mode.{Mode}
 use Rattle.clf_syntax.specs.declared.tree.Mode.TheVariants.{Persistent, Affine, Linear}
 use Rattle.clf_syntax.specs.declared.tree.Head.{Head}
@@ -18,7 +20,7 @@ use Rattle.clf_kernel.specs.Reach.{without_indices, IsSimpleSignature, IsSimpleC
 use Rattle.clf_kernel.specs.Explained.{MayHaveType, MaySynthesize, CheckedPart, object_at, neutral_with, Reaches, ReachesInNeutral, whole, in_body, in_left_part, in_right_part, in_neutral, at_head, at_argument, at_first, at_second, before_argument, before_first, before_second, in_argument_part, IsNoFunction, IsNoPair, IsNoFamily, DiffersAt, Refuses, lambda_at_none, argument_to_none, pair_at_none, first_of_none, second_of_none, unit_at_none, neutral_at_none, neutral_of_none, hole_stands, metavariable_stands, lambda_differs, argument_differs, variable_not_held, variable_unused, parts_differ, other_family, no_variable, no_constant}
 use Rattle.clf_kernel.specs.Laws.{AgreesWithType, RefusesExactly, RefusesNeutralsExactly}
 use Rattle.clf_kernel.proofs.Agreement.{itself-mode, allowed-marked, object-agrees, neutral-agrees}
-use Rattle.clf_kernel.proofs.Explanations.{explained-object, explained-neutral, some-part, alike, alike_same, differ-at, differ-found, rows-differ, parts-differ, used, used_of, used-part}
+use Rattle.clf_kernel.proofs.Explanations.{explained-object, explained-neutral, some-part, same_from_beq, differ-at, differ-found, rows-differ, parts-differ, used, used_of, used-part}
 
 -- ---- what may have a type passes
 typed-passes : (ms : List Mode) (h : Holding) (o : Outcome Leftover) (P : Holding → Type 0) → Agrees ms h (answer_of o) P → (p : Holding) × IsPart ms h p × P p
@@ -104,14 +106,6 @@ modes-differ Linear Affine f = refl
 numbers-differ : (i v : ℕ) → (i ≡ v → ⊥) → (i == v) ≡ false
 numbers-differ i v f = grind arith
 
-unless : {X : Type 0} (b : Bool) (x y : X) → b ≡ false → (if b then x else y) ≡ y
-unless true x y e = absurd (cc)
-unless false x y e = refl
-
-where_so : {X : Type 0} (b : Bool) (x y : X) → b ≡ true → (if b then x else y) ≡ x
-where_so true x y e = refl
-where_so false x y e = absurd (cc)
-
 -- ---- a linear variable that no part holds
 abbrev unused_at : Context → Outcome Leftover
 unused_at g = refused [] (unused (suc (length g)))
@@ -137,8 +131,8 @@ newest-one i o f d = let e : d.0 ≡ i = same d.0 (d.2) (f d.0 d.1) in d.1 ∙ a
 -- ---- a row is determined by the parts that it stands for
 same_entry : (m : Mode) (h a s b t : Bool) → stands m h b t (used m h a) ≡ true → stands m h a s (used m h b) ≡ true → (within m h a && within m h b) ≡ true → a ≡ b
 same_entry m h a s b t x y z =
-    alike_same a b (given_3 (stands m h b t (used m h a)) (stands m h a s (used m h b)) (within m h a && within m h b) (alike a b)
-    (at_entry (λ m h a s b t _ _ _. implies (stands m h b t (used m h a)) (implies (stands m h a s (used m h b)) (implies (within m h a && within m h b) (alike a b)))) refl refl refl m h a s b t true true true)
+    same_from_beq a b (given_3 (stands m h b t (used m h a)) (stands m h a s (used m h b)) (within m h a && within m h b) (beq a b)
+    (at_entry (λ m h a s b t _ _ _. implies (stands m h b t (used m h a)) (implies (stands m h a s (used m h b)) (implies (within m h a && within m h b) (beq a b)))) refl refl refl m h a s b t true true true)
     x y z)
 
 same-each : (ms : List Mode) (h a : Holding) (s : Bool) (b : Holding) (t : Bool) → length a ≡ length ms → length b ≡ length ms → EachWithin ms h a → EachWithin ms h b
@@ -210,14 +204,14 @@ module _ (sig : PlainSignature) (simple : IsSimpleSignature sig) (g : Context) (
       let x = inferred-as r a k s in ap (λ o. and_then o (atomic_left (family f ns))) x.1 ∙ neutral-of-none f a x.0 u
   whole-exact n t why hole_stands k e = refl
   whole-exact n t why (lambda_differs {m = m} {k = j} {b = b} {a = a} {c = d} f) k e =
-      unless (same_mode m j) (and_then (at_part 0 (checked sig ((m, a) ∷ g) (true ∷ h) b d)) (closed_scope m g)) (refused [] (mode_differs j m)) (modes-differ m j f)
+      cond-false (same_mode m j) (and_then (at_part 0 (checked sig ((m, a) ∷ g) (true ∷ h) b d)) (closed_scope m g)) (refused [] (mode_differs j m)) (modes-differ m j f)
   whole-exact n t why (variable_unused {b = b} {a = a} {c = d} s f) k e = unused-exact b a d k (and-left (without_indices a) (without_indices d) e) (and-right (without_indices a) (without_indices d) e) s f
   whole-exact n t why (parts_differ {l = l} {r = r} {a = a} {c = d} {i = i} s u f q) k e =
       differ-exact l r a d i (and-left (without_monads l) (without_monads r) k) (and-right (without_monads l) (without_monads r) k)
       (and-left (without_indices a) (without_indices d) e) (and-right (without_indices a) (without_indices d) e) s u f q
   whole-exact n t why (other_family {r = r} {wanted = wanted} {found = found} {ns = ns} os s f) k e =
       let x = inferred-as r (family found os) k s in
-      ap (λ o. and_then o (atomic_left (family wanted ns))) x.1 ∙ unless (wanted == found) (passed x.0) (refused [] (family_differs found wanted)) (numbers-differ wanted found f)
+      ap (λ o. and_then o (atomic_left (family wanted ns))) x.1 ∙ cond-false (wanted == found) (passed x.0) (refused [] (family_differs found wanted)) (numbers-differ wanted found f)
 
   head-exact : (y : Head) (why : Cause) → Refuses sig g h (neutral_with (bare y)) why → head_left sig g h y ≡ refused [] why
   head-exact y why metavariable_stands = refl
@@ -234,7 +228,7 @@ module _ (sig : PlainSignature) (simple : IsSimpleSignature sig) (g : Context) (
   argument-exact m r n why (argument_differs {k = j} a d s f) k =
       let x = inferred-as r (function j a d) k s in
       ap (λ o. and_then o (λ f. argument_left m g (eliminations r) f (λ row a. checked sig g row n a))) x.1
-      ∙ unless (same_mode m j) (argument_passed m g r d x.0 (checked sig g (allowed m (modes g) x.0.0) n a)) (refused (eliminations r ∷ []) (mode_differs j m)) (modes-differ m j f)
+      ∙ cond-false (same_mode m j) (argument_passed m g r d x.0 (checked sig g (allowed m (modes g) x.0.0) n a)) (refused (eliminations r ∷ []) (mode_differs j m)) (modes-differ m j f)
 
   first-exact : (r : PlainNeutral) (why : Cause) → Refuses sig g h (neutral_with (fst r)) why → neutral_without_monads r ≡ true → inferred sig g h (fst r) ≡ refused (eliminations r ∷ []) why
   first-exact r why (first_of_none {t = t} s f) k = let x = inferred-as r t k s in ap (λ o. and_then o (first_left (eliminations r))) x.1 ∙ first-of-none (eliminations r) t x.0 f
@@ -253,7 +247,7 @@ module _ (sig : PlainSignature) (simple : IsSimpleSignature sig) (g : Context) (
       let y = subst (λ o. AgreesWithType g h o (λ p t. NeutralHasType sig g p r t)) x.1 (neutral-agrees sig simple r g h c w k) in
       let same = same-row (modes g) h x.0 row (λ p. NeutralHasType sig g p r (function m a d)) y.1 u in
       ap (λ o. and_then o (λ f. argument_left m g (eliminations r) f (λ row a. checked sig g row n a))) x.1
-      ∙ where_so (same_mode m m) (argument_passed m g r d x.0 (checked sig g (allowed m (modes g) x.0.0) n a)) (refused (eliminations r ∷ []) (mode_differs m m)) (itself-mode m)
+      ∙ cond-true (same_mode m m) (argument_passed m g r d x.0 (checked sig g (allowed m (modes g) x.0.0) n a)) (refused (eliminations r ∷ []) (mode_differs m m)) (itself-mode m)
       ∙ ap (λ z. argument_passed m g r d x.0 (checked sig g (allowed m (modes g) z) n a)) same
       ∙ ap (λ o. argument_passed m g r d x.0 o) (v (and-left (without_indices a) (without_indices d) y.0))
 
@@ -266,7 +260,7 @@ module _ (sig : PlainSignature) (simple : IsSimpleSignature sig) where
     object-exact g h n t path k l x why whole u c w i e = whole-exact sig simple g c h w n t why u i e
     object-exact g h n t path k l x why (in_body {m = m} {b = b} {a = a} {c = d} {path = q} v) u c w i e =
         let f = object-exact ((m, a) ∷ g) (true ∷ h) b d q k l x why v u (and-left (without_indices a) (without_indices d) e, c) ((λ z. refl), w) i (and-right (without_indices a) (without_indices d) e) in
-        where_so (same_mode m m) (and_then (at_part 0 (checked sig ((m, a) ∷ g) (true ∷ h) b d)) (closed_scope m g)) (refused [] (mode_differs m m)) (itself-mode m)
+        cond-true (same_mode m m) (and_then (at_part 0 (checked sig ((m, a) ∷ g) (true ∷ h) b d)) (closed_scope m g)) (refused [] (mode_differs m m)) (itself-mode m)
         ∙ ap (λ o. and_then (at_part 0 o) (closed_scope m g)) f
     object-exact g h n t path k l x why (in_left_part {o = o} {u = r} {a = a} {c = d} {path = q} v) u c w i e =
         let f = object-exact g h o a q k l x why v u c w (and-left (without_monads o) (without_monads r) i) (and-left (without_indices a) (without_indices d) e) in

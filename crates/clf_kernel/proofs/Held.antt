@@ -62,7 +62,7 @@ under_all (m ∷ ms) h i e = subst (λ j. slice_get (all_held ms (true ∷ h)) j
     same : (i n : ℕ) → suc i + n ≡ i + suc n
     same i n = omega arith
 
-same_number : (i v : ℕ) → nat_eq i v ≡ true → i ≡ v
+pub same_number : (i v : ℕ) → nat_eq i v ≡ true → i ≡ v
 same_number i v e = grind arith
 
 unheld_head : (sig : PlainSignature) (g : Context) (h : Holding) (x : Head) (a : PlainType) → HeadHasType sig g h x a → (i : ℕ) → Unheld h i → occurs_neutral i (bare x) ≡ false
