@@ -1,6 +1,6 @@
 -- What a refusal says: the part at its path, with its context and the row from which its check starts, and what is wrong there.
 -- All of it is said in the words of the rules: of the types that objects and neutrals have under parts of a row.
-use Rattle.std.specs.Prelude.{ℕ, suc, ◌-◌, ◌<◌, ◌≡◌, Bool, true, false, not, List, [], ◌∷◌, length, Some, None}
+use Rattle.std.specs.Prelude.{ℕ, suc, ◌<◌, ◌≡◌, Bool, true, false, not, List, [], ◌∷◌, length, Some, None}
 use Rattle.std.specs.List.{slice_get}
 use Rattle.clf_syntax.specs.declared.tree.Mode.{Mode}
 use Rattle.clf_syntax.specs.declared.tree.Mode.TheVariants.{Linear}
@@ -14,7 +14,7 @@ use Rattle.use_contexts.specs.Rows.{IsPart, Agrees, allowed}
 use Rattle.clf_sig.specs.Entry.{PlainSignature, constant_type}
 use Rattle.clf_kernel.specs.Typing.{HasType, NeutralHasType}
 use Rattle.clf_kernel.specs.Refusal.{Cause, not_function, not_pair, not_top, not_atomic, not_closed, mode_differs, not_held, unused, pairs_differ, family_differs, unknown_head}
-use Rattle.clf_kernel.specs.Checking.{eliminations}
+use Rattle.clf_kernel.specs.Checking.{level, eliminations}
 
 -- Under some part of the row the object has the type.
 abbrev pub MayHaveType : PlainSignature → Context → Holding → Object → PlainType → Type 0
@@ -30,8 +30,8 @@ pub data CheckedPart : Type 0 where
   neutral_with : PlainNeutral → CheckedPart
 
 mutual
-  -- Reaches sig g h n t path k l x: the object n is checked against the type t, in the context g and from the row h. There x stands
-  -- at the path, in the context k, and is checked from the row l, as the parts before it may have their types.
+  -- Reaches sig g h n t path k l x: where the object n is checked against the type t, in the context g and from the row h, x stands
+  -- at the path, in the context k, and its check starts from the row l. What is checked before it may have its types.
   pub data Reaches : PlainSignature → Context → Holding → Object → PlainType → List ℕ → Context → Holding → CheckedPart → Type 0 where
     -- the object itself
     whole : {sig : PlainSignature} {g : Context} {h : Holding} {n : Object} {t : PlainType} → Reaches sig g h n t [] g h (object_at n t)
@@ -70,6 +70,7 @@ mutual
         → Agrees (modes g) h (Some (left, slack)) (λ p. NeutralHasType sig g p r (function m a c))
         → Reaches sig g (allowed m (modes g) left) n a path k l x → ReachesInNeutral sig g h (app m r n) (eliminations r ∷ path) k l x
 
+-- The type is no function, no pair, no family.
 abbrev pub IsNoFunction : PlainType → Type 0
 IsNoFunction t = (m : Mode) (a c : PlainType) → t ≡ function m a c → ⊥
 
@@ -79,7 +80,7 @@ IsNoPair t = (a c : PlainType) → t ≡ both a c → ⊥
 abbrev pub IsNoFamily : PlainType → Type 0
 IsNoFamily t = (f : ℕ) (ns : List Object) → t ≡ family f ns → ⊥
 
--- The variable i is linear. It is held by all parts of the row under which the one object has its type, and by none under which the other has.
+-- The variable i is linear. One of the objects has its type only under parts of the row that hold it, the other only under parts that do not.
 abbrev pub DiffersAt : PlainSignature → Context → Holding → Object → PlainType → Object → PlainType → ℕ → Type 0
 DiffersAt sig g h l a r c i = (held : Bool) × (slice_get (modes g) i ≡ Some Linear)
     × ((p : Holding) → IsPart (modes g) h p → HasType sig g p l a → slice_get p i ≡ Some held)
@@ -117,8 +118,8 @@ pub data Refuses : PlainSignature → Context → Holding → CheckedPart → Ca
       → MaySynthesize sig g h r (function k a c) → (k ≡ m → ⊥) → Refuses sig g h (neutral_with (app m r n)) (mode_differs k m)
   -- A variable of the context is not held.
   variable_not_held : {sig : PlainSignature} {g : Context} {h : Holding} {i : ℕ} (m : Mode) (a : PlainType)
-      → slice_get g i ≡ Some (m, a) → slice_get h i ≡ Some false → Refuses sig g h (neutral_with (bare (Var i))) (not_held (length g - i))
-  -- The variable of a linear lambda is held by no part under which the body has its type.
+      → slice_get g i ≡ Some (m, a) → slice_get h i ≡ Some false → Refuses sig g h (neutral_with (bare (Var i))) (not_held (level g i))
+  -- A linear lambda's body has its type, but only under parts that do not hold the variable.
   variable_unused : {sig : PlainSignature} {g : Context} {h : Holding} {b : Object} {a c : PlainType}
       → MayHaveType sig ((Linear, a) ∷ g) (true ∷ h) b c
       → ((p : Holding) → IsPart (Linear ∷ modes g) (true ∷ h) p → HasType sig ((Linear, a) ∷ g) p b c → slice_get p 0 ≡ Some false)
@@ -126,7 +127,7 @@ pub data Refuses : PlainSignature → Context → Holding → CheckedPart → Ca
   -- The parts of a pair differ at a variable, and at no newer one.
   parts_differ : {sig : PlainSignature} {g : Context} {h : Holding} {l r : Object} {a c : PlainType} {i : ℕ}
       → MayHaveType sig g h l a → MayHaveType sig g h r c → DiffersAt sig g h l a r c i → ((j : ℕ) → j < i → DiffersAt sig g h l a r c j → ⊥)
-      → Refuses sig g h (object_at (pair l r) (both a c)) (pairs_differ (length g - i))
+      → Refuses sig g h (object_at (pair l r) (both a c)) (pairs_differ (level g i))
   -- The neutral has another family than the wanted one.
   other_family : {sig : PlainSignature} {g : Context} {h : Holding} {r : PlainNeutral} {wanted found : ℕ} {ns : List Object} (os : List Object)
       → MaySynthesize sig g h r (family found os) → (wanted ≡ found → ⊥) → Refuses sig g h (object_at (atomic r) (family wanted ns)) (family_differs found wanted)
@@ -134,7 +135,7 @@ pub data Refuses : PlainSignature → Context → Holding → CheckedPart → Ca
   no_variable : {sig : PlainSignature} {g : Context} {h : Holding} {i : ℕ} → slice_get g i ≡ None → Refuses sig g h (neutral_with (bare (Var i))) (unknown_head (Var i))
   no_constant : {sig : PlainSignature} {g : Context} {h : Holding} {k : ℕ} → constant_type sig k ≡ None → Refuses sig g h (neutral_with (bare (Const k))) (unknown_head (Const k))
 
--- At the path of a refusal stands a part that is refused for its cause.
+-- At the path stands a part that is refused for the cause.
 abbrev pub ExplainedAt : PlainSignature → Context → Holding → Object → PlainType → List ℕ → Cause → Type 0
 ExplainedAt sig g h n t path why = (k : Context) × (l : Holding) × (x : CheckedPart) × Reaches sig g h n t path k l x × Refuses sig k l x why
 
