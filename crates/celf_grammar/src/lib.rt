@@ -1,0 +1,2 @@
+//! The grammar of the whole language, as relations between what is left of a text and the tree of what was read.
+#![tactic(auto)]
