@@ -4,3 +4,4 @@ pub use Rattle.celf_lexer.specs.Tokens
 pub use Rattle.celf_surface.specs.Surface
 pub mod State
 pub mod Grammar
+pub mod Machine

@@ -1,0 +1,4 @@
+pub mod Runs
+pub mod TokenRuns
+pub mod ObjectRuns
+pub mod TypeRuns
