@@ -2,3 +2,5 @@ pub mod Runs
 pub mod TokenRuns
 pub mod ObjectRuns
 pub mod TypeRuns
+pub mod Begins
+pub mod Accepts
