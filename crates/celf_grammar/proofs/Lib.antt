@@ -4,3 +4,4 @@ pub mod ObjectRuns
 pub mod TypeRuns
 pub mod Begins
 pub mod Accepts
+pub mod Derives
