@@ -471,7 +471,7 @@ same_state : (s u : State) → accepted s ≡ accepted u → s ≡ u
 unfolding state_of
 same_state s u e = ap (state_of s) e
 
-abbrev is_accepted : Verdict → Bool
+abbrev pub is_accepted : Verdict → Bool
 is_accepted (accepted u) = true
 is_accepted _ = false
 

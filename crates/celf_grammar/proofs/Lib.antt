@@ -5,3 +5,4 @@ pub mod TypeRuns
 pub mod Begins
 pub mod Accepts
 pub mod Derives
+pub mod Lift

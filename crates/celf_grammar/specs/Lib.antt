@@ -5,3 +5,4 @@ pub use Rattle.celf_surface.specs.Surface
 pub mod State
 pub mod Grammar
 pub mod Machine
+pub mod Faults
