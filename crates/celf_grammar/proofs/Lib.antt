@@ -6,3 +6,5 @@ pub mod Begins
 pub mod Accepts
 pub mod Derives
 pub mod Lift
+pub mod Passes
+pub mod Finishes
