@@ -6,12 +6,12 @@ use Rattle.std.proofs.lemmas.Bool.{true≢false, and_parts, and_from, not-true}
 use Rattle.celf_lexer.specs.declared.token.TokenKind.{TokenKind}
 use Rattle.celf_lexer.specs.declared.token.TokenKind.TheVariants as token
 use Rattle.celf_lexer.specs.Tokens.{Lexeme}
-use Rattle.celf_grammar.specs.State.{State, next_kind}
+use Rattle.celf_grammar.specs.State.{State, next_kind, Takes, Closes}
 use Rattle.celf_grammar.specs.Grammar.{is_comma, is_mark, is_let, is_left_bracket, is_amp, is_star, is_forward, is_backward, begins_argument, begins_index, mark_none, implicit_none}
 use Rattle.celf_grammar.specs.Faults.{opens_part}
 use Rattle.celf_grammar.specs.Machine.{Symbol, Expect, Close, Restore, NameWord, NumberWord, Mark, Binder, Pattern, PatternTail, Object, Application, Arguments, Atom, Expression, LetPattern, Tuple, TupleTail, Index, Indices, FamilyName, Whole, BackTail, Forward, ForwardTail, Sync, StarTail, Factor, With, AmpTail, TypeAtom, Bound, Implicit, Body, Item, same_kind, is_one, is_bang, is_pi, is_exists, Fed, next, done, stops, deep, opens, on_token, on_name, on_binder, on_pattern, on_atom, on_object, on_argument, on_tuple, on_expression, on_let_pattern, on_index, on_family_name, on_type_atom, on_type_atom_kind, on_with, on_factor, on_sync, on_forward, on_type, on_bound, on_directive, on_body, feed, Verdict, runs}
 use Rattle.celf_grammar.proofs.Runs.{same_kind-refl}
-use Rattle.celf_grammar.proofs.TokenRuns.{restore-run, mark-run, pattern_tail-ends}
+use Rattle.celf_grammar.proofs.TokenRuns.{expect-run, close-run, restore-run, mark-run, pattern_tail-ends}
 use Rattle.celf_grammar.proofs.ObjectRuns.{arguments-end, tuple_tail-ends, indices-end}
 use Rattle.celf_grammar.proofs.TypeRuns.{amp-ends, star-ends, arrow-ends, back-ends, implicit-none}
 use Rattle.celf_grammar.proofs.Derives.{is_accepted}
@@ -290,3 +290,132 @@ feed-well (Implicit ∷ k) room t h = let w = rest-well Implicit k h in if-sound
     (λ e. next-sound t.kind room (NumberWord ∷ Expect token.RightBracket ∷ k) w) (λ e. feed-well k room t w)
 feed-well (Body ∷ k) room t h = body-sound t.kind t.spelling room k h
 feed-well (Item ∷ k) room t h = body-sound t.kind t.spelling room (Expect token.Stop ∷ k) h
+
+pub feed-sound : (k : List Symbol) (room : ℕ) (t : Lexeme) → well_or_let k ≡ true → Sound t.kind (feed k room t)
+feed-sound (LetPattern ∷ k) room t h = let_pattern-sound t.kind room k h
+feed-sound k room t h = feed-well k room t h
+
+-- the quiet tokens
+
+no-argument : (c : TokenKind) → quiet c ≡ true → begins_argument c ≡ false
+no-argument token.Amp h = refl
+no-argument token.Star h = refl
+no-argument token.Arrow h = refl
+no-argument token.Lolli h = refl
+no-argument token.Affine h = refl
+no-argument token.BackArrow h = refl
+no-argument token.BackLolli h = refl
+no-argument c h = not-true (begins_argument c) h
+
+no-index : (c : TokenKind) → begins_argument c ≡ false → begins_index c ≡ false
+no-index token.Bang h = h
+no-index token.AtSign h = refl
+no-index _ h = h
+
+no-amp : (c : TokenKind) → quiet c ≡ true → is_amp c ≡ false
+no-amp token.Amp h = sym h
+no-amp _ h = refl
+
+no-star : (c : TokenKind) → quiet c ≡ true → is_star c ≡ false
+no-star token.Star h = sym h
+no-star _ h = refl
+
+no-forward : (c : TokenKind) → quiet c ≡ true → is_forward c ≡ false
+no-forward token.Arrow h = sym h
+no-forward token.Lolli h = sym h
+no-forward token.Affine h = sym h
+no-forward _ h = refl
+
+no-backward : (c : TokenKind) → quiet c ≡ true → is_backward c ≡ false
+no-backward token.BackArrow h = sym h
+no-backward token.BackLolli h = sym h
+no-backward _ h = refl
+
+abbrev pub at : List Lexeme → ℕ → ℕ → State
+at ts room end = record { rest = ts; room = room; end = end }
+
+skip : {v w : Verdict} → v ≡ w → is_accepted w ≡ true → is_accepted v ≡ true
+skip e h = ap is_accepted e ∙ h
+
+-- The tails of a type end before a quiet token.
+module _ (ts : List Lexeme) (room end : ℕ) (q : quiet (next_kind ts) ≡ true) where
+  with-ends : (k : List Symbol) → runs (AmpTail ∷ k) (at ts room end) ≡ runs k (at ts room end)
+  with-ends k = amp-ends (at ts room end) k (no-amp (next_kind ts) q)
+
+  sync-ends : (k : List Symbol) → runs (AmpTail ∷ StarTail ∷ k) (at ts room end) ≡ runs k (at ts room end)
+  sync-ends k = with-ends (StarTail ∷ k) ∙ star-ends (at ts room end) k (no-star (next_kind ts) q)
+
+  forward-ends : (k : List Symbol) → runs (AmpTail ∷ StarTail ∷ ForwardTail ∷ k) (at ts room end) ≡ runs k (at ts room end)
+  forward-ends k = sync-ends (ForwardTail ∷ k) ∙ arrow-ends (at ts room end) k (no-forward (next_kind ts) q)
+
+  type-ends : (k : List Symbol) → runs (AmpTail ∷ StarTail ∷ ForwardTail ∷ BackTail ∷ k) (at ts room end) ≡ runs k (at ts room end)
+  type-ends k = forward-ends (BackTail ∷ k) ∙ back-ends (at ts room end) k (no-backward (next_kind ts) q)
+
+  object-ends : (k : List Symbol) → runs (Arguments ∷ k) (at ts room end) ≡ runs k (at ts room end)
+  object-ends k = arguments-end (at ts room end) k (no-argument (next_kind ts) q)
+
+  family-ends : (k : List Symbol) → runs (Indices ∷ k) (at ts room end) ≡ runs k (at ts room end)
+  family-ends k = indices-end (at ts room end) k (no-index (next_kind ts) (no-argument (next_kind ts) q))
+
+expected : (c : TokenKind) (ts : List Lexeme) (room end : ℕ) → Takes c (at (of_kind c ∷ ts) room end) (at ts room 0)
+expected c ts room end = record { token = of_kind c; taken = record { first = refl; room = refl; behind = refl }; kind = refl }
+
+closed : (c : TokenKind) (before : ℕ) (ts : List Lexeme) (room end : ℕ) → Closes c before (at (of_kind c ∷ ts) room end) (at ts before 0)
+closed c before ts room end = record { token = of_kind c; taken = record { first = refl; room = refl; behind = refl }; kind = refl }
+
+-- the first of a list of symbols before what comes next
+may : (x : Symbol) (k : List Symbol) → well (x ∷ k) ≡ true → may_precede x (next_kind (finish k)) ≡ true
+may x k h = (and_parts (may_precede x (next_kind (finish k))) (well k) h).0
+
+pub finished : (k : List Symbol) (room end : ℕ) → well k ≡ true → is_accepted (runs k (at (finish k) room end)) ≡ true
+unfolding runs
+finished [] room end h = refl
+finished (Expect c ∷ k) room end h = skip (expect-run (expected c (finish k) room end) k) (finished k room 0 h)
+finished (Close c before ∷ k) room end h = skip (close-run (closed c before (finish k) room end) k) (finished k before 0 h)
+finished (Restore before ∷ k) room end h =
+    skip (restore-run (record { rest = refl; room = refl; end = refl }) k) (finished k before end h)
+finished (NameWord ∷ k) room end h = finished k room 0 h
+finished (NumberWord ∷ k) room end h = finished k room 0 h
+finished (Mark ∷ k) room end h =
+    skip (mark-run (mark_none (not-true (is_mark (next_kind (finish k))) (may Mark k h))) k) (finished k room end (rest-well Mark k h))
+finished (Binder ∷ k) room end h = finished k room 0 h
+finished (Pattern ∷ k) room end h = finished k room 0 h
+finished (PatternTail ∷ k) room end h =
+    skip (pattern_tail-ends (at (finish k) room end) k (not-true (is_comma (next_kind (finish k))) (may PatternTail k h))) (finished k room end (rest-well PatternTail k h))
+finished (Object ∷ k) room end h = skip (object-ends (finish k) room 0 (may Object k h) k) (finished k room 0 (rest-well Object k h))
+finished (Application ∷ k) room end h = skip (object-ends (finish k) room 0 (may Object k h) k) (finished k room 0 (rest-well Object k h))
+finished (Arguments ∷ k) room end h = skip (object-ends (finish k) room end (may Object k h) k) (finished k room end (rest-well Object k h))
+finished (Atom ∷ k) room end h = finished k room 0 h
+finished (Expression ∷ k) room end h = skip (object-ends (finish k) room 0 (may Object k h) k) (finished k room 0 (rest-well Object k h))
+finished (LetPattern ∷ k) room end h = absurd (true≢false (sym h))
+finished (Tuple ∷ k) room end h = skip (object-ends (finish k) room 0 (may Object k h) k) (finished k room 0 (rest-well Object k h))
+finished (TupleTail ∷ k) room end h =
+    let c = next_kind (finish k) in let p = and_parts (not (is_comma c)) (quiet c) (may TupleTail k h) in
+    skip (tuple_tail-ends (at (finish k) room end) k (not-true (is_comma c) p.0)) (finished k room end (rest-well TupleTail k h))
+finished (Index ∷ k) room end h = finished k room 0 h
+finished (Indices ∷ k) room end h = skip (family-ends (finish k) room end (may Indices k h) k) (finished k room end (rest-well Indices k h))
+finished (FamilyName ∷ k) room end h = finished k room 0 h
+finished (Whole ∷ k) room end h = skip (type-ends (finish k) room 0 (may Whole k h) k) (finished k room 0 (rest-well Whole k h))
+finished (BackTail ∷ k) room end h =
+    skip (back-ends (at (finish k) room end) k (no-backward (next_kind (finish k)) (may BackTail k h))) (finished k room end (rest-well BackTail k h))
+finished (Forward ∷ k) room end h = skip (forward-ends (finish k) room 0 (may Whole k h) k) (finished k room 0 (rest-well Whole k h))
+finished (ForwardTail ∷ k) room end h =
+    skip (arrow-ends (at (finish k) room end) k (no-forward (next_kind (finish k)) (may BackTail k h))) (finished k room end (rest-well BackTail k h))
+finished (Sync ∷ k) room end h = skip (sync-ends (finish k) room 0 (may Whole k h) k) (finished k room 0 (rest-well Whole k h))
+finished (StarTail ∷ k) room end h =
+    skip (star-ends (at (finish k) room end) k (no-star (next_kind (finish k)) (may BackTail k h))) (finished k room end (rest-well BackTail k h))
+finished (Factor ∷ k) room end h = skip (with-ends (finish k) room 0 (may Whole k h) k) (finished k room 0 (rest-well Whole k h))
+finished (With ∷ k) room end h = skip (with-ends (finish k) room 0 (may Whole k h) k) (finished k room 0 (rest-well Whole k h))
+finished (AmpTail ∷ k) room end h = skip (with-ends (finish k) room end (may Whole k h) k) (finished k room end (rest-well Whole k h))
+finished (TypeAtom ∷ k) room end h = finished k room 0 (rest-well Whole k h)
+finished (Bound ∷ k) room end h = finished k room 0 h
+finished (Implicit ∷ k) room end h =
+    skip (implicit-none (at (finish k) room end) k (not-true (is_left_bracket (next_kind (finish k))) (may Implicit k h))) (finished k room end (rest-well Implicit k h))
+finished (Body ∷ k) room end h = skip (type-ends (finish k) room 0 (may Whole k h) k) (finished k room 0 (rest-well Whole k h))
+finished (Item ∷ k) room end h = finished k room 0 h
+
+-- Behind let, there must be room for one part.
+pub finished-within : (k : List Symbol) (room end : ℕ) → well_or_let k ≡ true → is_accepted (runs k (at (finish k) (suc room) end)) ≡ true
+unfolding runs
+finished-within (LetPattern ∷ k) room end h = finished k (suc room) 0 h
+finished-within k room end h = finished k (suc room) end h

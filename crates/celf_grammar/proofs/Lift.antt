@@ -156,20 +156,22 @@ feed-lifts (Implicit ∷ k) room t = if-lifts (is_left_bracket t.kind) _ _ _ _ r
 feed-lifts (Body ∷ k) room t = body-lifts t.kind t.spelling room k
 feed-lifts (Item ∷ k) room t = body-lifts t.kind t.spelling room (Expect token.Stop ∷ k)
 
-end-lifts : (k : List Symbol) (room end : ℕ) → is_accepted (at_end k room end) ≡ true → is_accepted (at_end (lift k) (suc room) end) ≡ true
-end-lifts [] room end e = refl
-end-lifts (Restore before ∷ k) room end e = end-lifts k before end e
-end-lifts (Mark ∷ k) room end e = end-lifts k room end e
-end-lifts (PatternTail ∷ k) room end e = end-lifts k room end e
-end-lifts (Arguments ∷ k) room end e = end-lifts k room end e
-end-lifts (TupleTail ∷ k) room end e = end-lifts k room end e
-end-lifts (Indices ∷ k) room end e = end-lifts k room end e
-end-lifts (BackTail ∷ k) room end e = end-lifts k room end e
-end-lifts (ForwardTail ∷ k) room end e = end-lifts k room end e
-end-lifts (StarTail ∷ k) room end e = end-lifts k room end e
-end-lifts (AmpTail ∷ k) room end e = end-lifts k room end e
-end-lifts (Implicit ∷ k) room end e = end-lifts k room end e
-end-lifts (x ∷ k) room end e = absurd (true≢false (sym e))
+-- Whether nothing must be read any more does not depend on room and place.
+pub end-same : (k : List Symbol) (room end r e : ℕ) → is_accepted (at_end (lift k) r e) ≡ is_accepted (at_end k room end)
+end-same [] room end r e = refl
+end-same (Restore before ∷ k) room end r e = end-same k before end (suc before) e
+end-same (Mark ∷ k) room end r e = end-same k room end r e
+end-same (PatternTail ∷ k) room end r e = end-same k room end r e
+end-same (Arguments ∷ k) room end r e = end-same k room end r e
+end-same (TupleTail ∷ k) room end r e = end-same k room end r e
+end-same (Indices ∷ k) room end r e = end-same k room end r e
+end-same (BackTail ∷ k) room end r e = end-same k room end r e
+end-same (ForwardTail ∷ k) room end r e = end-same k room end r e
+end-same (StarTail ∷ k) room end r e = end-same k room end r e
+end-same (AmpTail ∷ k) room end r e = end-same k room end r e
+end-same (Implicit ∷ k) room end r e = end-same k room end r e
+end-same (Close c before ∷ k) room end r e = refl
+end-same (x ∷ k) room end r e = refl
 
 fed-lifts : (t : Lexeme) (ts : List Lexeme) (end : ℕ)
     → ((k : List Symbol) (room e : ℕ) → is_accepted (runs_on ts k room e) ≡ true → is_accepted (runs_on ts (lift k) (suc room) e) ≡ true)
@@ -181,5 +183,5 @@ fed-lifts t ts end go deep g l e = absurd (true≢false (sym e))
 
 -- What is accepted is accepted where there is more room.
 pub run-lifts : (ts : List Lexeme) (k : List Symbol) (room end : ℕ) → is_accepted (runs_on ts k room end) ≡ true → is_accepted (runs_on ts (lift k) (suc room) end) ≡ true
-run-lifts [] k room end e = end-lifts k room end e
+run-lifts [] k room end e = end-same k room end (suc room) end ∙ e
 run-lifts (t ∷ ts) k room end e = fed-lifts t ts end (λ j r d h. run-lifts ts j r d h) (feed k room t) (feed (lift k) (suc room) t) (feed-lifts k room t) e
