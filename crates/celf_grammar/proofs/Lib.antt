@@ -8,3 +8,4 @@ pub mod Derives
 pub mod Lift
 pub mod Passes
 pub mod Finishes
+pub mod Verdicts
