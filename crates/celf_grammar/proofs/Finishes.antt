@@ -1,5 +1,5 @@
 -- What the machine still has to read can be finished, without a part that is opened.
-use Rattle.std.proofs.Common.{◌≡◌, ◌+◌, ℕ, zero, suc, List, [], ◌∷◌, ◌++◌, Bool, true, false, not, length, codes, refl, sym, ap, ◌∙◌}
+use Rattle.std.proofs.Common.{◌≡◌, ℕ, zero, suc, List, [], ◌∷◌, ◌++◌, Bool, true, false, not, codes, refl, sym, ap, ◌∙◌}
 use Rattle.std.specs.Prelude.{if◌then◌else◌, ◌&&◌}
 use Rattle.std.specs.Str.{bytes_eq}
 use Rattle.std.proofs.lemmas.Bool.{true≢false, and_parts, and_from, not-true}
@@ -7,10 +7,9 @@ use Rattle.celf_lexer.specs.declared.token.TokenKind.{TokenKind}
 use Rattle.celf_lexer.specs.declared.token.TokenKind.TheVariants as token
 use Rattle.celf_lexer.specs.Tokens.{Lexeme}
 use Rattle.celf_grammar.specs.State.{State, next_kind, Takes, Closes}
-use Rattle.celf_grammar.specs.Grammar.{is_comma, is_mark, is_let, is_left_bracket, is_amp, is_star, is_forward, is_backward, begins_argument, begins_index, mark_none, implicit_none}
+use Rattle.celf_grammar.specs.Grammar.{is_comma, is_mark, is_let, is_left_bracket, is_amp, is_star, is_forward, is_backward, begins_argument, begins_index, mark_none}
 use Rattle.celf_grammar.specs.Faults.{opens_part}
-use Rattle.celf_grammar.specs.Machine.{Symbol, Expect, Close, Restore, NameWord, NumberWord, Mark, Binder, Pattern, PatternTail, Object, Application, Arguments, Atom, Expression, LetPattern, Tuple, TupleTail, Index, Indices, FamilyName, Whole, BackTail, Forward, ForwardTail, Sync, StarTail, Factor, With, AmpTail, TypeAtom, Bound, Implicit, Body, Item, same_kind, is_one, is_bang, is_pi, is_exists, Fed, next, done, stops, deep, opens, on_token, on_name, on_binder, on_pattern, on_atom, on_object, on_argument, on_tuple, on_expression, on_let_pattern, on_index, on_family_name, on_type_atom, on_type_atom_kind, on_with, on_factor, on_sync, on_forward, on_type, on_bound, on_directive, on_body, feed, Verdict, runs}
-use Rattle.celf_grammar.proofs.Runs.{same_kind-refl}
+use Rattle.celf_grammar.specs.Machine.{Symbol, Expect, Close, Restore, NameWord, NumberWord, Mark, Binder, Pattern, PatternTail, Object, Application, Arguments, Atom, Expression, LetPattern, Tuple, TupleTail, Index, Indices, FamilyName, Whole, BackTail, Forward, ForwardTail, Sync, StarTail, Factor, With, AmpTail, TypeAtom, Bound, Implicit, Body, Item, same_kind, is_one, is_bang, is_pi, is_exists, Fed, next, done, stops, deep, opens, on_token, on_name, on_binder, on_pattern, on_atom, on_object, on_argument, on_tuple, on_expression, on_let_pattern, on_index, on_family_name, on_type_atom, on_type_atom_kind, on_factor, on_sync, on_forward, on_bound, on_directive, on_body, feed, Verdict, runs}
 use Rattle.celf_grammar.proofs.TokenRuns.{expect-run, close-run, restore-run, mark-run, pattern_tail-ends}
 use Rattle.celf_grammar.proofs.ObjectRuns.{arguments-end, tuple_tail-ends, indices-end}
 use Rattle.celf_grammar.proofs.TypeRuns.{amp-ends, star-ends, arrow-ends, back-ends, implicit-none}
@@ -133,7 +132,7 @@ bracket-opens _ h = absurd (true≢false (sym h))
 pattern-sound : (t : Lexeme) (room : ℕ) (k : List Symbol) → well k ≡ true → Sound t.kind (on_pattern t room k)
 pattern-sound t room k h = if-sound t.kind (is_one t) _ _ (λ e. next-sound t.kind room k h)
     (λ e. if-sound t.kind (is_left_bracket t.kind) _ _ (λ b. opens-sound t.kind room _ (bracket-opens t.kind b) h)
-        (λ b. if-sound t.kind (is_mark t.kind) _ _ (λ m. next-sound t.kind room (Binder ∷ k) h) (λ m. binder-sound t.kind room k h)))
+    (λ b. if-sound t.kind (is_mark t.kind) _ _ (λ m. next-sound t.kind room (Binder ∷ k) h) (λ m. binder-sound t.kind room k h)))
 
 atom-sound : (c : TokenKind) (room : ℕ) (k : List Symbol) → well k ≡ true → Sound c (on_atom c room k)
 atom-sound (token.Name b) room k h = next-sound (token.Name b) room k h
@@ -161,7 +160,7 @@ rest-well x k h = (and_parts (may_precede x (next_kind (finish k))) (well k) h).
 tuple-sound : (t : Lexeme) (room : ℕ) (k : List Symbol) → well (Tuple ∷ k) ≡ true → Sound t.kind (on_tuple t room k)
 tuple-sound t room k h = let w = rest-well Tuple k h in if-sound t.kind (is_one t) _ _ (λ e. next-sound t.kind room k w)
     (λ e. if-sound t.kind (is_left_bracket t.kind) _ _ (λ b. opens-sound t.kind room _ (bracket-opens t.kind b) w)
-        (λ b. if-sound t.kind (is_mark t.kind) _ _ (λ m. next-sound t.kind room (Atom ∷ k) w) (λ m. object-sound t.kind room k h)))
+    (λ b. if-sound t.kind (is_mark t.kind) _ _ (λ m. next-sound t.kind room (Atom ∷ k) w) (λ m. object-sound t.kind room k h)))
 
 expression-sound : (t : Lexeme) (room : ℕ) (k : List Symbol) → well (Expression ∷ k) ≡ true → Sound t.kind (on_expression t room k)
 expression-sound t room k h = if-sound t.kind (is_let t.kind) _ _ (λ e. (h, λ n. absurd (true≢false (sym e ∙ n)))) (λ e. tuple-sound t room k h)
@@ -217,8 +216,8 @@ bound-sound _ room k h = tt
 directive-sound : (c : TokenKind) (w : List ℕ) (room : ℕ) (k : List Symbol) → well (Body ∷ k) ≡ true → Sound c (on_directive w room k)
 directive-sound c w room k h = if-sound c (bytes_eq w (codes "#query")) _ _ (λ e. next-sound c room (Bound ∷ Bound ∷ Bound ∷ Bound ∷ Whole ∷ k) h)
     (λ e. if-sound c (bytes_eq w (codes "#trace")) _ _ (λ e. next-sound c room (Bound ∷ Whole ∷ k) h)
-        (λ e. if-sound c (bytes_eq w (codes "#equal")) _ _ (λ e. next-sound c room (Object ∷ Expect token.Equals ∷ Object ∷ Expect token.Colon ∷ Whole ∷ k) h)
-            (λ e. if-sound c (bytes_eq w (codes "#check")) _ _ (λ e. next-sound c room (Object ∷ Expect token.Colon ∷ Whole ∷ k) h) (λ e. tt))))
+    (λ e. if-sound c (bytes_eq w (codes "#equal")) _ _ (λ e. next-sound c room (Object ∷ Expect token.Equals ∷ Object ∷ Expect token.Colon ∷ Whole ∷ k) h)
+    (λ e. if-sound c (bytes_eq w (codes "#check")) _ _ (λ e. next-sound c room (Object ∷ Expect token.Colon ∷ Whole ∷ k) h) (λ e. tt))))
 
 body-sound : (c : TokenKind) (w : List ℕ) (room : ℕ) (k : List Symbol) → well (Body ∷ k) ≡ true → Sound c (on_body c w room k)
 body-sound (token.Name b) w room k h = next-sound (token.Name b) room (Expect token.Colon ∷ Implicit ∷ Whole ∷ k) h

@@ -1,5 +1,5 @@
 -- Tokens that a run takes one after another.
-use Rattle.std.proofs.Common.{◌≡◌, ◌+◌, ℕ, suc, List, [], ◌∷◌, ◌++◌, Bool, true, false, length, refl, sym, ap, ◌∙◌, subst}
+use Rattle.std.proofs.Common.{◌≡◌, ◌+◌, ℕ, suc, List, [], ◌∷◌, ◌++◌, Bool, true, false, length, refl, ap, ◌∙◌, subst}
 use Rattle.std.proofs.lemmas.Bool.{true≢false}
 use Rattle.celf_lexer.specs.Tokens.{Lexeme}
 use Rattle.celf_grammar.specs.Machine.{Symbol, Restore, Mark, PatternTail, Arguments, TupleTail, Indices, BackTail, ForwardTail, StarTail, AmpTail, Implicit, Fed, next, done, stops, deep, feed, Verdict, accepted, unexpected, too_deep, lacking, at_end, after_token, runs_on}

@@ -1,5 +1,6 @@
 -- The verdict of the machine is true.
-use Rattle.std.proofs.Common.{◌≡◌, ◌+◌, ℕ, zero, suc, List, [], ◌∷◌, ◌++◌, Bool, true, false, length, refl, sym, ap, ◌∙◌, subst, arith}
+use Rattle.std.proofs.Common.{◌≡◌, ◌+◌, ℕ, zero, suc, List, [], ◌∷◌, ◌++◌, true, false, refl, sym, ap, ◌∙◌, subst, arith, inl, inr}
+use Rattle.std.specs.Prelude.{◌⊎◌}
 use Rattle.std.proofs.lemmas.Bool.{true≢false}
 use Rattle.std.proofs.lemmas.List.{append_assoc, append-nil}
 use Rattle.celf_lexer.specs.declared.token.TokenKind.{TokenKind}
@@ -8,8 +9,8 @@ use Rattle.celf_lexer.specs.Tokens.{Lexeme}
 use Rattle.celf_surface.specs.Surface.{PlainItem}
 use Rattle.celf_grammar.specs.State.{State}
 use Rattle.celf_grammar.specs.Grammar.{is_let, IsItem}
-use Rattle.celf_grammar.specs.Machine.{Symbol, Item, Fed, next, stops, deep, feed, Verdict, accepted, unexpected, too_deep, lacking, at_end, after_token, runs_on, runs}
-use Rattle.celf_grammar.specs.Faults.{HasItem, BeginsItem, opens_part, StaysWithin, IsUnexpected, IsTooDeep, IsLacking, Says, VerdictIsTrue, ItemIsAccepted, BehindIsOne}
+use Rattle.celf_grammar.specs.Machine.{Symbol, Item, stops, deep, feed, Verdict, accepted, unexpected, too_deep, lacking, at_end, after_token, runs_on, runs}
+use Rattle.celf_grammar.specs.Faults.{HasItem, BeginsItem, opens_part, StaysWithin, IsUnexpected, IsTooDeep, IsLacking, Says, VerdictIsTrue, VerdictIsOnly, BehindIsOne}
 use Rattle.celf_grammar.proofs.Runs.{runs-empty}
 use Rattle.celf_grammar.proofs.Accepts.{item-accepts}
 use Rattle.celf_grammar.proofs.Derives.{is_accepted, same_state, item-derives}
@@ -17,7 +18,8 @@ use Rattle.celf_grammar.proofs.Lift.{lift, Lifted, feed-lifts, run-lifts, end-sa
 use Rattle.celf_grammar.proofs.Passes.{Passes, passes-run, passes-lift, passes-push, passes-front, Comes, run-comes}
 use Rattle.celf_grammar.proofs.Finishes.{finish, well, well_or_let, Sound, feed-sound, finished, finished-within, at}
 
-pub item-accepted : ItemIsAccepted
+-- Where an item stands, the machine accepts it, with what is left behind it.
+pub item-accepted : (s u : State) (i : PlainItem) → IsItem s i u → runs (Item ∷ []) s ≡ accepted u
 item-accepted s u i h = item-accepts h [] ∙ runs-empty u
 
 pub behind-one : BehindIsOne
@@ -112,7 +114,7 @@ unexpected-true ts t room k n p s = record { within = stays-within ts room k n p
     none r b =
         let q = stops-much r room (r + room) ts t k n refl p s in
         stops-none ts t b.0 (r + room) q.0 q.1 q.2 q.3
-            (subst (HasItem (r + room)) (append_assoc ts (t ∷ []) b.0) (has-much room r (r + room) ((ts ++ (t ∷ [])) ++ b.0) (omega arith) b.1))
+        (subst (HasItem (r + room)) (append_assoc ts (t ∷ []) b.0) (has-much room r (r + room) ((ts ++ (t ∷ [])) ++ b.0) (omega arith) b.1))
 
 deep-opens : (ts : List Lexeme) (t : Lexeme) (room : ℕ) (k : List Symbol) (n : ℕ) → Passes ts (Item ∷ []) room k n → feed k n t ≡ deep → opens_part t.kind ≡ true
 deep-opens ts t room k n p s = subst (Sound t.kind) s (feed-sound k n t (either-well ts (Item ∷ []) room k n p refl))
@@ -122,8 +124,10 @@ too_deep-true ts t room k n p s = record { within = stays-within ts room k n p; 
   where
     opening : opens_part t.kind ≡ true
     opening = deep-opens ts t room k n p s
+
     none : BeginsItem room (ts ++ (t ∷ [])) → ⊥
     none b = deep-none ts t b.0 room k n p s (subst (HasItem room) (append_assoc ts (t ∷ []) b.0) b.1)
+
     more : BeginsItem (suc room) (ts ++ (t ∷ []))
     more =
         let l = subst (λ f. Lifted f (feed (lift k) (suc n) t)) s (feed-lifts k n t) in
@@ -160,4 +164,95 @@ pub verdict-true : VerdictIsTrue
 unfolding runs
 verdict-true s = verdict-says s (runs (Item ∷ []) s) refl (run-comes s.rest (Item ∷ []) s.room s.end)
 
-pub ruleset verdict_laws = (verdict-true, item-accepted, behind-one)
+-- Two places in one list: they are the same, or one stands before the other.
+
+abbrev Places : List Lexeme → Lexeme → List Lexeme → Lexeme → Type 0
+Places a x c y = ((a ≡ c) × (x ≡ y)) ⊎ ((mid : List Lexeme) × (c ≡ a ++ (x ∷ mid))) ⊎ ((mid : List Lexeme) × (a ≡ c ++ (y ∷ mid)))
+
+first_or : Lexeme → List Lexeme → Lexeme
+first_or d [] = d
+first_or d (x ∷ xs) = x
+
+rest_of : List Lexeme → List Lexeme
+rest_of [] = []
+rest_of (x ∷ xs) = xs
+
+same-first : (x y : Lexeme) (xs ys : List Lexeme) → x ∷ xs ≡ y ∷ ys → x ≡ y
+unfolding first_or
+same-first x y xs ys e = ap (first_or x) e
+
+same-rest : (x y : Lexeme) (xs ys : List Lexeme) → x ∷ xs ≡ y ∷ ys → xs ≡ ys
+unfolding rest_of
+same-rest x y xs ys e = ap rest_of e
+
+push-places : (z w : Lexeme) (a : List Lexeme) (x : Lexeme) (c : List Lexeme) (y : Lexeme) → z ≡ w → Places a x c y → Places (z ∷ a) x (w ∷ c) y
+push-places z w a x c y e (inl p) = inl (ap (λ l. z ∷ l) p.0 ∙ ap (λ v. v ∷ c) e, p.1)
+push-places z w a x c y e (inr (inl p)) = inr (inl (p.0, sym (ap (λ v. v ∷ c) e) ∙ ap (λ l. z ∷ l) p.1))
+push-places z w a x c y e (inr (inr p)) = inr (inr (p.0, ap (λ v. v ∷ a) e ∙ ap (λ l. w ∷ l) p.1))
+
+places : (a : List Lexeme) (x : Lexeme) (b c : List Lexeme) (y : Lexeme) (d : List Lexeme) → a ++ (x ∷ b) ≡ c ++ (y ∷ d) → Places a x c y
+places [] x b [] y d e = inl (refl, same-first x y b d e)
+places [] x b (w ∷ c) y d e = inr (inl (c, ap (λ v. v ∷ c) (sym (same-first x w b (c ++ (y ∷ d)) e))))
+places (z ∷ a) x b [] y d e = inr (inr (a, ap (λ v. v ∷ a) (same-first z y (a ++ (x ∷ b)) d e)))
+places (z ∷ a) x b (w ∷ c) y d e =
+    push-places z w a x c y (same-first z w (a ++ (x ∷ b)) (c ++ (y ∷ d)) e) (places a x b c y d (same-rest z w (a ++ (x ∷ b)) (c ++ (y ∷ d)) e))
+
+-- What begins with tokens begins with the first of them.
+
+cut : (front : List Lexeme) (t : Lexeme) (back more : List Lexeme) → (front ++ (t ∷ back)) ++ more ≡ (front ++ (t ∷ [])) ++ (back ++ more)
+cut front t back more = append_assoc front (t ∷ back) more ∙ sym (append_assoc front (t ∷ []) (back ++ more))
+
+begins-front : (r : ℕ) (front : List Lexeme) (t : Lexeme) (back : List Lexeme) → BeginsItem r (front ++ (t ∷ back)) → BeginsItem r (front ++ (t ∷ []))
+begins-front r front t back b = (back ++ b.0, subst (HasItem r) (cut front t back b.0) b.1)
+
+begins-part : (r : ℕ) (ts front : List Lexeme) (t : Lexeme) (back : List Lexeme) → ts ≡ front ++ (t ∷ back) → BeginsItem r ts → BeginsItem r (front ++ (t ∷ []))
+begins-part r ts front t back e b = begins-front r front t back (subst (BeginsItem r) e b)
+
+has-part : (r : ℕ) (ts front : List Lexeme) (t : Lexeme) (back : List Lexeme) → ts ≡ front ++ (t ∷ back) → HasItem r ts → BeginsItem r (front ++ (t ∷ []))
+has-part r ts front t back e h = begins-part r ts front t back e ([], subst (HasItem r) (sym (append-nil ts)) h)
+
+-- the tokens before a later one begin what those with it begin
+begins-before : (r : ℕ) (ts : List Lexeme) (t : Lexeme) → BeginsItem r (ts ++ (t ∷ [])) → BeginsItem r ts
+begins-before r ts t b = ((t ∷ []) ++ b.0, subst (HasItem r) (append_assoc ts (t ∷ []) b.0) b.1)
+
+-- Two faults of the same tokens are one.
+
+two-unexpected : (room : ℕ) (a : List Lexeme) (x : Lexeme) (c : List Lexeme) (y : Lexeme) → IsUnexpected room a x → IsUnexpected room c y → Places a x c y → x ≡ y
+two-unexpected room a x c y h g (inl p) = p.1
+two-unexpected room a x c y h g (inr (inl p)) = absurd (h.ends g.begins.0 (begins-part g.begins.0 c a x p.0 p.1 g.begins.1))
+two-unexpected room a x c y h g (inr (inr p)) = absurd (g.ends h.begins.0 (begins-part h.begins.0 a c y p.0 p.1 h.begins.1))
+
+two-too_deep : (room : ℕ) (a : List Lexeme) (x : Lexeme) (c : List Lexeme) (y : Lexeme) → IsTooDeep room a x → IsTooDeep room c y → Places a x c y → x ≡ y
+two-too_deep room a x c y h g (inl p) = p.1
+two-too_deep room a x c y h g (inr (inl p)) = absurd (h.ends (g.within a p.0 x p.1 h.opening))
+two-too_deep room a x c y h g (inr (inr p)) = absurd (g.ends (h.within c p.0 y p.1 g.opening))
+
+not-both : (room : ℕ) (a : List Lexeme) (x : Lexeme) (c : List Lexeme) (y : Lexeme) → IsUnexpected room a x → IsTooDeep room c y → Places a x c y → ⊥
+not-both room a x c y h g (inl p) = h.ends (suc room) (subst (λ t. BeginsItem (suc room) (a ++ (t ∷ []))) (sym p.1) (subst (λ l. BeginsItem (suc room) (l ++ (y ∷ []))) (sym p.0) g.goes_on))
+not-both room a x c y h g (inr (inl p)) = h.ends (suc room) (begins-part (suc room) c a x p.0 p.1 (begins-before (suc room) c y g.goes_on))
+not-both room a x c y h g (inr (inr p)) = g.ends (h.within c p.0 y p.1 g.opening)
+
+item-there : (s u : State) (i : PlainItem) → IsItem s i u → HasItem s.room s.rest
+item-there s u i h = record { end = s.end; item = i; behind = u; is = h }
+
+one-verdict : (s : State) (v w : Verdict) → runs (Item ∷ []) s ≡ v → Says s v → Says s w → v ≡ w
+one-verdict s v (accepted u) e h g = sym e ∙ item-accepted s u g.0 g.1
+one-verdict s (accepted u) (unexpected y) e h g = absurd (g.3.ends s.room (has-part s.room s.rest g.0 y g.1 g.2 (item-there s u h.0 h.1)))
+one-verdict s (accepted u) (too_deep y) e h g = absurd (g.3.ends (has-part s.room s.rest g.0 y g.1 g.2 (item-there s u h.0 h.1)))
+one-verdict s (accepted u) lacking e h g = absurd (g.ends s.room (item-there s u h.0 h.1))
+one-verdict s (unexpected x) (unexpected y) e h g =
+    ap unexpected (two-unexpected s.room h.0 x g.0 y h.3 g.3 (places h.0 x h.1 g.0 y g.1 (sym h.2 ∙ g.2)))
+one-verdict s (unexpected x) (too_deep y) e h g = absurd (not-both s.room h.0 x g.0 y h.3 g.3 (places h.0 x h.1 g.0 y g.1 (sym h.2 ∙ g.2)))
+one-verdict s (unexpected x) lacking e h g = absurd (h.3.ends g.begins.0 (begins-part g.begins.0 s.rest h.0 x h.1 h.2 g.begins.1))
+one-verdict s (too_deep x) (unexpected y) e h g = absurd (not-both s.room g.0 y h.0 x g.3 h.3 (places g.0 y g.1 h.0 x h.1 (sym g.2 ∙ h.2)))
+one-verdict s (too_deep x) (too_deep y) e h g =
+    ap too_deep (two-too_deep s.room h.0 x g.0 y h.3 g.3 (places h.0 x h.1 g.0 y g.1 (sym h.2 ∙ g.2)))
+one-verdict s (too_deep x) lacking e h g = absurd (h.3.ends (g.within h.0 h.1 x h.2 h.3.opening))
+one-verdict s lacking (unexpected y) e h g = absurd (g.3.ends h.begins.0 (begins-part h.begins.0 s.rest g.0 y g.1 g.2 h.begins.1))
+one-verdict s lacking (too_deep y) e h g = absurd (g.3.ends (h.within g.0 g.1 y g.2 g.3.opening))
+one-verdict s lacking lacking e h g = refl
+
+pub verdict-only : VerdictIsOnly
+verdict-only s v g = one-verdict s (runs (Item ∷ []) s) v refl (verdict-true s) g
+
+pub ruleset verdict_laws = (verdict-true, verdict-only, behind-one)

@@ -6,7 +6,7 @@ use Rattle.celf_lexer.specs.Tokens.{Lexeme}
 use Rattle.celf_surface.specs.Surface.{PlainItem}
 use Rattle.celf_grammar.specs.State.{State}
 use Rattle.celf_grammar.specs.Grammar.{IsItem}
-use Rattle.celf_grammar.specs.Machine.{Symbol, Item, Verdict, accepted, unexpected, too_deep, lacking, runs}
+use Rattle.celf_grammar.specs.Machine.{Item, Verdict, accepted, unexpected, too_deep, lacking, runs}
 
 -- The tokens begin with an item that opens no more than so many parts.
 pub record HasItem (room : ℕ) (ts : List Lexeme) : Type 0 where
@@ -72,9 +72,9 @@ Says s lacking = IsLacking s.room s.rest
 abbrev pub VerdictIsTrue : Type 0
 VerdictIsTrue = (s : State) → Says s (runs (Item ∷ []) s)
 
--- Where an item stands, the machine accepts it, with what is left behind it.
-abbrev pub ItemIsAccepted : Type 0
-ItemIsAccepted = (s u : State) (i : PlainItem) → IsItem s i u → runs (Item ∷ []) s ≡ accepted u
+-- No other verdict is.
+abbrev pub VerdictIsOnly : Type 0
+VerdictIsOnly = (s : State) (v : Verdict) → Says s v → runs (Item ∷ []) s ≡ v
 
 -- What is left behind an item is determined.
 abbrev pub BehindIsOne : Type 0
