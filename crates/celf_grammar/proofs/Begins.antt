@@ -9,7 +9,7 @@ use Rattle.celf_surface.specs.Surface.{Object, Surface}
 use Rattle.celf_grammar.specs.State.{State, next_kind, TakesToken}
 use Rattle.celf_grammar.specs.Grammar.{is_mark, is_left_bracket, begins_atom, begins_argument, begins_index, IsMark, mark_persistent, mark_affine, mark_none, IsObject, obj_lambda, obj_app, IsApplication, app_all, IsAtom, atom_name, atom_constant, atom_hole, atom_unit, atom_pair, atom_braces, atom_group, atom_first, atom_second, IsIndex, index_bare, index_banged, IsFamilyName, family_name, family_constant, IsSync, sync_exists, sync_alone, sync_product, IsFactor, factor_persistent, factor_affine, factor_bare, IsWith, with_alone, with_pair, IsTypeAtom, atomty_word, atomty_family, atomty_top, atomty_one, atomty_braces, atomty_group}
 use Rattle.celf_grammar.specs.Machine.{is_pi, is_exists}
-use Rattle.celf_grammar.proofs.TypeRuns.{begins_family}
+use Rattle.celf_grammar.proofs.ObjectRuns.{begins_family}
 
 -- the kind of a token that is taken
 kind-taken : {left : ℕ} {t : Lexeme} {s u : State} {c : TokenKind} → TakesToken left t s u → t.kind ≡ c → next_kind s.rest ≡ c

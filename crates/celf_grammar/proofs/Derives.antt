@@ -14,8 +14,9 @@ use Rattle.celf_surface.specs.declared.surface.SMode.TheVariants.{Bare}
 use Rattle.celf_surface.specs.Surface.{Pattern as PatternTree, Object as ObjectTree, Steps, steps_of, Tuple as TupleTree, Surface, PlainItem, Body as BodyTree}
 use Rattle.celf_grammar.specs.State.{State, Ends, Takes, Opens, Closes, EndsPart, TakesToken, TakesName, TakesConstant, TakesWord, TakesOne, TakesNumber}
 use Rattle.celf_grammar.specs.Grammar.{is_comma, is_mark, is_let, is_left_bracket, is_amp, is_star, is_forward, is_backward, forward_of, backward_of, begins_argument, begins_index, OpensArrow, IsMark, mark_persistent, mark_affine, mark_none, IsBinder, binder_named, binder_hole, IsPattern, pat_one, pat_entry, pat_list, IsPatterns, pats_first, pats_more, IsObject, obj_lambda, obj_app, IsApplication, app_all, IsArguments, args_none, args_more, IsAtom, atom_name, atom_constant, atom_hole, atom_unit, atom_pair, atom_braces, atom_group, atom_first, atom_second, IsExpression, expr_all, IsSteps, steps_none, steps_more, step_let, IsTuple, tup_one, tup_list, tup_persistent, tup_affine, tup_bare, IsTuples, tups_first, tups_more, IsIndex, index_bare, index_banged, IsIndices, indices_none, indices_more, IsFamilyName, family_name, family_constant, IsType, type_all, IsBackward, back_first, back_more, IsForward, forward_pi, forward_alone, forward_arrow, IsSync, sync_exists, sync_alone, sync_product, IsFactor, factor_persistent, factor_affine, factor_bare, IsWith, with_alone, with_pair, IsTypeAtom, atomty_word, atomty_family, atomty_top, atomty_one, atomty_braces, atomty_group, IsBound, bound_number, bound_star, IsImplicit, implicit_count, implicit_none, IsBody, body_declare, body_query, body_trace, body_equal, body_check, IsItem, item_all}
-use Rattle.celf_grammar.specs.Machine.{Symbol, Expect, Close, Restore, NameWord, NumberWord, Mark, Binder, Pattern, PatternTail, Object, Application, Arguments, Atom, Expression, LetPattern, Tuple, TupleTail, Index, Indices, FamilyName, Whole, BackTail, Forward, ForwardTail, Sync, StarTail, Factor, With, AmpTail, TypeAtom, Bound, Implicit, Body, Item, same_kind, is_one, is_bang, is_pi, is_exists, Fed, next, done, stops, deep, opens, on_name, on_binder, on_pattern, on_atom, on_object, on_argument, on_tuple, on_expression, on_let_pattern, on_index, on_family_name, on_type_atom, on_type_atom_kind, on_with, on_factor, on_sync, on_forward, on_type, on_bound, on_directive, on_body, feed, Verdict, accepted, unexpected, too_deep, lacking, at_end, after_token, runs_on, runs}
-use Rattle.celf_grammar.proofs.Runs.{same_kind-is}
+use Rattle.celf_grammar.specs.KindNumbers.{same_kind}
+use Rattle.celf_grammar.specs.Machine.{Symbol, Expect, Close, Restore, NameWord, NumberWord, Mark, Binder, Pattern, PatternTail, Object, Application, Arguments, Atom, Expression, LetPattern, Tuple, TupleTail, Index, Indices, FamilyName, Whole, BackTail, Forward, ForwardTail, Sync, StarTail, Factor, With, AmpTail, TypeAtom, Bound, Implicit, Body, Item, is_one, is_bang, is_pi, is_exists, Fed, next, done, stops, deep, opens, on_name, on_binder, on_pattern, on_atom, on_object, on_argument, on_tuple, on_expression, on_let_pattern, on_index, on_family_name, on_type_atom, on_type_atom_kind, on_with, on_factor, on_sync, on_forward, on_type, on_bound, on_directive, on_body, feed, Verdict, accepted, unexpected, too_deep, lacking, at_end, after_token, runs_on, runs}
+use Rattle.celf_grammar.proofs.KindNumbers.{same_kind-is}
 
 -- What a symbol stands for: from one state to another. A tail goes on with what was read before it.
 abbrev Reads : Symbol → State → State → Type 0

@@ -9,7 +9,8 @@ use Rattle.celf_lexer.specs.Tokens.{Lexeme}
 use Rattle.celf_grammar.specs.State.{State, next_kind, Takes, Closes}
 use Rattle.celf_grammar.specs.Grammar.{is_comma, is_mark, is_let, is_left_bracket, is_amp, is_star, is_forward, is_backward, begins_argument, begins_index, mark_none}
 use Rattle.celf_grammar.specs.Faults.{opens_part}
-use Rattle.celf_grammar.specs.Machine.{Symbol, Expect, Close, Restore, NameWord, NumberWord, Mark, Binder, Pattern, PatternTail, Object, Application, Arguments, Atom, Expression, LetPattern, Tuple, TupleTail, Index, Indices, FamilyName, Whole, BackTail, Forward, ForwardTail, Sync, StarTail, Factor, With, AmpTail, TypeAtom, Bound, Implicit, Body, Item, same_kind, is_one, is_bang, is_pi, is_exists, Fed, next, done, stops, deep, opens, on_token, on_name, on_binder, on_pattern, on_atom, on_object, on_argument, on_tuple, on_expression, on_let_pattern, on_index, on_family_name, on_type_atom, on_type_atom_kind, on_factor, on_sync, on_forward, on_bound, on_directive, on_body, feed, Verdict, runs}
+use Rattle.celf_grammar.specs.KindNumbers.{same_kind}
+use Rattle.celf_grammar.specs.Machine.{Symbol, Expect, Close, Restore, NameWord, NumberWord, Mark, Binder, Pattern, PatternTail, Object, Application, Arguments, Atom, Expression, LetPattern, Tuple, TupleTail, Index, Indices, FamilyName, Whole, BackTail, Forward, ForwardTail, Sync, StarTail, Factor, With, AmpTail, TypeAtom, Bound, Implicit, Body, Item, is_one, is_bang, is_pi, is_exists, Fed, next, done, stops, deep, opens, on_token, on_name, on_binder, on_pattern, on_atom, on_object, on_argument, on_tuple, on_expression, on_let_pattern, on_index, on_family_name, on_type_atom, on_type_atom_kind, on_factor, on_sync, on_forward, on_bound, on_directive, on_body, feed, Verdict, runs}
 use Rattle.celf_grammar.proofs.TokenRuns.{expect-run, close-run, restore-run, mark-run, pattern_tail-ends}
 use Rattle.celf_grammar.proofs.ObjectRuns.{arguments-end, tuple_tail-ends, indices-end}
 use Rattle.celf_grammar.proofs.TypeRuns.{amp-ends, star-ends, arrow-ends, back-ends, implicit-none}

@@ -1,3 +1,4 @@
+pub mod KindNumbers
 pub mod Runs
 pub mod TokenRuns
 pub mod ObjectRuns

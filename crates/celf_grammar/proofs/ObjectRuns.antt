@@ -164,11 +164,25 @@ indices-more s k b = some-kinds s (Indices ∷ k) (Index ∷ Indices ∷ k) begi
 pub indices-end : (s : State) (k : List Symbol) → Ends begins_index s → runs (Indices ∷ k) s ≡ runs k s
 indices-end s k h = same-kinds s (Indices ∷ k) k refl (λ t e. let f : begins_index t.kind ≡ false = ap begins_index e ∙ h in rw f refl)
 
+-- the first tokens of a family's name
+abbrev pub begins_family : TokenKind → Bool
+begins_family (token.Name c) = true
+begins_family token.ConstName = true
+begins_family _ = false
+
 pub family-name : {n : List ℕ} {s u : State} → TakesName s n u → (k : List Symbol) → runs (FamilyName ∷ k) s ≡ runs k u
 family-name {s = s} h k = token-taken h.taken (FamilyName ∷ k) k (ap (λ c. on_family_name c s.room k) h.kind)
 
 pub family-constant : {n : List ℕ} {s u : State} → TakesConstant s n u → (k : List Symbol) → runs (FamilyName ∷ k) s ≡ runs k u
 family-constant {s = s} h k = token-taken h.taken (FamilyName ∷ k) k (ap (λ c. on_family_name c s.room k) h.kind)
+
+not-family : (c : TokenKind) (room : ℕ) (k : List Symbol) → begins_family c ≡ false → on_family_name c room k ≡ stops
+not-family (token.Name b) room k e = absurd (true≢false e)
+not-family token.ConstName room k e = absurd (true≢false e)
+not-family _ room k e = refl
+
+pub family-stops : (s : State) (k : List Symbol) → Ends begins_family s → runs (FamilyName ∷ k) s ≡ stops_at s
+family-stops s k e = stops-kinds s (FamilyName ∷ k) refl (λ t g. not-family t.kind s.room k (ap begins_family g ∙ e))
 
 pub ruleset atom_runs = (atom-name, atom-constant, atom-hole, atom-unit, atom-pair, atom-braces, atom-group, atom-first, atom-second, atom-deep, atom-stops)
 
@@ -176,4 +190,4 @@ pub ruleset object_runs = (object-lambda, object-deep, object-application, appli
 
 pub ruleset tuple_runs = (expression-let, expression-tuple, let-opens, let-deep, let-stops, tuple-one, tuple-opens, tuple-deep, tuple-persistent, tuple-affine, tuple-object, tuple_tail-more, tuple_tail-ends)
 
-pub ruleset index_runs = (index-banged, index-atom, indices-more, indices-end, family-name, family-constant)
+pub ruleset index_runs = (index-banged, index-atom, indices-more, indices-end, family-name, family-constant, family-stops)

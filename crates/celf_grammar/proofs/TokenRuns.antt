@@ -10,8 +10,10 @@ use Rattle.celf_lexer.specs.Tokens.{Lexeme}
 use Rattle.celf_grammar.specs.State.{State, next_kind, Ends, Takes, Opens, Closes, EndsPart, TakesName, TakesOne, TakesNumber}
 use Rattle.celf_surface.specs.declared.surface.SMode.{SMode}
 use Rattle.celf_grammar.specs.Grammar.{is_comma, is_mark, is_left_bracket, is_name_kind, IsMark, mark_persistent, mark_affine, mark_none, IsBinder, binder_named, binder_hole}
-use Rattle.celf_grammar.specs.Machine.{Symbol, Expect, Close, Restore, NameWord, NumberWord, Mark, Binder, Pattern, PatternTail, same_kind, is_one, stops, on_token, on_name, on_binder, runs_on, runs, stops_at, deep_at}
-use Rattle.celf_grammar.proofs.Runs.{same_kind-yes, same_kind-is, same_kind-no, token-taken, takes-run, opens-run, same-run, same-kinds, stops-kinds, deep-run}
+use Rattle.celf_grammar.specs.KindNumbers.{same_kind}
+use Rattle.celf_grammar.specs.Machine.{Symbol, Expect, Close, Restore, NameWord, NumberWord, Mark, Binder, Pattern, PatternTail, is_one, stops, on_token, on_name, on_binder, runs_on, runs, stops_at, deep_at}
+use Rattle.celf_grammar.proofs.KindNumbers.{same_kind-yes, same_kind-is, same_kind-no}
+use Rattle.celf_grammar.proofs.Runs.{token-taken, takes-run, opens-run, same-run, same-kinds, stops-kinds, deep-run}
 
 -- A token of the kind that is expected.
 pub expect-run : {c : TokenKind} {s u : State} → Takes c s u → (k : List Symbol) → runs (Expect c ∷ k) s ≡ runs k u

@@ -1,15 +1,18 @@
 -- Runs that begin with a type or a part of one, and items.
-use Rattle.std.proofs.Common.{◌≡◌, ℕ, List, ◌∷◌, Bool, true, false, is_some, codes, refl, sym, ap, ◌∙◌}
-use Rattle.std.proofs.lemmas.Bool.{true≢false}
+use Rattle.std.proofs.Common.{◌≡◌, ℕ, List, ◌∷◌, Bool, true, false, is_some, codes, length, ◌+◌, refl, sym, ap, ◌∙◌}
+use Rattle.std.proofs.lemmas.Bool.{true≢false, false_from_ne_true}
+use Rattle.std.proofs.lemmas.Slice.Eq.{bytes_eq-Decides}
+use Rattle.std.specs.Str.{bytes_eq}
 use Rattle.celf_lexer.specs.declared.token.TokenKind.{TokenKind}
 use Rattle.celf_lexer.specs.declared.token.TokenKind.TheVariants as token
 use Rattle.celf_lexer.specs.Tokens.{Lexeme, is_end}
 use Rattle.celf_surface.specs.declared.surface.Arrow.{Arrow}
 use Rattle.celf_grammar.specs.State.{State, next_kind, Ends, Takes, Opens, TakesName, TakesOne, TakesNumber, TakesDirective}
-use Rattle.celf_grammar.specs.Grammar.{is_forward, is_backward, forward_of, backward_of, is_amp, is_star, is_left_bracket, is_mark, OpensArrow}
+use Rattle.celf_grammar.specs.Grammar.{is_forward, is_backward, forward_of, backward_of, is_amp, is_star, is_left_bracket, is_mark, is_name_kind, OpensArrow}
 use Rattle.celf_grammar.specs.Machine.{Symbol, Expect, Close, NameWord, NumberWord, Object, Indices, FamilyName, Whole, BackTail, Forward, ForwardTail, Sync, StarTail, Factor, With, AmpTail, TypeAtom, Bound, Implicit, Body, Item, is_pi, is_exists, stops, on_bound, on_body, on_directive, on_type_atom_kind, feed, runs, stops_at, deep_at}
 use Rattle.celf_grammar.proofs.Runs.{token-taken, takes-run, opens-run, same-kinds, some-kinds, stops-run, stops-kinds, deep-run}
 use Rattle.celf_grammar.proofs.TokenRuns.{NotOne, one-is}
+use Rattle.celf_grammar.proofs.ObjectRuns.{begins_family}
 
 -- atoms of types
 
@@ -33,12 +36,6 @@ type_atom-brace_deep s k e z = deep-run s token.LeftBrace (TypeAtom ∷ k) (Whol
 
 pub type_atom-group_deep : (s : State) (k : List Symbol) → next_kind s.rest ≡ token.LeftParen → s.room ≡ 0 → runs (TypeAtom ∷ k) s ≡ deep_at s
 type_atom-group_deep s k e z = deep-run s token.LeftParen (TypeAtom ∷ k) (Whole ∷ Close token.RightParen s.room ∷ k) e refl z (λ t e. rw e refl)
-
--- the first tokens of a family's name
-abbrev pub begins_family : TokenKind → Bool
-begins_family (token.Name c) = true
-begins_family token.ConstName = true
-begins_family _ = false
 
 family-kind : (t : Lexeme) (room : ℕ) (k : List Symbol) (c : TokenKind) → t.kind ≡ c → begins_family c ≡ true
     → feed (TypeAtom ∷ k) room t ≡ feed (FamilyName ∷ Indices ∷ k) room t
@@ -202,6 +199,31 @@ body-equal h k = token-taken h.taken (Body ∷ k) (Object ∷ Expect token.Equal
 pub body-check : {s u : State} → TakesDirective (codes "#check") s u → (k : List Symbol) → runs (Body ∷ k) s ≡ runs (Object ∷ Expect token.Colon ∷ Whole ∷ k) u
 body-check h k = token-taken h.taken (Body ∷ k) (Object ∷ Expect token.Colon ∷ Whole ∷ k) (directive-fed h k)
 
+-- The next token is not this directive word.
+abbrev pub NotDirective : List ℕ → State → Type 0
+NotDirective word s = (t : Lexeme) (us : List Lexeme) → s.rest ≡ t ∷ us → bytes_eq t.spelling word ≡ false
+
+pub not-directive : (word : List ℕ) (s : State) → next_kind s.rest ≡ token.Directive → ((u : State) → TakesDirective word s u → ⊥) → NotDirective word s
+not-directive word s d n t us e = false_from_ne_true (bytes_eq t.spelling word) (λ h. n (record { rest = us; room = s.room; end = t.start + length t.spelling }) (record {
+  token = t;
+  taken = record { first = e; room = refl; behind = refl };
+  kind = sym (ap next_kind e) ∙ d;
+  spelled = (bytes_eq-Decides t.spelling word).0 h;
+}))
+
+not-body : (c : TokenKind) (word : List ℕ) (room : ℕ) (k : List Symbol) → is_name_kind c ≡ false → (c ≡ token.Directive → ⊥) → on_body c word room k ≡ stops
+not-body (token.Name b) word room k e n = absurd (true≢false e)
+not-body token.Directive word room k e n = absurd (n refl)
+not-body _ word room k e n = refl
+
+pub body-stops : (s : State) (k : List Symbol) → Ends is_name_kind s → (next_kind s.rest ≡ token.Directive → ⊥) → runs (Body ∷ k) s ≡ stops_at s
+body-stops s k e n = stops-kinds s (Body ∷ k) refl (λ t g. not-body t.kind t.spelling s.room k (ap is_name_kind g ∙ e) (λ i. n (sym g ∙ i)))
+
+pub body-unknown : (s : State) (k : List Symbol) → next_kind s.rest ≡ token.Directive → NotDirective (codes "#query") s → NotDirective (codes "#trace") s
+    → NotDirective (codes "#equal") s → NotDirective (codes "#check") s → runs (Body ∷ k) s ≡ stops_at s
+body-unknown s k d q r e c = stops-run s (Body ∷ k) refl
+    (λ t us h. let i = sym (ap next_kind h) ∙ d in let a = q t us h in let b = r t us h in let f = e t us h in let g = c t us h in rw (i, a, b, f, g) refl)
+
 pub item-body : (s : State) (k : List Symbol) → runs (Item ∷ k) s ≡ runs (Body ∷ Expect token.Stop ∷ k) s
 item-body s k = same-kinds s (Item ∷ k) (Body ∷ Expect token.Stop ∷ k) refl (λ t g. refl)
 
@@ -209,4 +231,4 @@ pub ruleset type_atom_runs = (type_atom-word, type_atom-top, type_atom-one, type
 
 pub ruleset type_runs = (with-atom, amp-more, amp-deep, amp-ends, factor-persistent, factor-affine, factor-bare, sync-exists, sync-deep, sync-factor, star-more, star-ends, forward-pi, forward-deep, forward-sync, arrow-more, arrow-ends, arrow-deep, back-more, back-ends, back-deep, type-forward)
 
-pub ruleset item_runs = (bound-number, bound-star, bound-stops, implicit-count, implicit-none, body-declare, body-query, body-trace, body-equal, body-check, item-body)
+pub ruleset item_runs = (bound-number, bound-star, bound-stops, implicit-count, implicit-none, body-declare, body-query, body-trace, body-equal, body-check, body-stops, body-unknown, not-directive, item-body)

@@ -4,5 +4,6 @@ pub use Rattle.celf_lexer.specs.Tokens
 pub use Rattle.celf_surface.specs.Surface
 pub mod State
 pub mod Grammar
+pub mod KindNumbers
 pub mod Machine
 pub mod Faults

@@ -1,12 +1,13 @@
 -- A machine that reads tokens one after another and keeps, as a list of symbols, what must still be read. It answers at the first
 -- token with which the reading cannot go on.
-use Rattle.std.specs.Prelude.{ℕ, zero, suc, ◌+◌, Bool, true, false, ◌&&◌, ◌==◌, if◌then◌else◌, List, [], ◌∷◌, length, codes}
+use Rattle.std.specs.Prelude.{ℕ, zero, suc, ◌+◌, Bool, true, false, ◌&&◌, if◌then◌else◌, List, [], ◌∷◌, length, codes}
 use Rattle.std.specs.Str.{bytes_eq}
 use Rattle.celf_lexer.specs.declared.token.TokenKind.{TokenKind}
 use Rattle.celf_lexer.specs.declared.token.TokenKind.TheVariants.{Number, ConstName}
 use Rattle.celf_lexer.specs.declared.token.TokenKind.TheVariants as token
 use Rattle.celf_lexer.specs.Tokens.{Lexeme}
 use Rattle.celf_grammar.specs.State.{State}
+use Rattle.celf_grammar.specs.KindNumbers.{same_kind}
 use Rattle.celf_grammar.specs.Grammar.{is_forward, is_backward, is_amp, is_star, is_comma, is_let, is_left_bracket, is_mark, begins_argument, begins_index}
 
 -- What may still have to be read: a token, or what a production of the grammar reads, or the rest of it.
@@ -79,50 +80,6 @@ pub data Symbol : Type 0 where
   Body : Symbol
   -- item
   Item : Symbol
-
--- the place of a kind among the kinds
-abbrev pub kind_number : TokenKind → ℕ
-kind_number token.KwType = 0
-kind_number token.KwPi = 1
-kind_number token.KwExists = 2
-kind_number token.KwLet = 3
-kind_number token.KwIn = 4
-kind_number token.Hole = 5
-kind_number token.Number = 6
-kind_number (token.Name false) = 7
-kind_number (token.Name true) = 8
-kind_number token.ConstName = 9
-kind_number token.Proj1 = 10
-kind_number token.Proj2 = 11
-kind_number token.Directive = 12
-kind_number token.Arrow = 13
-kind_number token.BackArrow = 14
-kind_number token.Lolli = 15
-kind_number token.BackLolli = 16
-kind_number token.Affine = 17
-kind_number token.TopSign = 18
-kind_number token.UnitSign = 19
-kind_number token.Less = 20
-kind_number token.Greater = 21
-kind_number token.LeftBrace = 22
-kind_number token.RightBrace = 23
-kind_number token.LeftParen = 24
-kind_number token.RightParen = 25
-kind_number token.LeftBracket = 26
-kind_number token.RightBracket = 27
-kind_number token.Comma = 28
-kind_number token.Stop = 29
-kind_number token.Colon = 30
-kind_number token.Equals = 31
-kind_number token.Backslash = 32
-kind_number token.Bang = 33
-kind_number token.AtSign = 34
-kind_number token.Star = 35
-kind_number token.Amp = 36
-kind_number token.End = 37
-
-abbrev pub same_kind : TokenKind → TokenKind → Bool
-same_kind j k = kind_number j == kind_number k
 
 abbrev pub is_bang : TokenKind → Bool
 is_bang token.Bang = true
