@@ -1,0 +1,12 @@
+pub mod KindNumbers
+pub mod Runs
+pub mod TokenRuns
+pub mod ObjectRuns
+pub mod TypeRuns
+pub mod Begins
+pub mod Accepts
+pub mod Derives
+pub mod Lift
+pub mod Passes
+pub mod Finishes
+pub mod Verdicts
