@@ -17,4 +17,6 @@ pub mod Clean
 pub mod Laws
 pub mod Refusal
 pub mod Checking
+pub mod Spine
+pub mod Answers
 pub mod Reach
