@@ -5,3 +5,5 @@ pub mod RowSteps
 pub mod Stops
 pub mod Spines
 pub mod Variables
+pub mod Formed
+pub mod Entries

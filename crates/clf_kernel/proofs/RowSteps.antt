@@ -1,8 +1,10 @@
 -- Rows for arguments, entry by entry from the oldest on, and how long rows are.
 use Rattle.std.proofs.Common.{◌≡◌, ℕ, zero, suc, ◌+◌, ◌<◌, Bool, true, false, not, ◌&&◌, if◌then◌else◌, List, [], ◌∷◌, ◌++◌, length, map, reverse, drop, slice_get, Option, None, Some, option_map, MatchOption, ap, ◌∙◌, sym, refl, add-one, arith}
-use Rattle.std.proofs.lemmas.List.{reverse-append, reverse-reverse}
+use Rattle.std.proofs.lemmas.List.{reverse-append, reverse-reverse, map-append}
 use Rattle.std.proofs.Math.Seq.{drop-length}
 use Rattle.clf_syntax.specs.declared.tree.Mode.{Mode}
+use Rattle.clf_syntax.specs.declared.tree.TeleEntry.{TeleEntry}
+use Rattle.clf_syntax.specs.PlainTypes.{plain_tele_entry}
 use Rattle.hered_subst.proofs.Renamed.{length_map}
 use Rattle.use_contexts.specs.Context.{Context, modes}
 use Rattle.use_contexts.specs.Holding.{Holding, is_linear, is_persistent, persistent_alone}
@@ -91,5 +93,9 @@ not_empty (x ∷ xs) a e = cc
 pub popped : {X : Type 0} (o : Option X) (old new outer : List X) (e : X) → MatchOption o ((old ≡ []) × (new ≡ [])) (λ last. old ≡ new ++ last ∷ []) → old ≡ outer ++ e ∷ [] → new ≡ outer
 popped None old new outer e p q = absurd (not_empty outer e (sym q ∙ p.0))
 popped (Some last) old new outer e p q = snoc_front new outer last e (sym p ∙ q)
+
+-- the context with one entry more
+pub context_pushed : (es : List TeleEntry) (e : TeleEntry) → reverse (map plain_tele_entry (es ++ e ∷ [])) ≡ plain_tele_entry e ∷ reverse (map plain_tele_entry es)
+context_pushed es e = ap reverse (map-append plain_tele_entry es (e ∷ [])) ∙ reverse-append (map plain_tele_entry es) (plain_tele_entry e ∷ [])
 
 pub ruleset length_laws = (length_persistent, length_allowed, length_outside, length_in_both, length_later)

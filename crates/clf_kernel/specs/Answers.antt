@@ -72,6 +72,12 @@ IsShort (Refused outward cause) = ⊥
 IsShort StopNoMemory = Unit {0}
 IsShort (StopTooFar w) = IsWide w
 
+-- What ends the check of the part with this number, and then what ends the check of the whole.
+abbrev pub IsPartOf : ℕ → Stop → Stop → Type 0
+IsPartOf place (Refused outward cause) whole = Ends (place ∷ reverse outward.items) (plain_cause cause) whole
+IsPartOf place StopNoMemory whole = whole ≡ StopNoMemory
+IsPartOf place (StopTooFar w) whole = whole ≡ StopTooFar w
+
 -- The fault that a call answers where its check ends so.
 abbrev pub IsFault : Stop → OrWide Refusal → Type 0
 IsFault (Refused outward cause) (Fault r) = (r.path.items ≡ reverse outward.items) × (r.cause ≡ cause)

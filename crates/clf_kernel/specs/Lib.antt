@@ -19,4 +19,5 @@ pub mod Refusal
 pub mod Checking
 pub mod Spine
 pub mod Answers
+pub mod Formation
 pub mod Reach

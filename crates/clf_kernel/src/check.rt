@@ -5,7 +5,7 @@ ghost use Rattle.clf_syntax.specs.PlainTypes.{plain_ty};
 ghost use Rattle.clf_sig.specs.Signature.{plain_signature};
 ghost use Rattle.use_contexts.specs.Marks.{context, marks};
 ghost use Rattle.clf_kernel.specs.Refusal.{and_then, at_part};
-ghost use Rattle.clf_kernel.specs.Checking.{closed_scope, lambda_left, pair_left, argument_left, checked, inferred};
+ghost use Rattle.clf_kernel.specs.Checking.{closed_scope, lambda_left, argument_left, checked, inferred};
 ghost use Rattle.clf_kernel.specs.Spine.{argument_used, elimination_left, spine_left};
 ghost use Rattle.clf_kernel.specs.Answers.{plain_left, plain_inferred, Gives};
 
@@ -40,9 +40,20 @@ pub fn check(
         Obj::Lam { mode, body } => {
             check_lambda(alloc, *mode, body.get(), ty, sig, ctx, row)
         }
-        Obj::Pair { left, right } => {
-            check_pair(alloc, left.get(), right.get(), ty, sig, ctx, row)
-        }
+        Obj::Pair { left, right } => match ty {
+            Ty::With {
+                left: first,
+                right: second,
+            } => {
+                let copy = row.copy(alloc)?;
+                let one = check_part(alloc, 0, left.get(), first.get(), sig, ctx, copy)?;
+                let other = check_part(alloc, 1, right.get(), second.get(), sig, ctx, row)?;
+                join(alloc, ctx, one, other)
+            }
+            Ty::Fam { .. } | Ty::Fun { .. } | Ty::Top | Ty::Monad { .. } => {
+                Err(refuse(alloc, Cause::NotPair { found: ty.copy(alloc)? }))
+            }
+        },
         Obj::Unit => check_unit(alloc, ty, row),
         Obj::Mon { .. } | Obj::Hole => Err(refuse(alloc, Cause::NotClosed)),
         Obj::At { neutral } => {
@@ -109,7 +120,7 @@ fn check_lambda(
                     ),
                 );
             }
-            check_body(alloc, mode, dom.get(), body, cod.get(), sig, ctx, row)
+            check_body(alloc, mode, body, dom.get(), cod.get(), sig, ctx, row)
         }
         Ty::Fam { .. } | Ty::With { .. } | Ty::Top | Ty::Monad { .. } => {
             Err(refuse(alloc, Cause::NotFunction { found: ty.copy(alloc)? }))
@@ -123,8 +134,8 @@ fn check_lambda(
 fn check_body(
     alloc: Global,
     mode: Mode,
-    dom: &Ty,
     body: &Obj,
+    dom: &Ty,
     cod: &Ty,
     sig: &Signature,
     ctx: &mut Ctx,
@@ -140,36 +151,6 @@ fn check_body(
     let left = check_part(alloc, 0, body, cod, sig, ctx, inner)?;
     leave(ctx);
     close_scope(alloc, mode, ctx, left)
-}
-
-#[cycle(check)]
-#[tactic(auto, using(clf_syntax::specs::Plain::plain_laws, clf_syntax::specs::PlainTypes::plain_type_laws, crate::proofs::Stops::stop_laws))]
-fn check_pair(
-    alloc: Global,
-    left: &Obj,
-    right: &Obj,
-    ty: &Ty,
-    sig: &Signature,
-    ctx: &mut Ctx,
-    row: Holding,
-) -> Result<Left, Stop>
-    requires marked { length (marks row) ≡ length (context ctx.old) }
-    requires numbered { length (context ctx.old) < 2 ^ 32 }
-    ensures outcome { Gives plain_left (pair_left (context ctx.old) (plain_ty ty.now) (λ a. checked (plain_signature sig.now) (context ctx.old) (marks row) (plain_obj left.now) a) (λ c. checked (plain_signature sig.now) (context ctx.old) (marks row) (plain_obj right.now) c)) result }
-    ensures marked { IfOk result (λ left. length (marks left.row) ≡ length (context ctx.old)) }
-    ensures kept { OnOk result (ctx.new ≡ ctx.old) }
-{
-    match ty {
-        Ty::With { left: first, right: second } => {
-            let copy = row.copy(alloc)?;
-            let one = check_part(alloc, 0, left, first.get(), sig, ctx, copy)?;
-            let other = check_part(alloc, 1, right, second.get(), sig, ctx, row)?;
-            join(alloc, ctx, one, other)
-        }
-        Ty::Fam { .. } | Ty::Fun { .. } | Ty::Top | Ty::Monad { .. } => {
-            Err(refuse(alloc, Cause::NotPair { found: ty.copy(alloc)? }))
-        }
-    }
 }
 
 /// The type of a neutral, and what it leaves of a row.

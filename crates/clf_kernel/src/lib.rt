@@ -2,12 +2,16 @@
 #![tactic(auto)]
 
 mod check;
+mod entry;
 mod head;
 mod laws;
+mod object;
 mod refusal;
 mod rows;
 mod scope;
 mod steps;
 
+pub use entry::check_entry;
 pub use laws::{clean, weakening, well_formed_signatures, well_formed_types};
+pub use object::{check_object, infer};
 pub use refusal::{Cause, Inferred, Refusal};

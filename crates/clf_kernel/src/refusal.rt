@@ -1,8 +1,6 @@
 //! Refusals, and what else ends a check.
 ghost use Rattle.std.specs.Prelude.{◌≡◌, ◌∷◌, [], reverse, IfOk};
-ghost use Rattle.clf_kernel.specs.Refusal.{Outcome, at_part};
-ghost use Rattle.clf_kernel.specs.Checking.{Leftover};
-ghost use Rattle.clf_kernel.specs.Answers.{plain_cause, IsWide, Stops, Ends, IsShort, IsFault};
+ghost use Rattle.clf_kernel.specs.Answers.{plain_cause, IsWide, IsPartOf, Ends, IsShort, IsFault};
 
 use clf_syntax::{Head, Mode, OrWide, Tele, TeleEntry, Ty, Wide};
 use sqlite_items::Items;
@@ -88,7 +86,7 @@ pub fn refuse_at(alloc: Global, place: usize, cause: Cause) -> Stop
 
 /// What ends the check of the part with this number, as what ends the check of the whole.
 pub fn from_part(alloc: Global, place: usize, stop: Stop) -> Stop
-    ensures { (want : Outcome Leftover) → Stops want stop → Stops (at_part place want) result }
+    ensures { IsPartOf place stop result }
 {
     match stop {
         Stop::Refused { outward, cause } => step_out(alloc, place, outward, cause),
