@@ -18,15 +18,15 @@ decided_as : {A P Q : Type 0} (o : Outcome A) → (P → Q) → (Q → P) → De
 decided_as (passed a) f k p = f p
 decided_as (refused path cause) f k p = λ q. p (k q)
 
-decided_parts : {A B P Q : Type 0} (i j : ℕ) (a : Outcome A) (b : Outcome B) → Decided a P → Decided b Q → Decided (and_then (at_part i a) (λ x. at_part j b)) (P × Q)
-decided_parts i j (passed x) (passed y) p q = (p, q)
-decided_parts i j (passed x) (refused path cause) p q = λ r. q r.1
-decided_parts i j (refused path cause) b p q = λ r. p r.0
+decided_parts : {A B : Type 0} (P Q : Type 0) (i j : ℕ) (a : Outcome A) (b : Outcome B) → Decided a P → Decided b Q → Decided (and_then (at_part i a) (λ x. at_part j b)) (P × Q)
+decided_parts P Q i j (passed x) (passed y) p q = (p, q)
+decided_parts P Q i j (passed x) (refused path cause) p q = λ r. q r.1
+decided_parts P Q i j (refused path cause) b p q = λ r. p r.0
 
-decided_in_turn : {A B P Q : Type 0} (i : ℕ) (a : Outcome A) (b : Outcome B) → Decided a P → Decided b Q → Decided (and_then (at_part i a) (λ x. b)) (P × Q)
-decided_in_turn i (passed x) (passed y) p q = (p, q)
-decided_in_turn i (passed x) (refused path cause) p q = λ r. q r.1
-decided_in_turn i (refused path cause) b p q = λ r. p r.0
+decided_in_turn : {A B : Type 0} (P Q : Type 0) (i : ℕ) (a : Outcome A) (b : Outcome B) → Decided a P → Decided b Q → Decided (and_then (at_part i a) (λ x. b)) (P × Q)
+decided_in_turn P Q i (passed x) (passed y) p q = (p, q)
+decided_in_turn P Q i (passed x) (refused path cause) p q = λ r. q r.1
+decided_in_turn P Q i (refused path cause) b p q = λ r. p r.0
 
 decided_family : (f : ℕ) (o : Option PlainKind) → ((k : PlainKind) → o ≡ Some k → k ≡ []) → Decided (family_formed f o) (o ≡ Some [])
 decided_family f (Some k) h = ap Some (h k refl)
@@ -37,15 +37,15 @@ module _ (sig : PlainSignature) (simple : IsSimpleSignature sig) where
     decided_type : (a : PlainType) (g : Context) → without_indices a ≡ true → Decided (type_formed sig a) (WellFormedType sig g a)
     decided_type (family f []) g e = decided_as (family_formed f (family_kind sig f)) (bare_families sig g f).1 (bare_families sig g f).0 (decided_family f (family_kind sig f) (simple.1 f))
     decided_type (family f (n ∷ ns)) g e = absurd (cc)
-    decided_type (function m a b) g e = decided_parts 0 1 (type_formed sig a) (type_formed sig b) (decided_type a g (first_of_both _ _ e)) (decided_type b ((m, a) ∷ g) (second_of_both (without_indices a) _ e))
-    decided_type (both a b) g e = decided_parts 0 1 (type_formed sig a) (type_formed sig b) (decided_type a g (first_of_both _ _ e)) (decided_type b g (second_of_both (without_indices a) _ e))
+    decided_type (function m a b) g e = decided_parts _ _ 0 1 (type_formed sig a) (type_formed sig b) (decided_type a g (first_of_both _ _ e)) (decided_type b ((m, a) ∷ g) (second_of_both (without_indices a) _ e))
+    decided_type (both a b) g e = decided_parts _ _ 0 1 (type_formed sig a) (type_formed sig b) (decided_type a g (first_of_both _ _ e)) (decided_type b g (second_of_both (without_indices a) _ e))
     decided_type top g e = tt
     decided_type (monad s) g e = decided_telescope s 0 g e
 
     decided_telescope : (s : Telescope) (place : ℕ) (g : Context) → telescope_without_indices s ≡ true → Decided (telescope_formed sig place s) (WellFormedTelescope sig g s)
     decided_telescope end place g e = tt
     decided_telescope (binding m a s) place g e =
-        decided_in_turn place (type_formed sig a) (telescope_formed sig (suc place) s) (decided_type a g (first_of_both _ _ e)) (decided_telescope s (suc place) ((m, a) ∷ g) (second_of_both (without_indices a) _ e))
+        decided_in_turn _ _ place (type_formed sig a) (telescope_formed sig (suc place) s) (decided_type a g (first_of_both _ _ e)) (decided_telescope s (suc place) ((m, a) ∷ g) (second_of_both (without_indices a) _ e))
 
   decided_class : (c : PlainClass) → IsSimpleClass c → Decided (class_formed sig c) (WellFormedClass sig c)
   decided_class (family_of k) e = subst (λ l. WellFormedKind sig [] l) (sym e) tt
@@ -55,8 +55,8 @@ module _ (sig : PlainSignature) (simple : IsSimpleSignature sig) where
   decided_entry e c i = decided_as (class_formed sig e.class) (λ p. (p, i)) (λ p. p.0) (decided_class e.class c)
 
 -- An answer of an outcome decides what the outcome decides.
-pub answers_decide : {A P : Type 0} (want : Outcome A) (r : Result A (OrWide Refusal)) → Answers (λ x. x) want r → Decided want P → Decides r P
-answers_decide {P = P} want (Ok x) e d = subst (λ w. Decided w P) e d
-answers_decide {P = P} want (Err (Fault r)) e d = subst (λ w. Decided w P) e d
-answers_decide want (Err NoMemory) e d = tt
-answers_decide want (Err (TooFar w)) e d = tt
+pub answers_decide : {A : Type 0} (P : Type 0) (want : Outcome A) (r : Result A (OrWide Refusal)) → Answers (λ x. x) want r → Decided want P → Decides r P
+answers_decide P want (Ok x) e d = subst (λ w. Decided w P) e d
+answers_decide P want (Err (Fault r)) e d = subst (λ w. Decided w P) e d
+answers_decide P want (Err NoMemory) e d = tt
+answers_decide P want (Err (TooFar w)) e d = tt

@@ -37,9 +37,7 @@ pub fn check(
     ensures kept { OnOk result (ctx.new ≡ ctx.old) }
 {
     match obj {
-        Obj::Lam { mode, body } => {
-            check_lambda(alloc, *mode, body.get(), ty, sig, ctx, row)
-        }
+        Obj::Lam { mode, body } => { check_lambda(alloc, *mode, body.get(), ty, sig, ctx, row) }
         Obj::Pair { left, right } => match ty {
             Ty::With {
                 left: first,
@@ -51,7 +49,12 @@ pub fn check(
                 join(alloc, ctx, one, other)
             }
             Ty::Fam { .. } | Ty::Fun { .. } | Ty::Top | Ty::Monad { .. } => {
-                Err(refuse(alloc, Cause::NotPair { found: ty.copy(alloc)? }))
+                Err(refuse(
+                    alloc,
+                    Cause::NotPair {
+                        found: ty.copy(alloc)?,
+                    },
+                ))
             }
         },
         Obj::Unit => check_unit(alloc, ty, row),
@@ -110,20 +113,23 @@ fn check_lambda(
             cod,
         } => {
             if !is_same(mode, *wanted) {
-                return Err(
-                    refuse(
-                        alloc,
-                        Cause::ModeDiffers {
-                            wanted: *wanted,
-                            found: mode,
-                        },
-                    ),
-                );
+                return Err(refuse(
+                    alloc,
+                    Cause::ModeDiffers {
+                        wanted: *wanted,
+                        found: mode,
+                    },
+                ));
             }
             check_body(alloc, mode, body, dom.get(), cod.get(), sig, ctx, row)
         }
         Ty::Fam { .. } | Ty::With { .. } | Ty::Top | Ty::Monad { .. } => {
-            Err(refuse(alloc, Cause::NotFunction { found: ty.copy(alloc)? }))
+            Err(refuse(
+                alloc,
+                Cause::NotFunction {
+                    found: ty.copy(alloc)?,
+                },
+            ))
         }
     }
 }
@@ -248,16 +254,14 @@ fn put_argument(
             cod,
         } => {
             if !is_same(mode, wanted) {
-                return Err(
-                    refuse_at(
-                        alloc,
-                        place,
-                        Cause::ModeDiffers {
-                            wanted,
-                            found: mode,
-                        },
-                    ),
-                );
+                return Err(refuse_at(
+                    alloc,
+                    place,
+                    Cause::ModeDiffers {
+                        wanted,
+                        found: mode,
+                    },
+                ));
             }
             let left = check_argument(alloc, mode, obj, dom.get(), place, left, sig, ctx)?;
             Ok(Inferred {

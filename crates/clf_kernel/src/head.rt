@@ -47,14 +47,12 @@ fn infer_constant(
             ty: ty.copy(alloc)?,
             left: Left { row, slack: false },
         }),
-        None => Err(
-            refuse(
-                alloc,
-                Cause::UnknownHead {
-                    head: Head::Const(constant),
-                },
-            ),
-        ),
+        None => Err(refuse(
+            alloc,
+            Cause::UnknownHead {
+                head: Head::Const(constant),
+            },
+        )),
     }
 }
 
@@ -75,14 +73,12 @@ fn infer_variable(alloc: Global, var: u32, ctx: &Ctx, row: Holding) -> Result<In
     ensures marked { IfOk result (λ found. length (marks found.left.row) ≡ length (context ctx.now)) }
 {
     if var as usize >= ctx.len() {
-        return Err(
-            refuse(
-                alloc,
-                Cause::UnknownHead {
-                    head: Head::Var(var),
-                },
-            ),
-        );
+        return Err(refuse(
+            alloc,
+            Cause::UnknownHead {
+                head: Head::Var(var),
+            },
+        ));
     }
     let mut row = row;
     match take(ctx, &mut row, var) {
@@ -90,14 +86,12 @@ fn infer_variable(alloc: Global, var: u32, ctx: &Ctx, row: Holding) -> Result<In
             ty: ctx.entry(var as usize).ty.copy(alloc)?,
             left: Left { row, slack: false },
         }),
-        Err(_) => Err(
-            refuse(
-                alloc,
-                Cause::NotHeld {
-                    level: level(ctx, var),
-                },
-            ),
-        ),
+        Err(_) => Err(refuse(
+            alloc,
+            Cause::NotHeld {
+                level: level(ctx, var),
+            },
+        )),
     }
 }
 

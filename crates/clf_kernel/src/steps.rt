@@ -21,7 +21,12 @@ pub fn check_unit(alloc: Global, ty: &Ty, row: Holding) -> Result<Left, Stop>
     match ty {
         Ty::Top => Ok(Left { row, slack: true }),
         Ty::Fam { .. } | Ty::Fun { .. } | Ty::With { .. } | Ty::Monad { .. } => {
-            Err(refuse(alloc, Cause::NotTop { found: ty.copy(alloc)? }))
+            Err(refuse(
+                alloc,
+                Cause::NotTop {
+                    found: ty.copy(alloc)?,
+                },
+            ))
         }
     }
 }
@@ -35,7 +40,12 @@ pub fn check_atomic(alloc: Global, ty: &Ty, found: Inferred) -> Result<Left, Sto
     match ty {
         Ty::Fam { family, .. } => check_family(alloc, *family, found),
         Ty::Fun { .. } | Ty::With { .. } | Ty::Top | Ty::Monad { .. } => {
-            Err(refuse(alloc, Cause::NotAtomic { ty: ty.copy(alloc)? }))
+            Err(refuse(
+                alloc,
+                Cause::NotAtomic {
+                    ty: ty.copy(alloc)?,
+                },
+            ))
         }
     }
 }
@@ -55,7 +65,12 @@ fn check_family(alloc: Global, wanted: u32, found: Inferred) -> Result<Left, Sto
             Ok(left)
         }
         Ty::Fun { .. } | Ty::With { .. } | Ty::Top | Ty::Monad { .. } => {
-            Err(refuse(alloc, Cause::NotAtomic { ty: ty.copy(alloc)? }))
+            Err(refuse(
+                alloc,
+                Cause::NotAtomic {
+                    ty: ty.copy(alloc)?,
+                },
+            ))
         }
     }
 }
@@ -71,14 +86,12 @@ pub fn join(alloc: Global, ctx: &Ctx, first: Left, second: Left) -> Result<Left,
 {
     match join_add(ctx, first, second) {
         Ok(left) => Ok(left),
-        Err(Differ(var)) => Err(
-            refuse(
-                alloc,
-                Cause::PairsDiffer {
-                    level: level(ctx, var),
-                },
-            ),
-        ),
+        Err(Differ(var)) => Err(refuse(
+            alloc,
+            Cause::PairsDiffer {
+                level: level(ctx, var),
+            },
+        )),
     }
 }
 
@@ -89,7 +102,10 @@ pub fn first_part(alloc: Global, place: usize, found: Inferred) -> Result<Inferr
 {
     let Inferred { ty, left } = found;
     match ty {
-        Ty::With { left: first, right: _ } => Ok(Inferred {
+        Ty::With {
+            left: first,
+            right: _,
+        } => Ok(Inferred {
             ty: first.into_inner(),
             left,
         }),
@@ -106,7 +122,10 @@ pub fn second_part(alloc: Global, place: usize, found: Inferred) -> Result<Infer
 {
     let Inferred { ty, left } = found;
     match ty {
-        Ty::With { left: _, right: second } => Ok(Inferred {
+        Ty::With {
+            left: _,
+            right: second,
+        } => Ok(Inferred {
             ty: second.into_inner(),
             left,
         }),
