@@ -8,7 +8,7 @@ use Rattle.clf_sig.specs.Entry.{PlainSignature}
 use Rattle.clf_kernel.specs.declared.refusal.Stop.{Stop}
 use Rattle.clf_kernel.specs.Refusal.{passed, at_part, and_then}
 use Rattle.clf_kernel.specs.Formation.{type_formed, telescope_formed}
-use Rattle.clf_kernel.specs.Answers.{Stops}
+use Rattle.clf_kernel.specs.Stops.{Stops}
 use Rattle.clf_kernel.proofs.Stops.{then_stops}
 
 module _ (sig : PlainSignature) (entries : List TeleEntry) (i : ℕ) (x : TeleEntry) (l : i < length entries) (e : x ≡ get_or entries i x) where

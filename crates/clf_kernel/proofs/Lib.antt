@@ -7,3 +7,4 @@ pub mod Spines
 pub mod Variables
 pub mod Formed
 pub mod Entries
+pub mod SimpleSignatures

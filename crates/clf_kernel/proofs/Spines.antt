@@ -13,7 +13,7 @@ use Rattle.clf_kernel.specs.Refusal.{Outcome, passed, refused, and_then}
 use Rattle.clf_kernel.specs.Checking.{Leftover, eliminations, head_left, inferred}
 use Rattle.clf_kernel.specs.declared.refusal.Stop.{Stop}
 use Rattle.clf_kernel.specs.Spine.{elimination_left, spine_left}
-use Rattle.clf_kernel.specs.Answers.{Stops}
+use Rattle.clf_kernel.specs.Stops.{Stops}
 use Rattle.clf_kernel.proofs.Stops.{then_stops}
 
 then_passed : {A : Type 0} (w : Outcome A) → and_then w passed ≡ w

@@ -19,5 +19,6 @@ pub mod Refusal
 pub mod Checking
 pub mod Spine
 pub mod Answers
+pub mod Stops
 pub mod Formation
 pub mod Reach

@@ -7,7 +7,8 @@ ghost use Rattle.use_contexts.specs.Marks.{context, marks};
 ghost use Rattle.clf_kernel.specs.Refusal.{and_then, at_part};
 ghost use Rattle.clf_kernel.specs.Checking.{closed_scope, lambda_left, argument_left, checked, inferred};
 ghost use Rattle.clf_kernel.specs.Spine.{argument_used, elimination_left, spine_left};
-ghost use Rattle.clf_kernel.specs.Answers.{plain_left, plain_inferred, Gives};
+ghost use Rattle.clf_kernel.specs.Answers.{plain_left, plain_inferred};
+ghost use Rattle.clf_kernel.specs.Stops.{Gives};
 
 use crate::head::infer_head;
 use crate::refusal::{Cause, Inferred, Stop, from_part, refuse, refuse_at};

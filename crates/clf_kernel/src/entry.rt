@@ -8,7 +8,8 @@ ghost use Rattle.clf_kernel.specs.Reach.{IsSimpleSignature};
 ghost use Rattle.clf_kernel.specs.WellFormed.{WellFormedEntry, may_be_implicit};
 ghost use Rattle.clf_kernel.specs.Refusal.{at_part};
 ghost use Rattle.clf_kernel.specs.Formation.{IsSimpleClass, Decides, class_formed, type_formed, family_formed, telescope_formed};
-ghost use Rattle.clf_kernel.specs.Answers.{Gives, Answers};
+ghost use Rattle.clf_kernel.specs.Answers.{Answers};
+ghost use Rattle.clf_kernel.specs.Stops.{Gives};
 
 use crate::refusal::{Cause, Refusal, Stop, fault, from_part, refuse};
 use clf_sig::{Class, Entry, Signature};

@@ -10,6 +10,8 @@ mod refusal;
 mod rows;
 mod scope;
 mod steps;
+#[cfg(test)]
+mod tests;
 
 pub use entry::check_entry;
 pub use laws::{clean, weakening, well_formed_signatures, well_formed_types};

@@ -9,7 +9,8 @@ ghost use Rattle.use_contexts.specs.Marks.{context, marks};
 ghost use Rattle.clf_kernel.specs.Laws.{without_indices};
 ghost use Rattle.clf_kernel.specs.Reach.{IsSimpleSignature, IsSimpleContext};
 ghost use Rattle.clf_kernel.specs.Checking.{checked, inferred};
-ghost use Rattle.clf_kernel.specs.Answers.{plain_left, plain_inferred, Gives, Answers};
+ghost use Rattle.clf_kernel.specs.Answers.{plain_left, plain_inferred, Answers};
+ghost use Rattle.clf_kernel.specs.Stops.{Gives};
 
 use crate::check::{check, infer_neutral};
 use crate::refusal::{Inferred, Refusal, Stop, fault, too_far};

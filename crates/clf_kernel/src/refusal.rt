@@ -1,6 +1,7 @@
 //! Refusals, and what else ends a check.
 ghost use Rattle.std.specs.Prelude.{◌≡◌, ◌∷◌, [], reverse, IfOk};
-ghost use Rattle.clf_kernel.specs.Answers.{plain_cause, IsWide, IsPartOf, Ends, IsShort, IsFault};
+ghost use Rattle.clf_kernel.specs.Answers.{plain_cause, IsWide};
+ghost use Rattle.clf_kernel.specs.Stops.{IsPartOf, Ends, IsShort, IsFault};
 
 use clf_syntax::{Head, Mode, OrWide, Tele, TeleEntry, Ty, Wide};
 use sqlite_items::Items;

@@ -5,7 +5,8 @@ ghost use Rattle.use_contexts.specs.declared.context.Ctx.{Ctx as DeclaredCtx};
 ghost use Rattle.use_contexts.specs.Marks.{context, marks};
 ghost use Rattle.use_contexts.specs.Rows.{now, later, is_unused as is_unused_linear};
 ghost use Rattle.clf_kernel.specs.Checking.{closed_scope};
-ghost use Rattle.clf_kernel.specs.Answers.{plain_left, IsShort, Gives, IsEntered};
+ghost use Rattle.clf_kernel.specs.Answers.{plain_left};
+ghost use Rattle.clf_kernel.specs.Stops.{IsShort, Gives, IsEntered};
 
 use crate::refusal::{Cause, Stop, refuse, too_far};
 use clf_syntax::{Mode, TeleEntry, Ty};

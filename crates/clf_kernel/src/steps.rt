@@ -5,7 +5,8 @@ ghost use Rattle.use_contexts.specs.Context.{modes};
 ghost use Rattle.use_contexts.specs.Marks.{context, marks};
 ghost use Rattle.use_contexts.specs.Rows.{newest_difference};
 ghost use Rattle.clf_kernel.specs.Checking.{same_mode, joined_left, unit_left, atomic_left, found_left, first_left, second_left};
-ghost use Rattle.clf_kernel.specs.Answers.{plain_left, plain_inferred, Gives};
+ghost use Rattle.clf_kernel.specs.Answers.{plain_left, plain_inferred};
+ghost use Rattle.clf_kernel.specs.Stops.{Gives};
 
 use crate::head::level;
 use crate::refusal::{Cause, Inferred, Stop, refuse, refuse_at};

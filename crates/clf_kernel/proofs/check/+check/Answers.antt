@@ -8,7 +8,8 @@ use Rattle.use_contexts.specs.Marks.{context, marks}
 use Rattle.clf_kernel.specs.Refusal.{passed, and_then, at_part}
 use Rattle.clf_kernel.specs.Checking.{closed_scope, checked}
 use Rattle.clf_kernel.specs.Spine.{elimination_left, spine_left}
-use Rattle.clf_kernel.specs.Answers.{plain_left, plain_inferred, Gives, Stops, IsEntered}
+use Rattle.clf_kernel.specs.Answers.{plain_left, plain_inferred}
+use Rattle.clf_kernel.specs.Stops.{Gives, Stops, IsEntered}
 use Rattle.clf_kernel.proofs.Stops.{part_stops}
 use Rattle.clf_kernel.proofs.Spines.{spine_more, spine_stops}
 use Rattle.clf_kernel.proofs.check.+check.Goals as goal

@@ -6,7 +6,7 @@ use Rattle.clf_syntax.specs.declared.tree.TeleEntry.{out-TeleEntry}
 use Rattle.clf_sig.specs.Signature.{plain_signature}
 use Rattle.clf_kernel.specs.Refusal.{passed, at_part}
 use Rattle.clf_kernel.specs.Formation.{type_formed, telescope_formed}
-use Rattle.clf_kernel.specs.Answers.{Stops, Gives}
+use Rattle.clf_kernel.specs.Stops.{Stops, Gives}
 use Rattle.clf_kernel.proofs.Stops.{part_stops}
 use Rattle.clf_kernel.proofs.Entries.{entries_more, entries_stop}
 use Rattle.clf_kernel.proofs.entry.+check_type.Goals as goal

@@ -4,7 +4,7 @@ use Rattle.use_contexts.specs.Context.{modes}
 use Rattle.use_contexts.specs.Marks.{context, marks}
 use Rattle.use_contexts.proofs.Lookups.{length-taken}
 use Rattle.clf_kernel.specs.Refusal.{not_held}
-use Rattle.clf_kernel.specs.Answers.{Ends}
+use Rattle.clf_kernel.specs.Stops.{Ends}
 use Rattle.clf_kernel.proofs.Stops.{refusal_stops}
 use Rattle.clf_kernel.proofs.Variables.{variable_used, variable_unheld}
 use Rattle.clf_kernel.proofs.head.infer_variable.Goals as goal
