@@ -5,3 +5,10 @@ pub mod WithoutIndices
 pub mod Agreement
 pub mod Explanations
 pub mod FirstRefusals
+pub mod RowSteps
+pub mod Stops
+pub mod Spines
+pub mod Variables
+pub mod Formed
+pub mod Entries
+pub mod SimpleSignatures

@@ -21,11 +21,11 @@ bare_families sig g f = ((λ p. p.1 ∙ ap (λ k. Some k) (no_arguments sig g p.
 pub compound_types : CompoundTypes
 compound_types sig g = ((λ m a b. ((λ p. p), (λ p. p))), (λ a b. ((λ p. p), (λ p. p))), tt, (λ s. ((λ p. p), (λ p. p))))
 
-first_of_both : (a b : Bool) → a && b ≡ true → a ≡ true
+pub first_of_both : (a b : Bool) → a && b ≡ true → a ≡ true
 first_of_both true b e = refl
 first_of_both false b e = e
 
-second_of_both : (a b : Bool) → a && b ≡ true → b ≡ true
+pub second_of_both : (a b : Bool) → a && b ≡ true → b ≡ true
 second_of_both true b e = e
 second_of_both false b e = cc
 

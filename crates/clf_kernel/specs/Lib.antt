@@ -19,3 +19,7 @@ pub mod Refusal
 pub mod Checking
 pub mod Explained
 pub mod Laws
+pub mod Spine
+pub mod Answers
+pub mod Stops
+pub mod Formation

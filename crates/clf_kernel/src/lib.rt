@@ -1,6 +1,19 @@
 //! Typing of the concurrent logical framework.
 #![tactic(auto)]
 
+mod check;
+mod entry;
+mod head;
 mod laws;
+mod object;
+mod refusal;
+mod rows;
+mod scope;
+mod steps;
+#[cfg(test)]
+mod tests;
 
+pub use entry::check_entry;
 pub use laws::{checking, clean, refusals, weakening, well_formed_signatures, well_formed_types};
+pub use object::{check_object, infer};
+pub use refusal::{Cause, Inferred, Refusal};

@@ -1,0 +1,10 @@
+use Rattle.std.proofs.Common.{sym, subst}
+use Rattle.clf_sig.specs.Signature.{plain_signature}
+use Rattle.clf_kernel.specs.Reach.{IsSimpleSignature}
+use Rattle.clf_kernel.proofs.SimpleSignatures.{simple_more}
+use Rattle.clf_kernel.proofs.tests.declared.Goals as goal
+
+pub returns : goal.returns
+returns c =
+    subst (λ s. IsSimpleSignature (plain_signature s)) (sym c.in-Ok.ensures.added)
+    (simple_more c.args.sig c.args.name.now (record { implicit = 0; class = c.args.class }) c.requires.signature c.requires.class)

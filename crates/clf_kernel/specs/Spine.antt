@@ -1,0 +1,26 @@
+-- The eliminations of a spine in order, as the check of a neutral goes through them.
+use Rattle.std.specs.Prelude.{ℕ, suc, ◌||◌, List, [], ◌∷◌}
+use Rattle.clf_syntax.specs.declared.tree.Mode.{Mode}
+use Rattle.clf_syntax.specs.Tree.{Elimination, arg, first, second}
+use Rattle.clf_syntax.specs.TypeTree.{PlainType}
+use Rattle.use_contexts.specs.Context.{Context, modes}
+use Rattle.use_contexts.specs.Holding.{Holding}
+use Rattle.use_contexts.specs.Rows.{allowed, outside, slack_outside}
+use Rattle.clf_sig.specs.Entry.{PlainSignature}
+use Rattle.clf_kernel.specs.Refusal.{Outcome, passed, at_part, and_then}
+use Rattle.clf_kernel.specs.Checking.{Leftover, argument_left, first_left, second_left, checked}
+
+-- what an argument of this mode leaves of what its function left
+abbrev pub argument_used : Mode → Context → ℕ → Leftover → (Holding → Outcome Leftover) → Outcome Leftover
+argument_used m g place x argument = and_then (at_part place (argument (allowed m (modes g) x.0))) (λ y. passed (outside m (modes g) x.0 y.0, x.1 || slack_outside m y.1))
+
+-- one elimination, with its place, of a neutral of a type
+abbrev pub elimination_left : PlainSignature → Context → ℕ → Elimination → PlainType × Leftover → Outcome (PlainType × Leftover)
+elimination_left sig g place (arg m n) found = argument_left m g place found (λ row a. checked sig g row n a)
+elimination_left sig g place first found = first_left place found
+elimination_left sig g place second found = second_left place found
+
+-- the eliminations from a place on
+abbrev pub spine_left : PlainSignature → Context → ℕ → List Elimination → PlainType × Leftover → Outcome (PlainType × Leftover)
+spine_left sig g place [] found = passed found
+spine_left sig g place (e ∷ es) found = and_then (elimination_left sig g place e found) (spine_left sig g (suc place) es)
