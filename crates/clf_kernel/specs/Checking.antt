@@ -6,19 +6,19 @@
 -- The parts of an object are checked in the order of their numbers, and then the object itself. A path lists the numbers
 -- from the whole to the part that is refused: of a lambda the body is 0, of a pair the parts are 0 and 1, and of an atomic
 -- object the eliminations are numbered from the head on. What is wrong with an elimination itself is at its place.
-use Rattle.std.specs.Prelude.{ℕ, suc, ◌-◌, Bool, true, false, ◌||◌, ◌&&◌, ◌==◌, if◌then◌else◌, List, [], ◌∷◌, length, Option, None, Some}
+use Rattle.std.specs.Prelude.{ℕ, suc, ◌-◌, Bool, true, false, ◌||◌, ◌&&◌, ◌==◌, if◌then◌else◌, [], ◌∷◌, length, Option, None, Some}
 use Rattle.std.specs.List.{slice_get}
 use Rattle.clf_syntax.specs.declared.tree.Mode.{Mode}
 use Rattle.clf_syntax.specs.declared.tree.Mode.TheVariants.{Persistent, Affine, Linear}
 use Rattle.clf_syntax.specs.declared.tree.Head.{Head}
 use Rattle.clf_syntax.specs.declared.tree.Head.TheVariants.{Const, Var, Meta}
 use Rattle.clf_syntax.specs.Tree.{Object, lam, pair, unit, monadic, atomic, hole, PlainNeutral, bare, app, fst, snd}
-use Rattle.clf_syntax.specs.TypeTree.{PlainType, family, function, both, top, monad}
+use Rattle.clf_syntax.specs.TypeTree.{PlainType, family, function, both, top}
 use Rattle.use_contexts.specs.Context.{Context, modes}
 use Rattle.use_contexts.specs.Holding.{Holding}
 use Rattle.use_contexts.specs.Rows.{taken, left_in_both, newest_difference, now, later, is_unused, allowed, outside, slack_outside}
 use Rattle.clf_sig.specs.Entry.{PlainSignature, constant_type}
-use Rattle.clf_kernel.specs.Refusal.{Cause, not_function, not_pair, not_top, not_atomic, not_closed, mode_differs, not_held, unused, pairs_differ, family_differs, unknown_head, Outcome, passed, refused, at_part, and_then}
+use Rattle.clf_kernel.specs.Refusal.{not_function, not_pair, not_top, not_atomic, not_closed, mode_differs, not_held, unused, pairs_differ, family_differs, unknown_head, Outcome, passed, refused, at_part, and_then}
 
 -- the row that is left, and its slack
 abbrev pub Leftover : Type 0

@@ -1,5 +1,5 @@
 -- Refusals of the kernel, and outcomes: something that passed, or a refusal with its path.
-use Rattle.std.specs.Prelude.{ℕ, List, [], ◌∷◌}
+use Rattle.std.specs.Prelude.{ℕ, List, ◌∷◌}
 use Rattle.clf_syntax.specs.declared.tree.Mode.{Mode}
 use Rattle.clf_syntax.specs.declared.tree.Head.{Head}
 use Rattle.clf_syntax.specs.TypeTree.{PlainType}
