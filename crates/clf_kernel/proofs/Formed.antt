@@ -1,5 +1,5 @@
 -- Types without indices, and entries with them, are well formed exactly where their families are there.
-use Rattle.std.proofs.Common.{◌≡◌, ◌↔◌, ℕ, suc, ◌≤◌, Bool, true, false, ◌&&◌, List, [], ◌∷◌, Option, None, Some, Result, Ok, Err, refl, sym, ap, subst}
+use Rattle.std.proofs.Common.{◌≡◌, ℕ, suc, ◌≤◌, true, [], ◌∷◌, Option, None, Some, Result, Ok, Err, refl, sym, ap, subst}
 use Rattle.clf_syntax.specs.declared.fault.OrWide.{OrWide}
 use Rattle.clf_syntax.specs.declared.fault.OrWide.TheVariants.{Fault, NoMemory, TooFar}
 use Rattle.clf_syntax.specs.TypeTree.{PlainType, family, function, both, top, monad, Telescope, end, binding, PlainKind}
@@ -10,7 +10,7 @@ use Rattle.clf_kernel.specs.Reach.{without_indices, telescope_without_indices}
 use Rattle.clf_kernel.specs.Reach.{IsSimpleSignature}
 use Rattle.clf_kernel.specs.WellFormed.{WellFormedType, WellFormedTelescope, WellFormedKind, WellFormedClass, WellFormedEntry, may_be_implicit}
 use Rattle.clf_kernel.specs.Refusal.{Outcome, passed, refused, at_part, and_then}
-use Rattle.clf_kernel.specs.Formation.{family_formed, parts_formed, type_formed, telescope_formed, IsSimpleClass, class_formed, Decided, Decides}
+use Rattle.clf_kernel.specs.Formation.{family_formed, type_formed, telescope_formed, IsSimpleClass, class_formed, Decided, Decides}
 use Rattle.clf_kernel.specs.Answers.{Answers}
 use Rattle.clf_kernel.proofs.Signatures.{bare_families, first_of_both, second_of_both}
 

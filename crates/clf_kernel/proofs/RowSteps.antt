@@ -1,14 +1,13 @@
 -- Rows for arguments, entry by entry from the oldest on, and how long rows are.
-use Rattle.std.proofs.Common.{◌≡◌, ℕ, zero, suc, ◌+◌, ◌<◌, Bool, true, false, not, ◌&&◌, if◌then◌else◌, List, [], ◌∷◌, ◌++◌, length, map, reverse, drop, slice_get, Option, None, Some, option_map, MatchOption, ap, ◌∙◌, sym, refl, add-one, arith}
+use Rattle.std.proofs.Common.{◌≡◌, ℕ, suc, ◌<◌, Bool, true, false, not, ◌&&◌, if◌then◌else◌, List, [], ◌∷◌, ◌++◌, length, map, reverse, drop, slice_get, Option, None, Some, option_map, MatchOption, ap, ◌∙◌, sym, refl, arith}
 use Rattle.std.proofs.lemmas.List.{reverse-append, reverse-reverse, map-append}
-use Rattle.std.proofs.Math.Seq.{drop-length}
 use Rattle.clf_syntax.specs.declared.tree.Mode.{Mode}
 use Rattle.clf_syntax.specs.declared.tree.TeleEntry.{TeleEntry}
 use Rattle.clf_syntax.specs.PlainTypes.{plain_tele_entry}
 use Rattle.hered_subst.proofs.Renamed.{length_map}
 use Rattle.use_contexts.specs.Context.{Context, modes}
 use Rattle.use_contexts.specs.Holding.{Holding, is_linear, is_persistent, persistent_alone}
-use Rattle.use_contexts.specs.Rows.{without_linear, linear_of, left_in_both, differs, newest_difference, now, later}
+use Rattle.use_contexts.specs.Rows.{without_linear, linear_of, left_in_both, differs, newest_difference, later}
 use Rattle.use_contexts.proofs.Lookups.{drop_at}
 
 -- a newer mark stands in front

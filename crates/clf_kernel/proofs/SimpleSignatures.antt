@@ -1,5 +1,5 @@
 -- A signature without dependencies stays so with one more entry without them.
-use Rattle.std.proofs.Common.{◌≡◌, ℕ, zero, suc, List, [], ◌∷◌, ◌++◌, map, Some, true, sym, subst, ◌∙◌}
+use Rattle.std.proofs.Common.{◌≡◌, ℕ, zero, suc, List, [], ◌∷◌, ◌++◌, Some, true, sym, subst, ◌∙◌}
 use Rattle.std.proofs.lemmas.List.{map-append}
 use Rattle.clf_syntax.specs.TypeTree.{PlainType, PlainKind}
 use Rattle.clf_sig.specs.declared.entry.Entry.{Entry}

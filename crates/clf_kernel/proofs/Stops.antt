@@ -1,5 +1,5 @@
 -- How a check that ends before its end answers the outcomes of what stands around.
-use Rattle.std.proofs.Common.{◌≡◌, ℕ, suc, List, [], ◌∷◌, length, reverse, Result, Ok, Err, refl, sym, ap, subst, ◌∙◌}
+use Rattle.std.proofs.Common.{◌≡◌, ℕ, suc, List, [], ◌∷◌, length, reverse, Err, refl, sym, ap, subst, ◌∙◌}
 use Rattle.clf_syntax.specs.declared.fault.OrWide.{OrWide}
 use Rattle.clf_syntax.specs.declared.fault.OrWide.TheVariants.{Fault, NoMemory as NoRoom, TooFar as Far}
 use Rattle.use_contexts.specs.Context.{Context, modes}
@@ -7,7 +7,7 @@ use Rattle.use_contexts.specs.Holding.{Holding, WellMarked}
 use Rattle.clf_kernel.specs.declared.refusal.Refusal.{Refusal}
 use Rattle.clf_kernel.specs.declared.refusal.Stop.{Stop}
 use Rattle.clf_kernel.specs.declared.refusal.Stop.TheVariants.{Refused, NoMemory, TooFar}
-use Rattle.clf_kernel.specs.Refusal.{Cause, Outcome, passed, refused, at_part, and_then}
+use Rattle.clf_kernel.specs.Refusal.{Cause, Outcome, refused, at_part, and_then}
 use Rattle.clf_kernel.specs.Answers.{plain_cause, IsWide, Answers}
 use Rattle.clf_kernel.specs.Stops.{Stops, Ends, IsShort, IsPartOf, IsFault}
 

@@ -1,5 +1,5 @@
 -- Variables that are in the context, held or not.
-use Rattle.std.proofs.Common.{◌≡◌, ℕ, zero, suc, ◌<◌, Bool, true, false, List, [], ◌∷◌, length, slice_get, Some, refl, sym, subst, arith}
+use Rattle.std.proofs.Common.{◌≡◌, ℕ, zero, suc, ◌<◌, true, false, List, [], ◌∷◌, length, slice_get, Some, refl, arith}
 use Rattle.clf_syntax.specs.declared.tree.Mode.{Mode}
 use Rattle.clf_syntax.specs.TypeTree.{PlainType}
 use Rattle.use_contexts.specs.Context.{Context, modes}

@@ -1,7 +1,7 @@
 -- Which family number of a type without indices is the first that is no family. A path lists the numbers of the parts from
 -- the whole to the family: of a function the domain is 0 and the rest 1, of & the parts are 0 and 1, and of a monad each entry
 -- has its place.
-use Rattle.std.specs.Prelude.{ℕ, suc, ◌≡◌, true, List, [], ◌∷◌, Option, Some, None, Result, Ok, Err}
+use Rattle.std.specs.Prelude.{ℕ, suc, ◌≡◌, true, [], Option, Some, None, Result, Ok, Err}
 use Rattle.clf_syntax.specs.declared.tree.Head.TheVariants.{Const}
 use Rattle.clf_syntax.specs.declared.fault.OrWide.{OrWide}
 use Rattle.clf_syntax.specs.declared.fault.OrWide.TheVariants.{Fault, NoMemory, TooFar}

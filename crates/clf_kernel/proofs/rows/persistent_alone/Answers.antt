@@ -1,7 +1,7 @@
-use Rattle.std.proofs.Common.{◌-◌, ◌≤◌, ◌≡◌, ◌∙◌, length, reverse, ap, arith}
+use Rattle.std.proofs.Common.{◌-◌, ◌∙◌, reverse, ap, arith}
 use Rattle.use_contexts.specs.Context.{modes}
-use Rattle.use_contexts.specs.Marks.{context, marks}
-use Rattle.clf_kernel.proofs.RowSteps.{persistent_more, length_persistent}
+use Rattle.use_contexts.specs.Marks.{context}
+use Rattle.clf_kernel.proofs.RowSteps.{persistent_more}
 use Rattle.clf_kernel.proofs.rows.persistent_alone.Goals as goal
 
 pub loop-var-preserved : goal.loop-var-preserved

@@ -2,8 +2,7 @@
 use Rattle.std.proofs.Common.{◌≡◌, ◌≤◌, reverse, drop, length}
 use Rattle.use_contexts.specs.Context.{modes}
 use Rattle.use_contexts.specs.Holding.{persistent_alone}
-use Rattle.use_contexts.specs.Marks.{context, marks}
-use Rattle.use_contexts.specs.Rows.{without_linear, linear_of}
+use Rattle.use_contexts.specs.Marks.{context}
 use Rattle.clf_kernel.proofs.rows.persistent_alone.Given as goal
 
 abbrev pub invariant-loop-var : goal.invariant-loop-var

@@ -1,9 +1,8 @@
 -- The marks of the entries from the oldest on, as far as the loop has come.
 use Rattle.std.proofs.Common.{◌≡◌, ◌≤◌, reverse, drop, length}
 use Rattle.use_contexts.specs.Context.{modes}
-use Rattle.use_contexts.specs.Holding.{persistent_alone}
 use Rattle.use_contexts.specs.Marks.{context, marks}
-use Rattle.use_contexts.specs.Rows.{without_linear, linear_of}
+use Rattle.use_contexts.specs.Rows.{without_linear}
 use Rattle.clf_kernel.proofs.rows.without_linear.Given as goal
 
 abbrev pub invariant-loop-var : goal.invariant-loop-var

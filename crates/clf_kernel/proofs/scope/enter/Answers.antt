@@ -1,5 +1,5 @@
-use Rattle.std.proofs.Common.{◌≡◌, ◌∷◌, ap, ◌∙◌, map, reverse, arith}
-use Rattle.clf_syntax.specs.PlainTypes.{plain_ty, plain_tele_entry, plain-tele-entry, plain_type_laws}
+use Rattle.std.proofs.Common.{◌∷◌, ap, ◌∙◌, map, reverse}
+use Rattle.clf_syntax.specs.PlainTypes.{plain_ty, plain_tele_entry, plain-tele-entry}
 use Rattle.use_contexts.specs.Marks.{context}
 use Rattle.clf_kernel.proofs.RowSteps.{context_pushed}
 use Rattle.clf_kernel.proofs.scope.enter.Goals as goal

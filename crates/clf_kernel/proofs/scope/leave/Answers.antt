@@ -1,5 +1,4 @@
-use Rattle.std.proofs.Common.{◌≡◌, ap}
-use Rattle.use_contexts.specs.declared.context.Ctx.{Ctx}
+use Rattle.std.proofs.Common.{ap}
 use Rattle.clf_kernel.proofs.RowSteps.{popped}
 use Rattle.clf_kernel.proofs.scope.leave.Goals as goal
 

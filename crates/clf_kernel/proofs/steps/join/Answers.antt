@@ -1,5 +1,4 @@
-use Rattle.std.proofs.Common.{◌≡◌, ◌≤◌, ◌∙◌, ap, sym, length, arith}
-use Rattle.use_contexts.specs.Context.{modes}
+use Rattle.std.proofs.Common.{◌∙◌, ap, sym, length, arith}
 use Rattle.use_contexts.specs.Marks.{context, marks}
 use Rattle.clf_kernel.proofs.RowSteps.{difference_within, length_in_both}
 use Rattle.clf_kernel.proofs.steps.join.Goals as goal
