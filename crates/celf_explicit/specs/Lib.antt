@@ -7,3 +7,4 @@ pub mod Unknown
 pub mod UnknownLists
 pub mod Reading
 pub mod ReadingLists
+pub mod Locals

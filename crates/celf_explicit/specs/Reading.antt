@@ -24,10 +24,14 @@ combined f (Some x) (Some y) = Some (f x y)
 combined f (Some x) None = None
 combined f None y = None
 
+-- there are no indices
+abbrev pub has_none : List Object → Bool
+has_none [] = true
+has_none (i ∷ is) = false
+
 -- The type that is written; none where a name in it has no meaning, or where it is out of reach.
 abbrev pub read_type : PlainSignature → PlainType → Option core_type.PlainType
-read_type sig (family s h []) = option_map (λ f. core_type.family f []) (family_named sig h.name)
-read_type sig (family s h (i ∷ is)) = None
+read_type sig (family s h is) = if has_none is then option_map (λ f. core_type.family f []) (family_named sig h.name) else None
 read_type sig (function s m n a b) = combined (core_type.function m) (read_type sig a) (read_type sig b)
 read_type sig (both s a b) = combined core_type.both (read_type sig a) (read_type sig b)
 read_type sig (top s) = Some core_type.top
@@ -159,8 +163,11 @@ abbrev mutual
   read_act sig ls t second = Some core.second
 
 -- an object that is checked against a type: its place wants the type without indices
+abbrev pub with_type : core_type.PlainType → core.Object → core.Object × core_type.PlainType
+with_type a n = (n, a)
+
 abbrev pub read_against : PlainSignature → Object → core_type.PlainType → Option (core.Object × core_type.PlainType)
-read_against sig o a = option_map (λ n. (n, a)) (read_object sig [] (Some (erase a)) o)
+read_against sig o a = option_map (with_type a) (read_object sig [] (Some (erase a)) o)
 
 abbrev pub read_check : PlainSignature → Object → PlainType → Option (core.Object × core_type.PlainType)
 read_check sig o t = option_and_then (read_against sig o) (read_type sig t)

@@ -1,6 +1,6 @@
 //! The local binders around a part of an object.
 ghost use Rattle.std.specs.Prelude.{◌≡◌, List, [], ◌∷◌, IfOk, OnOk, option_copied, option_map};
-ghost use Rattle.clf_syntax.specs.PlainSimple.{plain_simple};
+ghost use Rattle.celf_explicit.specs.Locals.{Declared, plain_place, plain_locals};
 ghost use Rattle.celf_explicit.specs.Reading as spec;
 
 use crate::scope::same_name;
@@ -26,7 +26,7 @@ pub struct Found<'a> {
 impl<'a> Local<'a> {
     /// Whether the binder has a name.
     fn has_name(&self, name: &Name) -> bool
-        ensures { result ≡ spec.has_name name.now (self.now.name.now, option_map plain_simple (option_copied self.now.place)) }
+        ensures { result ≡ spec.has_name name.now (self.now.name.now, plain_place (option_copied self.now.place)) }
     {
         match self.name {
             Some(own) => same_name(name, own),
@@ -42,13 +42,16 @@ pub struct Locals<'a> {
 }
 
 impl<'a> Model for Locals<'a> {
-    ghost use Rattle.std.specs.Prelude.{List, map, reverse, option_copied, option_map};
-    ghost use Rattle.clf_syntax.specs.PlainSimple.{plain_simple};
-    ghost use Rattle.celf_explicit.specs.Reading.{Local};
+    ghost use Rattle.std.specs.Prelude.{List, map, reverse, option_copied};
+    ghost use Rattle.std.specs.Coded.{coded_list, coded×, coded_ℕ, coded_option};
+    ghost use Rattle.clf_syntax.specs.contracts.tree.Simple as simple;
+    ghost use Rattle.celf_explicit.specs.Locals.{Declared};
 
-    ghost Value = { List Local };
+    ghost Value = { List Declared };
 
-    ghost view = { λ s. reverse (map (λ l. (l.name.now, option_map plain_simple (option_copied l.place))) s.locals) };
+    ghost coded = { coded_list (coded× (coded_option (coded_list coded_ℕ)) (coded_option simple.the_row.coded)) };
+
+    ghost view = { λ s. reverse (map (λ l. (l.name.now, option_copied l.place)) s.locals) };
 }
 
 impl<'a> Locals<'a> {
@@ -67,21 +70,21 @@ impl<'a> Locals<'a> {
         name: &'a Option<Name>,
         place: Option<&'a Simple>,
     ) -> Result<(), AllocError>
-        ensures { OnOk result (self.new ≡ (name.now, option_map plain_simple (option_copied place.entry)) ∷ self.old) }
+        ensures { OnOk result (self.new ≡ (name.now, option_copied place.entry) ∷ self.old) }
     {
         self.locals.push(Local { name, place })
     }
 
     /// Drops the newest binder.
     pub fn pop(&mut self)
-        ensures { (l : spec.Local) (ls : List spec.Local) → self.old ≡ l ∷ ls → self.new ≡ ls }
+        ensures { (l : Declared) (ls : List Declared) → self.old ≡ l ∷ ls → self.new ≡ ls }
     {
         self.locals.pop();
     }
 
     /// The newest binder of a name, as a head. It fails only where its number is past the greatest one.
     pub fn find(&self, name: &Name) -> Result<Option<Found<'a>>, AllocError>
-        ensures { IfOk result (λ f. option_map (λ h. (h.head, option_map plain_simple (option_copied h.place))) f ≡ spec.local_from 0 name.now self.now) }
+        ensures { IfOk result (λ f. option_map (λ h. (h.head, plain_place (option_copied h.place))) f ≡ spec.local_from 0 name.now (plain_locals self.now)) }
     {
         let mut left = self.locals.len();
         let mut number: u32 = 0;

@@ -1,12 +1,12 @@
 //! The reading of types and objects.
-ghost use Rattle.std.specs.Prelude.{◌≡◌, [], map, IfOk, OnOk, option_copied, option_map, slice_get};
-ghost use Rattle.clf_syntax.specs.Plain.{plain_obj, plain_elim};
+ghost use Rattle.std.specs.Prelude.{◌≡◌, [], map, IfOk, OnOk, option_copied, option_map};
+ghost use Rattle.clf_syntax.specs.Plain.{plain_obj, plain_elim, plain_neutral};
 ghost use Rattle.clf_syntax.specs.PlainTypes.{plain_ty};
-ghost use Rattle.clf_syntax.specs.PlainSimple.{plain_simple};
 ghost use Rattle.clf_syntax.specs.Tree as core;
 ghost use Rattle.clf_syntax.specs.TypeTree as core_type;
 ghost use Rattle.clf_sig.specs.Signature.{plain_signature};
 ghost use Rattle.celf_sugar.specs.Plain.{plain_object, plain_type, plain_elim as written_elim};
+ghost use Rattle.celf_explicit.specs.Locals.{plain_place, plain_locals, plain_check};
 ghost use Rattle.celf_explicit.specs.Reading as spec;
 ghost use Rattle.celf_explicit.specs.ReadingLists.{read_acts};
 
@@ -26,10 +26,11 @@ pub fn read_type(alloc: Global, sig: &Signature, ty: &PTy) -> Result<Option<Ty>,
 {
     match &ty.form {
         PTyForm::Family { head, indices } => {
-            if !indices.is_empty() {
-                return Ok(None);
+            if has_none(indices.as_slice()) {
+                Ok(family(alloc, family_named(sig, head.name.as_str())))
+            } else {
+                Ok(None)
             }
-            Ok(family(alloc, family_named(sig, head.name.as_str())))
         }
         PTyForm::Fun {
             mode,
@@ -48,6 +49,16 @@ pub fn read_type(alloc: Global, sig: &Signature, ty: &PTy) -> Result<Option<Ty>,
         }
         PTyForm::Top => Ok(Some(Ty::Top)),
         PTyForm::Monad { .. } => Ok(None),
+    }
+}
+
+/// Whether there are no indices.
+fn has_none(indices: &[PObj]) -> bool
+    ensures { result ≡ spec.has_none (map plain_object indices.now) }
+{
+    match indices {
+        [] => true,
+        [_, ..] => false,
     }
 }
 
@@ -106,7 +117,7 @@ fn read_object<'a>(
     place: Option<&'a Simple>,
     locals: &mut Locals<'a>,
 ) -> Result<Option<Obj>, AllocError>
-    ensures read { IfOk result (λ o. option_map plain_obj o ≡ spec.read_object (plain_signature sig.now) locals.old (option_map plain_simple (option_copied place.entry)) (plain_object obj.now)) }
+    ensures read { IfOk result (λ o. option_map plain_obj o ≡ spec.read_object (plain_signature sig.now) (plain_locals locals.old) (plain_place (option_copied place.entry)) (plain_object obj.now)) }
     ensures kept { OnOk result (locals.new ≡ locals.old) }
 {
     match &obj.form {
@@ -170,10 +181,15 @@ fn pair(alloc: Global, left: Option<Obj>, right: Option<Obj>) -> Result<Option<O
 fn applied(head: Head, spine: Option<Items<Elim>>) -> Option<Obj>
     ensures { option_map plain_obj result ≡ option_map (λ es. core.atomic (core.spine_on es (core.bare head))) (option_map (map plain_elim) spine) }
 {
-    let spine = spine?;
-    Some(Obj::At {
-        neutral: Neutral { head, spine },
-    })
+    let neutral = neutral(head, spine?);
+    Some(Obj::At { neutral })
+}
+
+#[tactic(auto, using(clf_syntax::specs::Plain::plain_laws))]
+fn neutral(head: Head, spine: Items<Elim>) -> Neutral
+    ensures { plain_neutral result ≡ core.spine_on (map plain_elim spine) (core.bare head) }
+{
+    Neutral { head, spine }
 }
 
 /// What the name of an object means, with its simple type.
@@ -182,7 +198,7 @@ fn head_of<'a>(
     locals: &Locals<'a>,
     name: &PName,
 ) -> Result<Option<Found<'a>>, AllocError>
-    ensures { IfOk result (λ f. option_map (λ h. (h.head, option_map plain_simple (option_copied h.place))) f ≡ spec.head (plain_signature sig.now) locals.now name.now) }
+    ensures { IfOk result (λ f. option_map (λ h. (h.head, plain_place (option_copied h.place))) f ≡ spec.head (plain_signature sig.now) (plain_locals locals.now) name.now) }
 {
     if !name.dollar {
         if let Some(found) = locals.find(&name.name)? {
@@ -194,7 +210,7 @@ fn head_of<'a>(
 
 /// The constant of a name, with its simple type.
 fn constant_head<'a>(sig: &'a Signature, name: &str) -> Option<Found<'a>>
-    ensures { option_map (λ h. (h.head, option_map plain_simple (option_copied h.place))) result ≡ spec.constant_head (plain_signature sig.now) name.now }
+    ensures { option_map (λ h. (h.head, plain_place (option_copied h.place))) result ≡ spec.constant_head (plain_signature sig.now) name.now }
 {
     let constant = constant_named(sig, name)?;
     let place = sig.simples().get(constant as usize);
@@ -214,7 +230,7 @@ fn read_spine<'a>(
     place: Option<&'a Simple>,
     locals: &mut Locals<'a>,
 ) -> Result<Option<Items<Elim>>, AllocError>
-    ensures read { IfOk result (λ es. option_map (map plain_elim) es ≡ read_acts (plain_signature sig.now) locals.old (option_map plain_simple (option_copied place.entry)) (map written_elim spine.now)) }
+    ensures read { IfOk result (λ es. option_map (map plain_elim) es ≡ read_acts (plain_signature sig.now) (plain_locals locals.old) (plain_place (option_copied place.entry)) (map written_elim spine.now)) }
     ensures kept { OnOk result (locals.new ≡ locals.old) }
 {
     let mut elims = Items::new(alloc);
@@ -238,7 +254,7 @@ fn read_act<'a>(
     place: Option<&'a Simple>,
     locals: &mut Locals<'a>,
 ) -> Result<Option<Elim>, AllocError>
-    ensures read { IfOk result (λ e. option_map plain_elim e ≡ spec.read_act (plain_signature sig.now) locals.old (option_map plain_simple (option_copied place.entry)) (written_elim act.now)) }
+    ensures read { IfOk result (λ e. option_map plain_elim e ≡ spec.read_act (plain_signature sig.now) (plain_locals locals.old) (plain_place (option_copied place.entry)) (written_elim act.now)) }
     ensures kept { OnOk result (locals.new ≡ locals.old) }
 {
     match act {
@@ -266,7 +282,7 @@ pub fn read_check(
     obj: &PObj,
     ty: &PTy,
 ) -> Result<Option<(Obj, Ty)>, AllocError>
-    ensures { IfOk result (λ r. option_map (λ p. (plain_obj p.0, plain_ty p.1)) r ≡ spec.read_check (plain_signature sig.now) (plain_object obj.now) (plain_type ty.now)) }
+    ensures { IfOk result (λ r. option_map plain_check r ≡ spec.read_check (plain_signature sig.now) (plain_object obj.now) (plain_type ty.now)) }
 {
     match read_type(alloc, sig, ty)? {
         Some(ty) => {
@@ -284,7 +300,7 @@ fn read_against(
     obj: &PObj,
     ty: &Ty,
 ) -> Result<Option<Obj>, AllocError>
-    ensures { IfOk result (λ o. option_map (λ n. (n, plain_ty ty.now)) (option_map plain_obj o) ≡ spec.read_against (plain_signature sig.now) (plain_object obj.now) (plain_ty ty.now)) }
+    ensures { IfOk result (λ o. option_map (spec.with_type (plain_ty ty.now)) (option_map plain_obj o) ≡ spec.read_against (plain_signature sig.now) (plain_object obj.now) (plain_ty ty.now)) }
 {
     let simple = erase(alloc, ty)?;
     let mut locals = Locals::new(alloc);
@@ -293,7 +309,7 @@ fn read_against(
 
 /// An object with its type.
 fn checked(obj: Option<Obj>, ty: Ty) -> Option<(Obj, Ty)>
-    ensures { option_map (λ p. (plain_obj p.0, plain_ty p.1)) result ≡ option_map (λ n. (n, plain_ty ty)) (option_map plain_obj obj) }
+    ensures { option_map plain_check result ≡ option_map (spec.with_type (plain_ty ty)) (option_map plain_obj obj) }
 {
     let obj = obj?;
     Some((obj, ty))

@@ -1,9 +1,12 @@
 -- The binder that is looked for is among those that are left.
-use Rattle.std.proofs.Common.{◌≡◌, ◌+◌, map, take, reverse, length}
-use Rattle.std.specs.Prelude.{option_copied, option_map}
-use Rattle.clf_syntax.specs.PlainSimple.{plain_simple}
+use Rattle.std.proofs.Common.{◌≡◌, map, take, reverse, length}
+use Rattle.std.specs.Prelude.{option_copied}
 use Rattle.celf_explicit.specs.Reading.{local_from}
+use Rattle.celf_explicit.specs.Locals.{plain_locals}
 use Rattle.celf_explicit.proofs.locals.Locals.find.Given as goal
 
 abbrev pub invariant-loop-left : goal.invariant-loop-left
 invariant-loop-left l = ?
+
+abbrev pub decreases-loop-left : goal.decreases-loop-left
+decreases-loop-left l = l.left
