@@ -1,6 +1,6 @@
 //! The local binders around a part of an object.
-ghost use Rattle.std.specs.Prelude.{◌≡◌, List, [], ◌∷◌, IfOk, OnOk, option_copied, option_map};
-ghost use Rattle.celf_explicit.specs.Locals.{Declared, plain_place, plain_locals};
+ghost use Rattle.std.specs.Prelude.{◌≡◌, [], ◌∷◌, drop, IfOk, OnOk, option_copied, option_map};
+ghost use Rattle.celf_explicit.specs.Locals.{plain_place, plain_locals};
 ghost use Rattle.celf_explicit.specs.Reading as spec;
 
 use crate::scope::same_name;
@@ -77,7 +77,7 @@ impl<'a> Locals<'a> {
 
     /// Drops the newest binder.
     pub fn pop(&mut self)
-        ensures { (l : Declared) (ls : List Declared) → self.old ≡ l ∷ ls → self.new ≡ ls }
+        ensures { self.new ≡ drop 1 self.old }
     {
         self.locals.pop();
     }

@@ -14,11 +14,13 @@ pub fn mode_at(place: Option<&Simple>) -> Mode
     ensures { result ≡ spec.mode_at (option_map plain_simple (option_copied place.entry)) }
 {
     match place {
-        Some(Simple::Fun {
-            mode,
-            dom: _,
-            cod: _,
-        }) => *mode,
+        Some(
+            Simple::Fun {
+                mode,
+                dom: _,
+                cod: _,
+            },
+        ) => *mode,
         Some(Simple::Atom(_) | Simple::With { .. } | Simple::Top | Simple::Monad { .. }) | None => {
             Mode::Linear
         }
@@ -31,11 +33,13 @@ pub fn domain<'a>(place: Option<&'a Simple>) -> Option<&'a Simple>
     ensures { option_map plain_simple (option_copied result) ≡ spec.domain (option_map plain_simple (option_copied place.entry)) }
 {
     match place {
-        Some(Simple::Fun {
-            mode: _,
-            dom,
-            cod: _,
-        }) => Some(dom.get()),
+        Some(
+            Simple::Fun {
+                mode: _,
+                dom,
+                cod: _,
+            },
+        ) => Some(dom.get()),
         Some(Simple::Atom(_) | Simple::With { .. } | Simple::Top | Simple::Monad { .. }) | None => {
             None
         }
@@ -48,11 +52,13 @@ pub fn codomain<'a>(place: Option<&'a Simple>) -> Option<&'a Simple>
     ensures { option_map plain_simple (option_copied result) ≡ spec.codomain (option_map plain_simple (option_copied place.entry)) }
 {
     match place {
-        Some(Simple::Fun {
-            mode: _,
-            dom: _,
-            cod,
-        }) => Some(cod.get()),
+        Some(
+            Simple::Fun {
+                mode: _,
+                dom: _,
+                cod,
+            },
+        ) => Some(cod.get()),
         Some(Simple::Atom(_) | Simple::With { .. } | Simple::Top | Simple::Monad { .. }) | None => {
             None
         }
