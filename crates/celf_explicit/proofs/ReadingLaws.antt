@@ -1,16 +1,11 @@
 -- The search for a local binder.
-use Rattle.std.specs.Prelude.{ℕ, ◌+◌, suc, Bool, true, false, ◌≡◌, ◌<◌, List, [], ◌∷◌, ◌++◌, map, reverse, length, take, drop, get_or, Option, None, Some, option_map, refl}
-use Rattle.std.proofs.Common.{ap, sym, ◌∙◌, ◌-◌, ◌≤◌, arith, append-nil, append_assoc, add-one}
-use Rattle.std.proofs.Math.Seq.{drop-cons, take-length}
+use Rattle.std.specs.Prelude.{ℕ, ◌+◌, true, false, ◌≡◌, ◌<◌, List, [], ◌∷◌, map, reverse, length, take, get_or, Option, None, Some, refl}
+use Rattle.std.proofs.Common.{ap, sym, ◌∙◌, ◌-◌, ◌≤◌, arith}
+use Rattle.std.proofs.Math.Seq.{take-length}
 use Rattle.std.proofs.lemmas.List.{take_more, map-append, reverse-append}
-use Rattle.clf_syntax.specs.Tree.{Elimination}
-use Rattle.clf_sig.specs.Entry.{PlainSignature}
-use Rattle.celf_sugar.specs.declared.plain.PElim.{PElim}
-use Rattle.celf_sugar.specs.Plain.{plain_elim}
 use Rattle.clf_syntax.specs.declared.tree.Head.TheVariants.{Var}
-use Rattle.celf_explicit.specs.Reading.{Place, Local, combined, Typed, behind, read_act, has_name, local_from}
+use Rattle.celf_explicit.specs.Reading.{Local, Typed, has_name, local_from}
 use Rattle.celf_explicit.specs.Locals.{Declared, plain_place, plain_local, plain_locals}
-use Rattle.celf_explicit.specs.ReadingLists.{read_acts, with_more}
 
 -- the newest of one more
 newest : {X Y : Type 0} (f : X → Y) (xs : List X) (i : ℕ) (x : X) → i < length xs → x ≡ get_or xs i x → reverse (map f (take (i + 1) xs)) ≡ f x ∷ reverse (map f (take i xs))

@@ -2,14 +2,13 @@
 use Rattle.std.specs.Prelude.{ℕ, List, map, Option, option_map}
 use Rattle.clf_syntax.specs.declared.tree.Simple.{Simple}
 use Rattle.clf_syntax.specs.PlainSimple.{plain_simple}
-use Rattle.clf_syntax.specs.declared.tree.Head.{Head}
 use Rattle.clf_syntax.specs.declared.tree.Obj.{Obj}
 use Rattle.clf_syntax.specs.declared.tree.Ty.{Ty}
 use Rattle.clf_syntax.specs.Plain.{plain_obj}
 use Rattle.clf_syntax.specs.PlainTypes.{plain_ty}
 use Rattle.clf_syntax.specs.Tree.{Object}
 use Rattle.clf_syntax.specs.TypeTree.{PlainType}
-use Rattle.celf_explicit.specs.Reading.{Place, Local, Typed}
+use Rattle.celf_explicit.specs.Reading.{Place, Local}
 
 abbrev pub Declared : Type 0
 Declared = Option (List ℕ) × Option Simple

@@ -1,5 +1,5 @@
 -- What names mean over a signature.
-use Rattle.std.specs.Prelude.{ℕ, Bool, true, false, ◌||◌, if◌then◌else◌, List, [], ◌∷◌, Option, Some, None, is_some, option_and_then}
+use Rattle.std.specs.Prelude.{ℕ, Bool, false, ◌||◌, if◌then◌else◌, List, [], ◌∷◌, Option, Some, None, is_some, option_and_then}
 use Rattle.std.specs.List.{list_any}
 use Rattle.clf_syntax.specs.Word.{is_capital, same_bytes}
 use Rattle.clf_sig.specs.Entry.{PlainClass, family_of, constant_of, PlainSignature, place_of, class_at}

@@ -1,5 +1,5 @@
 -- The reading of a spine, as one of a list.
-use Rattle.std.specs.Prelude.{◌≡◌, List, [], ◌∷◌, ◌++◌, Option, Some, None, option_map, refl}
+use Rattle.std.specs.Prelude.{◌≡◌, List, [], ◌∷◌, ◌++◌, Option, Some, option_map, refl}
 use Rattle.std.proofs.Common.{ap}
 use Rattle.clf_syntax.specs.Tree.{Elimination}
 use Rattle.clf_sig.specs.Entry.{PlainSignature}

@@ -1,7 +1,6 @@
 -- The names of an item that have no meaning at their places, and the first of them.
 use Rattle.std.specs.Prelude.{ℕ, List, [], ◌∷◌, ◌++◌, Option, Some, None, is_some, if◌then◌else◌}
 use Rattle.std.specs.List.{flat_map}
-use Rattle.celf_surface.specs.declared.surface.SMode.{SMode}
 use Rattle.celf_sugar.specs.declared.plain.PName.{PName}
 use Rattle.celf_sugar.specs.declared.plain.PBinder.{PBinder}
 use Rattle.clf_sig.specs.Entry.{PlainSignature}

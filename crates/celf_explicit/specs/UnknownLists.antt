@@ -1,5 +1,5 @@
 -- The names without a meaning in the parts of a list, as one list.
-use Rattle.std.specs.Prelude.{ℕ, ◌≡◌, List, [], ◌∷◌, ◌++◌, Option, refl}
+use Rattle.std.specs.Prelude.{ℕ, ◌≡◌, List, [], ◌∷◌, ◌++◌, refl}
 use Rattle.std.specs.List.{flat_map}
 use Rattle.std.proofs.Common.{ap}
 use Rattle.celf_surface.specs.declared.surface.SMode.{SMode}

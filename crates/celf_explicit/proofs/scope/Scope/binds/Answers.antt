@@ -1,6 +1,5 @@
-use Rattle.std.proofs.Common.{◌≡◌, ◌∙◌, sym, ap, arith, true, false}
+use Rattle.std.proofs.Common.{◌∙◌, sym, arith}
 use Rattle.clf_syntax.specs.Word.{same_bytes}
-use Rattle.std.specs.List.{list_any}
 use Rattle.celf_explicit.proofs.ScopeLaws.{any_here, any_next}
 use Rattle.celf_explicit.proofs.scope.Scope.binds.Goals as goal
 

@@ -1,5 +1,5 @@
 -- The names that are to be kept are still there.
-use Rattle.std.proofs.Common.{◌≡◌, ◌≤◌, map, take, length}
+use Rattle.std.proofs.Common.{◌≡◌, ◌≤◌, take, length}
 use Rattle.celf_explicit.proofs.scope.Scope.keep.Given as goal
 
 abbrev pub invariant-loop-self : goal.invariant-loop-self
