@@ -1,0 +1,10 @@
+pub use Rattle.clf_syntax.specs.Word
+pub use Rattle.clf_syntax.specs.Tree
+pub use Rattle.clf_sig.specs.Entry
+pub use Rattle.celf_sugar.specs.Plain
+pub mod Names
+pub mod Unknown
+pub mod UnknownLists
+pub mod Reading
+pub mod ReadingLists
+pub mod Locals

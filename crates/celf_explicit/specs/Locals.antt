@@ -1,0 +1,27 @@
+-- What contracts see of local binders: the name and the simple type of each; and their plain forms.
+use Rattle.std.specs.Prelude.{ℕ, List, map, Option, option_map}
+use Rattle.clf_syntax.specs.declared.tree.Simple.{Simple}
+use Rattle.clf_syntax.specs.PlainSimple.{plain_simple}
+use Rattle.clf_syntax.specs.declared.tree.Obj.{Obj}
+use Rattle.clf_syntax.specs.declared.tree.Ty.{Ty}
+use Rattle.clf_syntax.specs.Plain.{plain_obj}
+use Rattle.clf_syntax.specs.PlainTypes.{plain_ty}
+use Rattle.clf_syntax.specs.Tree.{Object}
+use Rattle.clf_syntax.specs.TypeTree.{PlainType}
+use Rattle.celf_explicit.specs.Reading.{Place, Local}
+
+abbrev pub Declared : Type 0
+Declared = Option (List ℕ) × Option Simple
+
+abbrev pub plain_place : Option Simple → Place
+plain_place t = option_map plain_simple t
+
+abbrev pub plain_local : Declared → Local
+plain_local l = (l.0, plain_place l.1)
+
+abbrev pub plain_locals : List Declared → List Local
+plain_locals ls = map plain_local ls
+
+-- an object and its type
+abbrev pub plain_check : Obj × Ty → Object × PlainType
+plain_check p = (plain_obj p.0, plain_ty p.1)
