@@ -8,3 +8,4 @@ pub mod UnknownLists
 pub mod Reading
 pub mod ReadingLists
 pub mod Locals
+pub mod Entries

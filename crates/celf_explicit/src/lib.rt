@@ -2,6 +2,7 @@
 #![tactic(auto)]
 
 mod earliest;
+mod entry;
 mod locals;
 mod meaning;
 mod place;
@@ -9,5 +10,6 @@ mod read;
 mod scope;
 mod unknown;
 
+pub use entry::read_entry;
 pub use read::{read_check, read_type};
 pub use unknown::first_unknown;
