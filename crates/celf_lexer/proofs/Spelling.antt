@@ -154,7 +154,7 @@ drop-word : (word rest : List ℕ) → is_word word ≡ true → ends_word rest 
 drop-word word rest h ends = drop_at word rest (word_length (word ++ rest)) (sym (word_length-append word rest h ends))
 
 -- a byte that passes a test is none that fails it
-other_byte : (test : ℕ → Bool) (b c : ℕ) → test b ≡ true → test c ≡ false → (b == c) ≡ false
+pub other_byte : (test : ℕ → Bool) (b c : ℕ) → test b ≡ true → test c ≡ false → (b == c) ≡ false
 other_byte test b c passes fails = ne_eqb b c (λ same. let e : true ≡ false = sym passes ∙ (ap test same ∙ fails) in absurd (cc))
 
 gap-word : (word rest : List ℕ) → is_word word ≡ true → gap (word ++ rest) ≡ 0
@@ -218,6 +218,10 @@ declarable_name name h =
       kind_is = word_kind-name name (not-true _ keyword.1) (not-true _ hole.1) (not-true _ number.1);
       short = leb-true (length name) 255 size.1;
     }
+
+-- It is a word.
+pub declarable-word : (name : List ℕ) → IsTrue (is_declarable name) → is_word name ≡ true
+declarable-word name h = (declarable_name name h).stands
 
 pub tokens-name : (name rest : List ℕ) (ts : List Lexeme) → IsTrue (is_declarable name) → ends_word rest ≡ true
     → AreTokens ts (name ++ rest) → (capital : Bool) × BeginsWith (kind.Name capital) name rest ts

@@ -1,0 +1,17 @@
+pub mod Options
+pub mod Places
+pub mod Bare
+pub mod WellFormed
+pub mod Printed
+pub mod Standing
+pub mod Spelled
+pub mod ReadsBack
+pub mod Signs
+pub mod Variables
+pub mod Locals
+pub mod Meaning
+pub mod ObjectStanding
+pub mod ObjectSpelled
+pub mod PairSign
+pub mod ObjectText
+pub mod ChecksBack

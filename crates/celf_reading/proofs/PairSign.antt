@@ -1,0 +1,56 @@
+-- The text of an object may stand behind a <: it makes no other sign of it.
+use Rattle.std.proofs.Common.{ℕ, ◌≡◌, ◌==◌, nat_lt, Bool, true, false, ◌||◌, refl, Option, Some, None, List, [], ◌∷◌, ◌++◌, append_assoc, slice_get, codes, IsTrue}
+use Rattle.std.proofs.lemmas.Bool.{and_parts, and_right}
+use Rattle.clf_syntax.specs.declared.tree.Head.TheVariants.{Const, Var, Meta}
+use Rattle.clf_syntax.specs.Tree.{Object, lam, pair, unit, monadic, atomic, hole, PlainNeutral, bare, app, fst, snd}
+use Rattle.clf_syntax.specs.Word.{begins_word, goes_on, is_word_rest, is_word, is_variable_word, is_declarable}
+use Rattle.clf_sig.specs.Entry.{PlainEntry, PlainSignature}
+use Rattle.celf_lexer.proofs.Spelling.{other_byte, declarable-word}
+use Rattle.clf_printer.specs.Text.{when, written_name, place_text, argument_text, is_atom, object_text, neutral_text}
+use Rattle.celf_reading.specs.Bare.{IsBareSignature}
+use Rattle.celf_reading.proofs.Bare.{bare-get}
+use Rattle.celf_reading.proofs.Spelled.{place_text-entry}
+use Rattle.celf_reading.proofs.Signs.{begins_greater, stays_less}
+
+name-stays : (name rest : List ℕ) → is_word name ≡ true → begins_greater rest ≡ false → stays_less (name ++ rest) ≡ true
+name-stays [] rest h ends = absurd (cc)
+name-stays (b ∷ []) rest h ends =
+    let begins : begins_word b ≡ true = (and_parts (begins_word b) true h).0 in
+    rw (other_byte (λ x. begins_word x) b 62 begins refl, other_byte (λ x. begins_word x) b 45 begins refl, ends, and_right (b == 84) false refl)
+name-stays (b ∷ c ∷ cs) rest h ends =
+    let parts = and_parts (begins_word b) (is_word_rest (c ∷ cs)) h in
+    let more : goes_on c cs ≡ true = (and_parts (goes_on c cs) (is_word_rest cs) parts.1).0 in
+    rw (other_byte (λ x. begins_word x) b 62 parts.0 refl, other_byte (λ x. begins_word x) b 45 parts.0 refl, other_byte (λ x. goes_on x cs) c 62 more refl, and_right (b == 84) false refl)
+
+written-stays : (name : List ℕ) (e : PlainEntry) (rest : List ℕ) → IsTrue (is_declarable name) → begins_greater rest ≡ false → stays_less (written_name name e ++ rest) ≡ true
+written-stays name e rest fit ends = go (nat_lt 0 e.implicit || is_variable_word name)
+  where
+    go : (dollar : Bool) → stays_less (when dollar (codes "$") ++ name ++ rest) ≡ true
+    go true = refl
+    go false = name-stays name rest (declarable-word name fit) ends
+
+place-stays : (sig : PlainSignature) (c : ℕ) (rest : List ℕ) → IsBareSignature sig → begins_greater rest ≡ false → stays_less (place_text sig c ++ rest) ≡ true
+place-stays sig c rest formed ends = go (slice_get sig c) refl
+  where
+    go : (e : Option (List ℕ × PlainEntry)) → slice_get sig c ≡ e → stays_less (place_text sig c ++ rest) ≡ true
+    go None is = rw is refl
+    go (Some e) is = rw (place_text-entry sig c e is) (written-stays e.0 e.1 rest (bare-get sig c e formed is).declarable ends)
+
+module _ (sig : PlainSignature) (metas : List ℕ) (formed : IsBareSignature sig) where
+  neutral-stays : (r : PlainNeutral) (level : ℕ) (rest : List ℕ) → begins_greater rest ≡ false → stays_less (neutral_text sig metas level r ++ rest) ≡ true
+  neutral-stays (bare (Const c)) level rest ends = place-stays sig c rest formed ends
+  neutral-stays (bare (Var i)) level rest ends = refl
+  neutral-stays (bare (Meta k)) level rest ends = refl
+  neutral-stays (app m r n) level rest ends =
+      let argument : List ℕ = argument_text m (is_atom n) (object_text sig metas level n) in
+      rw (append_assoc (neutral_text sig metas level r) argument rest) (neutral-stays r level (argument ++ rest) refl)
+  neutral-stays (fst r) level rest ends = refl
+  neutral-stays (snd r) level rest ends = refl
+
+  pub object-stays : (n : Object) (level : ℕ) (rest : List ℕ) → begins_greater rest ≡ false → stays_less (object_text sig metas level n ++ rest) ≡ true
+  object-stays (lam m b) level rest ends = refl
+  object-stays (pair l r) level rest ends = refl
+  object-stays unit level rest ends = refl
+  object-stays (monadic e) level rest ends = refl
+  object-stays (atomic r) level rest ends = neutral-stays r level rest ends
+  object-stays hole level rest ends = refl

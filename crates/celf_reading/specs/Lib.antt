@@ -1,0 +1,15 @@
+pub use Rattle.clf_syntax.specs.Word
+pub use Rattle.clf_syntax.specs.TypeTree
+pub use Rattle.clf_sig.specs.Entry
+pub use Rattle.celf_lexer.specs.Tokens
+pub use Rattle.celf_surface.specs.Surface
+pub use Rattle.celf_grammar.specs.State
+pub use Rattle.celf_grammar.specs.Grammar
+pub use Rattle.celf_sugar.specs.PlainTree
+pub use Rattle.celf_sugar.specs.Sugar
+pub use Rattle.celf_sugar.specs.Faults
+pub use Rattle.celf_explicit.specs.Entries
+pub use Rattle.clf_printer.specs.Text
+pub mod Reading
+pub mod Checks
+pub mod Bare

@@ -1,0 +1,4 @@
+pub mod Text
+pub mod Spine
+pub mod Metas
+pub mod Entry
