@@ -15,6 +15,7 @@ use Rattle.clf_sig.specs.Entry.{PlainSignature}
 use Rattle.clf_kernel.specs.Typing.{HasType}
 use Rattle.clf_printer.specs.declared.place.Place.TheVariants.{Whole as whole}
 use Rattle.clf_printer.specs.Text.{object_text, type_text}
+use Rattle.clf_printer.specs.Metas.{appearing, appearing_type}
 use Rattle.celf_reading.specs.Bare.{IsBareSignature, IsBareType}
 use Rattle.celf_reading.specs.Checks.{scope_depth, Asks, ReadsCheck, ChecksBack}
 use Rattle.celf_reading.proofs.Printed.{IsPrinted}
@@ -85,4 +86,5 @@ line-reads sig n a x y p q =
 -- Over a bare signature the printed line of an object of a bare type reads back as both.
 pub checks_read_back : (sig : PlainSignature) (n : Object) (a : PlainType) → IsBareSignature sig → IsBareType sig a → scope_depth n < 2 ^ 64 → HasType sig [] [] n a → ChecksBack sig n a
 checks_read_back sig n a formed is_bare small p =
-    line-reads sig n a (object_text sig [] 0 n) (type_text sig [] 0 whole a) (object_text-spells sig [] n a formed is_bare small p) (type_text-spells sig [] 0 whole a formed is_bare)
+    line-reads sig n a (object_text sig (appearing [] n) 0 n) (type_text sig (appearing_type [] a) 0 whole a) (object_text-spells sig (appearing [] n) n a formed is_bare small p)
+    (type_text-spells sig (appearing_type [] a) 0 whole a formed is_bare)

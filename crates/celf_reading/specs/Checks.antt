@@ -13,6 +13,7 @@ use Rattle.clf_syntax.specs.TypeTree.{PlainType}
 use Rattle.clf_sig.specs.Entry.{PlainSignature}
 use Rattle.clf_printer.specs.declared.place.Place.TheVariants.{Whole}
 use Rattle.clf_printer.specs.Text.{object_text, type_text}
+use Rattle.clf_printer.specs.Metas.{appearing, appearing_type}
 use Rattle.celf_explicit.specs.Reading.{read_check}
 
 -- how many variables are bound around the innermost part of an object
@@ -41,7 +42,7 @@ abbrev mutual
 
 -- an object and its type, with a colon between
 abbrev pub judgment_text : PlainSignature → Object → PlainType → List ℕ
-judgment_text sig n a = object_text sig [] 0 n ++ codes " : " ++ type_text sig [] 0 Whole a ++ codes ".\n"
+judgment_text sig n a = object_text sig (appearing [] n) 0 n ++ codes " : " ++ type_text sig (appearing_type [] a) 0 Whole a ++ codes ".\n"
 
 -- the line of an object that has its type
 abbrev pub check_line : PlainSignature → Object → PlainType → List ℕ
