@@ -17,7 +17,8 @@ use Rattle.clf_printer.specs.declared.place.Place.TheVariants.{Whole as whole}
 use Rattle.clf_printer.specs.Text.{object_text, type_text}
 use Rattle.clf_printer.specs.Metas.{appearing, appearing_type}
 use Rattle.celf_reading.specs.Bare.{IsBareSignature, IsBareType}
-use Rattle.celf_reading.specs.Checks.{scope_depth, Asks, ReadsCheck, ChecksBack}
+use Rattle.celf_reading.specs.Checks.{Asks, ReadsCheck, ChecksBack}
+use Rattle.clf_printer.specs.Depth.{scope_depth}
 use Rattle.celf_reading.proofs.Printed.{IsPrinted}
 use Rattle.celf_reading.proofs.Standing.{state, behind, read-type}
 use Rattle.celf_reading.proofs.Spelled.{Spells, type_text-spells}

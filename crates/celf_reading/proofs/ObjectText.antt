@@ -17,7 +17,7 @@ use Rattle.clf_kernel.specs.Typing.{HeadHasType, HasType, NeutralHasType}
 use Rattle.clf_kernel.proofs.WithoutIndices.{renamed-type, same-type}
 use Rattle.clf_printer.specs.Text.{when, variable_text, used_variable_text, place_text, grouped, is_application, is_atom, object_text, neutral_text}
 use Rattle.celf_reading.specs.Bare.{IsBareType, IsBareSignature}
-use Rattle.celf_reading.specs.Checks.{scope_depth, neutral_depth}
+use Rattle.clf_printer.specs.Depth.{scope_depth, neutral_depth}
 use Rattle.celf_reading.proofs.Bare.{without_indices-bare}
 use Rattle.celf_reading.proofs.Spelled.{place_text-entry}
 use Rattle.celf_reading.proofs.Variables.{variable-declarable}

@@ -1,5 +1,5 @@
 -- The printed line of an object that has its type, and that it reads back as both.
-use Rattle.std.specs.Prelude.{ℕ, ◌+◌, max, ◌≡◌, List, [], ◌∷◌, ◌++◌, length, Some, None, codes}
+use Rattle.std.specs.Prelude.{ℕ, ◌≡◌, List, [], ◌∷◌, ◌++◌, Some, codes}
 use Rattle.celf_lexer.specs.Tokens.{Lexeme, tokens_from}
 use Rattle.celf_lexer.specs.declared.token.TokenKind.TheVariants.{End}
 use Rattle.celf_surface.specs.Surface.{PlainItem as Written}
@@ -8,37 +8,13 @@ use Rattle.celf_grammar.specs.Grammar.{IsItem}
 use Rattle.celf_sugar.specs.Faults.{first_fault}
 use Rattle.celf_sugar.specs.Sugar.{desugared}
 use Rattle.celf_sugar.specs.PlainTree as plain
-use Rattle.clf_syntax.specs.Tree.{Object, lam, pair, unit, monadic, atomic, hole, PlainNeutral, bare, app, fst, snd, Expression, step, done, Tuple, empty, entry}
+use Rattle.clf_syntax.specs.Tree.{Object}
 use Rattle.clf_syntax.specs.TypeTree.{PlainType}
 use Rattle.clf_sig.specs.Entry.{PlainSignature}
 use Rattle.clf_printer.specs.declared.place.Place.TheVariants.{Whole}
 use Rattle.clf_printer.specs.Text.{object_text, type_text}
 use Rattle.clf_printer.specs.Metas.{appearing, appearing_type}
 use Rattle.celf_explicit.specs.Reading.{read_check}
-
--- how many variables are bound around the innermost part of an object
-abbrev mutual
-  pub scope_depth : Object → ℕ
-  scope_depth (lam m b) = scope_depth b + 1
-  scope_depth (pair l r) = max (scope_depth l) (scope_depth r)
-  scope_depth unit = 0
-  scope_depth (monadic e) = expression_depth e
-  scope_depth (atomic n) = neutral_depth n
-  scope_depth hole = 0
-
-  pub neutral_depth : PlainNeutral → ℕ
-  neutral_depth (bare h) = 0
-  neutral_depth (app m r n) = max (neutral_depth r) (scope_depth n)
-  neutral_depth (fst r) = neutral_depth r
-  neutral_depth (snd r) = neutral_depth r
-
-  pub expression_depth : Expression → ℕ
-  expression_depth (step ms r e) = max (neutral_depth r) (expression_depth e + length ms)
-  expression_depth (done t) = tuple_depth t
-
-  pub tuple_depth : Tuple → ℕ
-  tuple_depth empty = 0
-  tuple_depth (entry m n t) = max (scope_depth n) (tuple_depth t)
 
 -- an object and its type, with a colon between
 abbrev pub judgment_text : PlainSignature → Object → PlainType → List ℕ

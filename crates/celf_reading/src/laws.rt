@@ -1,7 +1,8 @@
 //! What holds of the printed lines.
 
 ghost use Rattle.celf_reading.specs.Bare.{IsBareEntry, IsBareSignature, IsBareType};
-ghost use Rattle.celf_reading.specs.Checks.{ChecksBack, scope_depth};
+ghost use Rattle.celf_reading.specs.Checks.{ChecksBack};
+ghost use Rattle.clf_printer.specs.Depth.{scope_depth};
 ghost use Rattle.celf_reading.specs.Reading.{ReadsBack};
 ghost use Rattle.clf_kernel.specs.Typing.{HasType};
 ghost use Rattle.clf_sig.specs.Entry.{PlainEntry, PlainSignature};

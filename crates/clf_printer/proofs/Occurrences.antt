@@ -3,7 +3,7 @@ use Rattle.std.specs.Prelude.{ℕ, ◌≡◌, ◌||◌, ◌∷◌, [], List, Boo
 use Rattle.std.specs.List.{list_any}
 use Rattle.std.proofs.Common.{ap, sym, ◌∙◌}
 use Rattle.clf_syntax.specs.Plain.{plain_laws}
-use Rattle.clf_syntax.specs.Occurs.{occurs, occurs_neutral}
+use Rattle.clf_syntax.specs.Occurs.{occurs_neutral}
 use Rattle.clf_syntax.specs.Tree.{PlainNeutral, Elimination, arg, first, second, eliminated, spine_on}
 use Rattle.clf_printer.specs.Spine.{occurs_elimination}
 

@@ -1,5 +1,5 @@
 -- The name of a place, by the name and the entry there.
-use Rattle.std.proofs.Common.{ℕ, zero, suc, ◌≡◌, ◌||◌, nat_lt, slice_get, refl, ap, Option, Some, None, List, [], ◌∷◌, ◌++◌, codes}
+use Rattle.std.proofs.Common.{ℕ, zero, suc, ◌≡◌, ◌||◌, nat_lt, slice_get, refl, ap, Some, None, List, [], ◌∷◌, ◌++◌, codes}
 use Rattle.clf_syntax.specs.Word.{is_variable_word}
 use Rattle.clf_sig.specs.Entry.{PlainSignature, PlainEntry, names, entry_at}
 use Rattle.clf_printer.specs.Text.{when, place_text}

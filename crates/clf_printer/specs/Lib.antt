@@ -2,3 +2,4 @@ pub mod Text
 pub mod Spine
 pub mod Metas
 pub mod Entry
+pub mod Depth

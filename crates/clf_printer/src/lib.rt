@@ -10,7 +10,8 @@ mod text;
 mod types;
 mod words;
 
-pub use text::{entry_text, object_text, type_text};
+pub use text::{declaration_text, entry_text, object_text, type_text};
+pub use words::{push_number, push_place, push_variable};
 
 #[cfg(test)]
 mod tests;

@@ -1,10 +1,11 @@
 //! The texts.
-ghost use Rattle.std.specs.Prelude.{◌≡◌, IfOk};
+ghost use Rattle.std.specs.Prelude.{◌≡◌, ◌+◌, ◌<◌, ◌^◌, [], IfOk, OnOk};
 ghost use Rattle.clf_syntax.specs.Plain.{plain_obj};
 ghost use Rattle.clf_syntax.specs.PlainTypes.{plain_ty};
-ghost use Rattle.clf_sig.specs.Signature.{plain_signature};
+ghost use Rattle.clf_sig.specs.Signature.{plain_signature, plain_entry};
 ghost use Rattle.clf_printer.specs.declared.place.Place.TheVariants.{Whole};
 ghost use Rattle.clf_printer.specs.Text as spec;
+ghost use Rattle.clf_printer.specs.Depth.{scope_depth};
 ghost use Rattle.clf_printer.specs.Metas.{appearing, appearing_type};
 ghost use Rattle.clf_printer.specs.Entry.{entry_text as entry_text_of};
 
@@ -13,14 +14,15 @@ use crate::metas::{note_class, note_object, note_type};
 use crate::objects::push_object;
 use crate::place::Place;
 use crate::types::push_type;
-use clf_sig::Signature;
+use clf_sig::{Entry, Signature};
 use clf_syntax::{Obj, Ty};
 use std::alloc::{AllocError, Global};
 
 /// The text of an object under `level` binders.
 ///
 /// `metas` lists the metavariables that have their numbers already, the first of them `?1`; the others are numbered behind
-/// them, by first appearance. It fails only where memory runs out.
+/// them, by first appearance. It fails only where memory runs out, so an object that has a text nests fewer binders than
+/// 2^64.
 pub fn object_text(
     alloc: Global,
     sig: &Signature,
@@ -28,7 +30,8 @@ pub fn object_text(
     metas: &[u32],
     obj: &Obj,
 ) -> Result<Vec<u8>, AllocError>
-    ensures { IfOk result (λ text. text.items ≡ spec.object_text (plain_signature sig.now) (appearing metas.now (plain_obj obj.now)) level (plain_obj obj.now)) }
+    ensures text { IfOk result (λ text. text.items ≡ spec.object_text (plain_signature sig.now) (appearing metas.now (plain_obj obj.now)) level (plain_obj obj.now)) }
+    ensures depth { OnOk result (level + scope_depth (plain_obj obj.now) < 2 ^ 64) }
 {
     let mut numbered = Vec::from_slice(alloc, metas)?;
     note_object(&mut numbered, obj)?;
@@ -78,5 +81,19 @@ pub fn entry_text(alloc: Global, sig: &Signature, k: u32) -> Result<Vec<u8>, All
     let mut numbered = Vec::new(alloc);
     note_class(&mut numbered, &entry.class)?;
     push_declaration(&mut text, sig, numbered.as_slice(), name, entry)?;
+    Ok(text)
+}
+
+/// The text of an entry without metavariables under a name, over the entries before it. It fails only where memory runs out.
+pub fn declaration_text(
+    alloc: Global,
+    sig: &Signature,
+    name: &str,
+    entry: &Entry,
+) -> Result<Vec<u8>, AllocError>
+    ensures { IfOk result (λ text. text.items ≡ spec.declaration_text (plain_signature sig.now) [] name.now (plain_entry entry.now)) }
+{
+    let mut text = Vec::new(alloc);
+    push_declaration(&mut text, sig, &[], name, entry)?;
     Ok(text)
 }

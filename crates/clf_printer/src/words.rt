@@ -85,7 +85,7 @@ pub fn push_place(out: &mut Vec<u8>, sig: &Signature, place: u32) -> Result<(), 
 }
 
 /// Writes the variable of a number.
-fn push_variable(out: &mut Vec<u8>, number: u64) -> Result<(), AllocError>
+pub fn push_variable(out: &mut Vec<u8>, number: u64) -> Result<(), AllocError>
     ensures { OnOk result (out.new.items ≡ out.old.items ++ spec.variable_text number) }
 {
     out.push(b'x')?;

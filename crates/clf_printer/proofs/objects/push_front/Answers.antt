@@ -1,4 +1,4 @@
-use Rattle.std.proofs.Common.{◌≡◌, ◌-◌, ◌++◌, ◌∙◌, sym, ap, arith, map, take, append_assoc}
+use Rattle.std.proofs.Common.{◌-◌, ◌++◌, ◌∙◌, sym, ap, arith, map, take, append_assoc}
 use Rattle.clf_syntax.specs.Plain.{plain_elim}
 use Rattle.clf_syntax.specs.Tree.{bare, spine_on}
 use Rattle.clf_printer.specs.Text.{is_application}

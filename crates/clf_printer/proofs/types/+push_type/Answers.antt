@@ -1,4 +1,4 @@
-use Rattle.std.proofs.Common.{ℕ, ◌+◌, ◌-◌, ◌<◌, ◌≡◌, ◌&&◌, length, map, drop, arith, sym, ap, ◌∙◌}
+use Rattle.std.proofs.Common.{◌+◌, ◌-◌, ◌<◌, ◌&&◌, length, map, drop, arith, sym, ap, ◌∙◌}
 use Rattle.clf_syntax.specs.declared.tree.Mode.{Mode}
 use Rattle.clf_syntax.specs.TypeTree.{PlainType, telescope_of}
 use Rattle.clf_syntax.specs.PlainTypes.{plain_tele_entry, plain-tele-entry}
