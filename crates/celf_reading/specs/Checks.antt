@@ -1,5 +1,5 @@
 -- The printed line of an object that has its type, and that it reads back as both.
-use Rattle.std.specs.Prelude.{ℕ, ◌≡◌, List, [], ◌∷◌, ◌++◌, Some, codes}
+use Rattle.std.specs.Prelude.{ℕ, ◌≡◌, List, [], ◌∷◌, ◌++◌, None, Some, codes}
 use Rattle.celf_lexer.specs.Tokens.{Lexeme, tokens_from}
 use Rattle.celf_lexer.specs.declared.token.TokenKind.TheVariants.{End}
 use Rattle.celf_surface.specs.Surface.{PlainItem as Written}
