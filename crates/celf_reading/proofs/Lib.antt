@@ -15,3 +15,5 @@ pub mod ObjectSpelled
 pub mod PairSign
 pub mod ObjectText
 pub mod ChecksBack
+pub mod WithinReach
+pub mod Judged
