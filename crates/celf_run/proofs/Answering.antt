@@ -1,21 +1,21 @@
--- From what was found of a declaration to its answer.
-use Rattle.std.proofs.Common.{ℕ, ◌≡◌, ◌≢◌, true, false, refl, ap, sym, ◌∙◌, subst, Option, Some, None, IsSome, is_some, List, [], ◌∷◌, ◌++◌, length, IsTrue, codes, Result, Ok, Err}
+-- From what was found of an item to its answer.
+use Rattle.std.proofs.Common.{ℕ, ◌≡◌, ◌≢◌, Bool, true, false, refl, ap, sym, ◌∙◌, subst, Option, Some, None, IsSome, is_some, List, [], ◌∷◌, ◌++◌, length, IsTrue, codes, Result, Ok, Err, inl, inr}
 use Rattle.std.specs.Prelude.{IfOk, OnOk}
 use Rattle.std.proofs.lemmas.List.{length-map}
-use Rattle.clf_syntax.specs.Word.{is_declarable}
 use Rattle.clf_sig.specs.declared.entry.Entry.{Entry}
-use Rattle.clf_sig.specs.Entry.{PlainClass, PlainSignature, place_of}
-use Rattle.clf_sig.specs.Signature.{Declared, plain_signature, plain_entry}
+use Rattle.clf_sig.specs.Entry.{PlainSignature, place_of}
+use Rattle.clf_sig.specs.Signature.{Declared as Declarations, plain_signature, plain_entry}
 use Rattle.clf_sig.proofs.Names.{plain_signature-append}
-use Rattle.celf_parser.specs.Surface.{Surface, Declaration}
-use Rattle.celf_run.specs.Reading.{class_of, unknown_name}
-use Rattle.celf_run.specs.Text.{entry_line}
-use Rattle.celf_run.specs.Bare.{IsBareSignature, IsBareClass, IsBareEntry}
-use Rattle.celf_run.specs.Transcript.{declares, accepted, refused, room, Allowed, duplicate, full, unknown, declaration, refusal_line}
-use Rattle.celf_run.specs.Answering.{fresh_entry, AnswersBy}
-use Rattle.celf_run.proofs.Rules.{bare-entry}
-use Rattle.celf_run.proofs.Bare.{class_of-bare}
-use Rattle.celf_run.proofs.ReadsBack.{reads_back}
+use Rattle.celf_run.specs.declared.answer.Answered.{Answered}
+use Rattle.celf_surface.specs.Surface.{PlainItem as Written}
+use Rattle.celf_sugar.specs.PlainTree.{PlainItem}
+use Rattle.celf_sugar.specs.Sugar.{desugared}
+use Rattle.celf_sugar.specs.Faults.{first_fault, fault_start}
+use Rattle.celf_sugar.specs.Answers.{IsFirst}
+use Rattle.celf_sugar.specs.declared.fault.SugarFault.{SugarFault}
+use Rattle.celf_sugar.specs.declared.fault.SugarFault.TheVariants.{NoMemory as NoRoom}
+use Rattle.celf_run.specs.Transcript.{Answer, refused, written, sugar_why, PlainAllowed, Allowed, plainly, sugar_fault}
+use Rattle.celf_run.specs.Answering.{AnswersBy, RefusedSo}
 
 none_of : (r : Option ℕ) → is_some r ≡ false → r ≡ None
 none_of None h = refl
@@ -24,53 +24,48 @@ none_of (Some k) h = cc
 pub not-placed : (sig : PlainSignature) (name : List ℕ) (r : Option ℕ) → r ≡ place_of name sig → is_some r ≡ false → place_of name sig ≡ None
 not-placed sig name r e h = sym e ∙ none_of r h
 
-pub plain-length : (sig : Declared) → length (plain_signature sig) ≡ length sig
+pub placed : (sig : PlainSignature) (name : List ℕ) (r : Option ℕ) → r ≡ place_of name sig → is_some r ≡ true → IsSome (place_of name sig)
+placed sig name r e h = sym (ap is_some e) ∙ h
+
+pub plain-length : (sig : Declarations) → length (plain_signature sig) ≡ length sig
 plain-length sig = length-map sig (λ d. (d.0, plain_entry d.1))
 
-pub duplicate-answer : (sig : PlainSignature) (item : Declaration) (name line : List ℕ) (start : ℕ) (r : Option ℕ) → r ≡ place_of name sig → is_some r ≡ true
-    → line ≡ refusal_line start (codes "duplicate " ++ name) → item.name ≡ name → item.span.start ≡ start → AnswersBy sig item true line sig
-duplicate-answer sig item name line start r e h l n s =
-    let P : ℕ → Type 0 = λ k. Allowed sig (declares item) (refused k (codes "duplicate " ++ name)) in
-    let Q : List ℕ → Type 0 = λ w. Allowed sig (declares item) (refused item.span.start (codes "duplicate " ++ w)) in
-    let there : IsSome (place_of item.name sig) = subst (λ (w : List ℕ). IsSome (place_of w sig)) (sym n) (sym (ap is_some e) ∙ h) in
-    (start, codes "duplicate " ++ name, subst P s (subst Q n (duplicate there)), l, refl)
+-- A refusal is an answer where it is allowed.
+pub refusal-answers : {E : Type 0} (Allows : Answer → Type 0) (sig : PlainSignature) (at : ℕ) (why : List ℕ) (r : Result Answered E) → Allows (refused at why)
+    → IfOk r (λ a. RefusedSo at why a.refused a.line.items) → IfOk r (λ a. AnswersBy Allows sig a.refused a.line.items sig)
+refusal-answers Allows sig at why (Ok a) h e = (refused at why, h, e.1, e.0, refl)
+refusal-answers Allows sig at why (Err e) h n = tt
 
-pub full-answer : (sig : PlainSignature) (item : Declaration) (name line : List ℕ) (start : ℕ) → place_of name sig ≡ None → length sig ≡ room
-    → line ≡ refusal_line start (codes "signature full" ++ []) → item.name ≡ name → item.span.start ≡ start → AnswersBy sig item true line sig
-full-answer sig item name line start e h l n s =
-    let P : ℕ → Type 0 = λ k. Allowed sig (declares item) (refused k (codes "signature full")) in
-    let there : place_of item.name sig ≡ None = subst (λ (w : List ℕ). place_of w sig ≡ None) (sym n) e in
-    (start, codes "signature full", subst P s (full there h), l, refl)
-
-pub unknown-answer : (sig : PlainSignature) (item : Declaration) (name line word : List ℕ) (at : ℕ) (t : Surface) → place_of name sig ≡ None → length sig ≢ room
-    → unknown_name sig t ≡ Some (at, word) → line ≡ refusal_line at (codes "unknown name " ++ word) → item.name ≡ name → item.ty ≡ t → AnswersBy sig item true line sig
-unknown-answer sig item name line word at t e h u l n s =
-    let there : place_of item.name sig ≡ None = subst (λ (w : List ℕ). place_of w sig ≡ None) (sym n) e in
-    (at, codes "unknown name " ++ word, unknown there h (ap (unknown_name sig) s ∙ u), l, refl)
-
-pub bare-fresh : (sig : PlainSignature) (class : PlainClass) → IsBareClass sig class → IsBareEntry sig (fresh_entry class)
-bare-fresh sig class h = (h, refl)
-
-pub accepted-answer : (sig new : PlainSignature) (item : Declaration) (name line : List ℕ) (t : Surface) (class : PlainClass) → IsBareSignature sig → IsTrue (is_declarable name)
-    → place_of name sig ≡ None → length sig ≢ room → class_of sig t ≡ Some class → entry_line sig name (fresh_entry class) ≡ Some line
-    → new ≡ sig ++ (name, fresh_entry class) ∷ [] → item.name ≡ name → item.ty ≡ t → AnswersBy sig item false line new
-accepted-answer sig new item name line t class b d e h c l g n s =
-    let entry = fresh_entry class in
-    let bare : IsBareEntry sig entry = bare-fresh sig class (class_of-bare sig t class b c) in
-    let P : List ℕ → Type 0 = λ w. Allowed sig (declares item) (accepted w entry) in
-    let declarable : IsTrue (is_declarable item.name) = ap is_declarable n ∙ d in
-    let allowed = declaration (ap (λ w. place_of w sig) n ∙ e) h declarable (ap (class_of sig) s ∙ c) refl (bare-entry sig entry bare) (reads_back sig item.name entry b declarable bare) in
-    (name, entry, subst P n allowed, l, g)
-
--- A bare entry has a line.
-pub line-some : (sig : PlainSignature) (name : List ℕ) (class : PlainClass) → IsBareSignature sig → IsTrue (is_declarable name) → IsBareClass sig class → IsSome (entry_line sig name (fresh_entry class))
-line-some sig name class b d h = let r = reads_back sig name (fresh_entry class) b d (bare-fresh sig class h) in ap is_some r.1
+-- The same answers are allowed in other words.
+pub answers-as : {E : Type 0} (Allows Others : Answer → Type 0) (old new : PlainSignature) (r : Result Answered E) → ((a : Answer) → Allows a → Others a)
+    → IfOk r (λ a. AnswersBy Allows old a.refused a.line.items new) → IfOk r (λ a. AnswersBy Others old a.refused a.line.items new)
+answers-as Allows Others old new (Ok a) h (answer, b, l, r, s) = (answer, h answer b, l, r, s)
+answers-as Allows Others old new (Err e) h n = tt
 
 -- The signature with one more declaration, in plain form.
-pub plain-added : (old new : Declared) (name : List ℕ) (entry : Entry) → new ≡ old ++ (name, entry) ∷ [] → plain_signature new ≡ plain_signature old ++ (name, plain_entry entry) ∷ []
+pub plain-added : (old new : Declarations) (name : List ℕ) (entry : Entry) → new ≡ old ++ (name, entry) ∷ [] → plain_signature new ≡ plain_signature old ++ (name, plain_entry entry) ∷ []
 plain-added old new name entry e = ap plain_signature e ∙ plain_signature-append old ((name, entry) ∷ [])
 
 -- Three facts of one answer give a fourth.
 pub ok-three : {T E R : Type 0} (P Q S : T → Type 0) (r : Result T E) → ((x : T) → P x → Q x → R → S x) → IfOk r P → IfOk r Q → OnOk r R → IfOk r S
 ok-three P Q S (Ok x) f p q r = f x p q r
 ok-three P Q S (Err e) f p q r = tt
+
+-- A line that refuses so is the answer, where that is allowed.
+pub refused-by : (Allows : Answer → Type 0) (sig : PlainSignature) (at : ℕ) (why line : List ℕ) (r : Bool) → Allows (refused at why) → RefusedSo at why r line → AnswersBy Allows sig r line sig
+refused-by Allows sig at why line r h e = (refused at why, h, e.1, e.0, refl)
+
+-- What answers a plain item answers the item that it is the plain form of.
+pub plainly-answers : {E : Type 0} (sig new : PlainSignature) (item : Written) (p : PlainItem) (r : Result Answered E) → first_fault item ≡ None → p ≡ desugared item
+    → IfOk r (λ a. AnswersBy (PlainAllowed sig p) sig a.refused a.line.items new)
+    → IfOk r (λ a. (text : List ℕ) → AnswersBy (Allowed sig text (written item)) sig a.refused a.line.items new)
+plainly-answers sig new item p (Ok a) clean is (answer, b, l, r, s) = λ text. (answer, plainly clean (subst (λ (q : PlainItem). PlainAllowed sig q answer) is b), l, r, s)
+plainly-answers sig new item p (Err e) clean is n = tt
+
+-- A fault beyond the grammar is refused.
+pub sugar-answers : {E : Type 0} (sig : PlainSignature) (item : Written) (f : SugarFault) (r : Result Answered E) → IsFirst f (first_fault item) → OnOk r (f ≢ NoRoom)
+    → IfOk r (λ a. RefusedSo (fault_start f) (sugar_why f) a.refused a.line.items)
+    → IfOk r (λ a. (text : List ℕ) → AnswersBy (Allowed sig text (written item)) sig a.refused a.line.items sig)
+sugar-answers sig item f (Ok a) (inl e) n h = absurd (n e)
+sugar-answers sig item f (Ok a) (inr e) n h = λ text. refused-by (Allowed sig text (written item)) sig (fault_start f) (sugar_why f) a.line.items a.refused (sugar_fault e) h
+sugar-answers sig item f (Err x) e n h = tt

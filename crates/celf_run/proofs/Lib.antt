@@ -1,11 +1,3 @@
-pub mod Options
-pub mod Places
-pub mod Bare
-pub mod Standing
-pub mod Spelled
-pub mod ReadsBack
-pub mod Rules
-pub mod Meanings
-pub mod Lines
 pub mod Answering
+pub mod Causes
 pub mod Turns

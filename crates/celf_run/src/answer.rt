@@ -1,18 +1,21 @@
-//! Answers to declarations.
-ghost use Rattle.std.specs.Prelude.{ℕ, ◌≡◌, ◌++◌, ◌∷◌, [], ◌≢◌, IsTrue, IfOk, OnOk, OnErr, Some, None, true, false, length};
-ghost use Rattle.clf_syntax.specs.Word.{is_declarable};
-ghost use Rattle.clf_sig.specs.Signature.{plain_signature, plain_class};
-ghost use Rattle.celf_parser.specs.Surface.{declaration, surface, Declaration};
-ghost use Rattle.celf_parser.specs.Grammar.{is_kind_or_type};
-ghost use Rattle.clf_sig.specs.Entry.{place_of};
-ghost use Rattle.celf_run.specs.Bare.{IsBareSignature, IsBareClass};
-ghost use Rattle.celf_run.specs.Text.{entry_line as entry_line_of};
-ghost use Rattle.celf_run.specs.Answering.{AnswersBy, fresh_entry};
+//! Answers to items.
+ghost use Rattle.std.specs.Prelude.{ℕ, List, ◌≡◌, ◌≢◌, ◌++◌, IfOk, OnOk, OnErr, true, codes};
+ghost use Rattle.clf_sig.specs.Signature.{plain_signature};
+ghost use Rattle.celf_surface.specs.Surface.{plain_item as written_item};
+ghost use Rattle.celf_sugar.specs.Sugar.{desugared};
+ghost use Rattle.celf_sugar.specs.Plain.{plain_item};
+ghost use Rattle.celf_sugar.specs.Faults.{fault_start};
+ghost use Rattle.celf_reading.specs.Bare.{IsBareSignature};
+ghost use Rattle.celf_run.specs.Transcript.{written, sugar_why, is_later, Allowed, PlainAllowed};
+ghost use Rattle.celf_run.specs.Answering.{AnswersBy, IsDeclarable, RefusedSo};
 
-use crate::line::{entry_line, refusal_line};
-use crate::meaning::{NoMeaning, class_meant};
-use celf_parser::{Item, ItemBody, SType};
-use clf_sig::{AddFault, Class, Entry, MAX_ENTRIES, Signature};
+use crate::check::check;
+use crate::declare::declare;
+use crate::refusal::refusal_line;
+use celf_explicit::first_unknown;
+use celf_sugar::{PName, Plain, PlainBody, SugarFault, desugar};
+use celf_surface::Item;
+use clf_sig::Signature;
 use std::alloc::{AllocError, Global};
 
 /// The line of an answer, and whether the item is refused.
@@ -22,91 +25,94 @@ pub struct Answered {
     pub refused: bool,
 }
 
-/// Answers a declaration; only an accepted one changes the signature.
+/// Answers an item; only an accepted declaration changes the signature.
 pub fn answer(alloc: Global, sig: &mut Signature, item: &Item) -> Result<Answered, AllocError>
     requires bare { IsBareSignature (plain_signature sig.old) }
-    requires name { IsTrue (is_declarable (declaration item.now).name) }
-    requires whole { is_kind_or_type (declaration item.now).ty ≡ true }
-    ensures answered { IfOk result (λ a. AnswersBy (plain_signature sig.old) (declaration item.now) a.refused a.line.items (plain_signature sig.new)) }
+    requires name { IsDeclarable (desugared (written_item item.now)).body }
+    ensures answered { IfOk result (λ a. (text : List ℕ)
+        → AnswersBy (Allowed (plain_signature sig.old) text (written (written_item item.now))) (plain_signature sig.old) a.refused a.line.items (plain_signature sig.new)) }
     ensures bare { IsBareSignature (plain_signature sig.new) }
     ensures err { OnErr result (sig.new ≡ sig.old) }
 {
-    match &item.body {
-        ItemBody::Declare { name, ty } => declare(alloc, sig, item.span.start, name.as_str(), ty),
+    match desugar(alloc, item) {
+        Ok(plain) => answer_plain(alloc, sig, &plain),
+        Err(fault) => sugar_refusal(alloc, fault),
     }
 }
 
-/// Answers the declaration of a name that begins at byte `start`.
-fn declare(
-    alloc: Global,
-    sig: &mut Signature,
-    start: u32,
-    name: &str,
-    ty: &SType,
-) -> Result<Answered, AllocError>
+/// Answers an item without sugar.
+fn answer_plain(alloc: Global, sig: &mut Signature, plain: &Plain) -> Result<Answered, AllocError>
     requires bare { IsBareSignature (plain_signature sig.old) }
-    requires name { IsTrue (is_declarable name.now) }
-    requires whole { is_kind_or_type (surface ty.now) ≡ true }
-    ensures answered { IfOk result (λ a. (item : Declaration) → item.name ≡ name.now → item.ty ≡ surface ty.now → item.span.start ≡ start
-        → AnswersBy (plain_signature sig.old) item a.refused a.line.items (plain_signature sig.new)) }
+    requires name { IsDeclarable (plain_item plain.now).body }
+    ensures answered { IfOk result (λ a. AnswersBy (PlainAllowed (plain_signature sig.old) (plain_item plain.now)) (plain_signature sig.old) a.refused a.line.items (plain_signature sig.new)) }
     ensures bare { IsBareSignature (plain_signature sig.new) }
     ensures err { OnErr result (sig.new ≡ sig.old) }
 {
-    if sig.find(name).is_some() {
-        let line = refusal_line(alloc, start, b"duplicate ", name.as_bytes())?;
-        return Ok(Answered {
-            line,
-            refused: true,
-        });
-    }
-    if sig.len() == MAX_ENTRIES {
-        let line = refusal_line(alloc, start, b"signature full", b"")?;
-        return Ok(Answered {
-            line,
-            refused: true,
-        });
-    }
-    match class_meant(alloc, sig, ty) {
-        Ok(class) => accepted(alloc, sig, name, class),
-        Err(NoMeaning::Unknown { at, name }) => {
-            let line = refusal_line(alloc, at, b"unknown name ", name.as_str().as_bytes())?;
-            Ok(Answered {
-                line,
-                refused: true,
-            })
-        }
-        Err(NoMeaning::Misplaced) => unreachable!(),
-        Err(NoMeaning::NoMemory) => Err(AllocError),
+    match &plain.body {
+        PlainBody::Declare {
+            name,
+            implicit,
+            class,
+        } => declare(alloc, sig, plain, name.as_str(), *implicit, class),
+        PlainBody::Check { obj, ty } => check(alloc, sig, plain, obj, ty),
+        PlainBody::Query { .. } | PlainBody::Trace { .. } | PlainBody::Equal { .. } => later(
+            alloc, sig, plain,
+        ),
     }
 }
 
-/// Accepts a declaration: its line, and then its entry.
-fn accepted(
-    alloc: Global,
-    sig: &mut Signature,
-    name: &str,
-    class: Class,
-) -> Result<Answered, AllocError>
-    requires bare { IsBareSignature (plain_signature sig.old) }
-    requires name { IsTrue (is_declarable name.now) }
-    requires new { place_of name.now (plain_signature sig.old) ≡ None }
-    requires room { length sig.old ≢ MAX_ENTRIES }
-    requires class { IsBareClass (plain_signature sig.old) (plain_class class) }
-    ensures line { IfOk result (λ a. entry_line_of (plain_signature sig.old) name.now (fresh_entry (plain_class class)) ≡ Some a.line.items) }
-    ensures accepted { IfOk result (λ a. a.refused ≡ false) }
-    ensures added { OnOk result (plain_signature sig.new ≡ plain_signature sig.old ++ (name.now, fresh_entry (plain_class class)) ∷ []) }
-    ensures bare { IsBareSignature (plain_signature sig.new) }
-    ensures err { OnErr result (sig.new ≡ sig.old) }
+/// Answers what is not answered yet: where all its names have a meaning, that says so.
+fn later(alloc: Global, sig: &Signature, plain: &Plain) -> Result<Answered, AllocError>
+    requires later { is_later (plain_item plain.now).body ≡ true }
+    ensures answered { IfOk result (λ a. AnswersBy (PlainAllowed (plain_signature sig.now) (plain_item plain.now)) (plain_signature sig.now) a.refused a.line.items (plain_signature sig.now)) }
 {
-    let entry = Entry { implicit: 0, class };
-    let line = entry_line(alloc, sig, name, &entry)?;
-    match sig.add(name, entry) {
-        Ok(_) => Ok(Answered {
-            line,
-            refused: false,
-        }),
-        Err(AddFault::NoMemory) => Err(AllocError),
-        Err(AddFault::Duplicate) => unreachable!(),
-        Err(AddFault::Full) => unreachable!(),
+    match first_unknown(alloc, sig, plain)? {
+        Some(name) => unknown_name(alloc, name),
+        None => not_yet(alloc, plain),
+    }
+}
+
+/// The refusal of a line.
+pub fn refused(alloc: Global, at: u32, why: &[u8], name: &[u8]) -> Result<Answered, AllocError>
+    ensures { IfOk result (λ a. RefusedSo at (why.now ++ name.now) a.refused a.line.items) }
+{
+    let line = refusal_line(alloc, at, why, name)?;
+    Ok(Answered {
+        line,
+        refused: true,
+    })
+}
+
+/// The refusal of a name that has no meaning.
+pub fn unknown_name(alloc: Global, name: &PName) -> Result<Answered, AllocError>
+    ensures { IfOk result (λ a. RefusedSo name.now.span.start (codes "unknown name " ++ name.now.name) a.refused a.line.items) }
+{
+    refused(
+        alloc,
+        name.span.start,
+        b"unknown name ",
+        name.name.as_str().as_bytes(),
+    )
+}
+
+/// The refusal of an item that is not answered yet.
+pub fn not_yet(alloc: Global, plain: &Plain) -> Result<Answered, AllocError>
+    ensures { IfOk result (λ a. RefusedSo plain.now.span.start (codes "not yet") a.refused a.line.items) }
+{
+    refused(alloc, plain.span.start, b"not yet", b"")
+}
+
+/// The refusal of a fault beyond the grammar.
+fn sugar_refusal(alloc: Global, fault: SugarFault) -> Result<Answered, AllocError>
+    ensures refused { IfOk result (λ a. RefusedSo (fault_start fault) (sugar_why fault) a.refused a.line.items) }
+    ensures memory { OnOk result (fault ≢ SugarFault.NoMemory) }
+{
+    match fault {
+        SugarFault::KindPlace(span) => refused(alloc, span.start, b"misplaced type", b""),
+        SugarFault::NotAsync(span) => refused(alloc, span.start, b"synchronous type", b""),
+        SugarFault::Redex(span) => refused(alloc, span.start, b"redex", b""),
+        SugarFault::OutOfRange(span) => refused(alloc, span.start, b"number out of range", b""),
+        SugarFault::BadImplicit(span) => refused(alloc, span.start, b"implicit count", b""),
+        SugarFault::NoMemory => Err(AllocError),
     }
 }

@@ -2,8 +2,9 @@
 #![tactic(auto)]
 
 mod answer;
-mod line;
-mod meaning;
+mod check;
+mod declare;
+mod refusal;
 mod status;
 mod top;
 mod turn;

@@ -12,3 +12,4 @@ pub mod Variables
 pub mod Formed
 pub mod Entries
 pub mod SimpleSignatures
+pub mod Exactness

@@ -21,5 +21,6 @@ pub mod Explained
 pub mod Laws
 pub mod Spine
 pub mod Answers
+pub mod Exact
 pub mod Stops
 pub mod Formation

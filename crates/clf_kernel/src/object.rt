@@ -6,8 +6,8 @@ ghost use Rattle.clf_sig.specs.Signature.{plain_signature};
 ghost use Rattle.use_contexts.specs.Context.{modes};
 ghost use Rattle.use_contexts.specs.Holding.{WellMarked};
 ghost use Rattle.use_contexts.specs.Marks.{context, marks};
-ghost use Rattle.clf_kernel.specs.Reach.{without_indices};
-ghost use Rattle.clf_kernel.specs.Reach.{IsSimpleSignature, IsSimpleContext};
+ghost use Rattle.clf_kernel.specs.Reach.{IsSimpleSignature, IsSimpleContext, without_indices, without_monads, neutral_without_monads};
+ghost use Rattle.clf_kernel.specs.Exact.{ChecksObject, InfersNeutral};
 ghost use Rattle.clf_kernel.specs.Checking.{checked, inferred};
 ghost use Rattle.clf_kernel.specs.Answers.{plain_left, plain_inferred, Answers};
 ghost use Rattle.clf_kernel.specs.Stops.{Gives};
@@ -22,7 +22,7 @@ use use_contexts::{Ctx, Holding, Left};
 /// What the check of an object against a type leaves of a holding.
 ///
 /// It refuses where no part of the holding types the object, with the path and the cause of the first part that is refused.
-#[tactic(auto, using(crate::proofs::Stops::answer_laws))]
+#[tactic(auto, using(crate::proofs::Stops::answer_laws, crate::proofs::Exactness::exact_laws))]
 pub fn check_object(
     alloc: Global,
     sig: &Signature,
@@ -33,8 +33,10 @@ pub fn check_object(
 ) -> Result<Left, OrWide<Refusal>>
     requires signature { IsSimpleSignature (plain_signature sig.now) }
     requires context { IsSimpleContext (context ctx.now) }
+    requires object { without_monads (plain_obj obj.now) ≡ true }
     requires ty { without_indices (plain_ty ty.now) ≡ true }
     requires marked { WellMarked (modes (context ctx.now)) (marks holding.now) }
+    ensures exact { ChecksObject (plain_signature sig.now) (context ctx.now) (marks holding.now) (plain_obj obj.now) (plain_ty ty.now) result }
     ensures outcome { Answers plain_left (checked (plain_signature sig.now) (context ctx.now) (marks holding.now) (plain_obj obj.now) (plain_ty ty.now)) result }
 {
     match check_in_copy(alloc, sig, ctx, holding, obj, ty) {
@@ -46,7 +48,7 @@ pub fn check_object(
 /// The type of a neutral, and what it leaves of a holding.
 ///
 /// It refuses where no part of the holding types the neutral, with the path and the cause of the first part that is refused.
-#[tactic(auto, using(crate::proofs::Stops::answer_laws))]
+#[tactic(auto, using(crate::proofs::Stops::answer_laws, crate::proofs::Exactness::exact_laws))]
 pub fn infer(
     alloc: Global,
     sig: &Signature,
@@ -56,7 +58,9 @@ pub fn infer(
 ) -> Result<Inferred, OrWide<Refusal>>
     requires signature { IsSimpleSignature (plain_signature sig.now) }
     requires context { IsSimpleContext (context ctx.now) }
+    requires neutral { neutral_without_monads (plain_neutral neutral.now) ≡ true }
     requires marked { WellMarked (modes (context ctx.now)) (marks holding.now) }
+    ensures exact { InfersNeutral (plain_signature sig.now) (context ctx.now) (marks holding.now) (plain_neutral neutral.now) result }
     ensures outcome { Answers plain_inferred (inferred (plain_signature sig.now) (context ctx.now) (marks holding.now) (plain_neutral neutral.now)) result }
 {
     match infer_in_copy(alloc, sig, ctx, holding, neutral) {

@@ -1,7 +1,7 @@
 -- The run has come to a place, with a bare signature, and no fault was taken back.
 use Rattle.std.proofs.Common.{◌≤◌, ◌-◌, length}
 use Rattle.clf_sig.specs.Signature.{plain_signature}
-use Rattle.celf_run.specs.Bare.{IsBareSignature}
+use Rattle.celf_reading.specs.Bare.{IsBareSignature}
 use Rattle.celf_run.specs.Turning.{Reached}
 use Rattle.celf_run.proofs.top.answer_all.Given as goal
 

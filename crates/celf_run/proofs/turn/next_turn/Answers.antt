@@ -1,7 +1,7 @@
 use Rattle.std.proofs.Common.{◌≡◌, subst, refl, [], Option}
 use Rattle.std.specs.Prelude.{IfNone}
 use Rattle.clf_sig.specs.Signature.{plain_signature}
-use Rattle.celf_parser.specs.declared.surface.Item.{Item}
+use Rattle.celf_surface.specs.declared.surface.Item.{Item}
 use Rattle.celf_run.specs.declared.status.Status.{Status}
 use Rattle.celf_run.specs.declared.status.Status.TheVariants.{Done, NoMemory}
 use Rattle.celf_run.specs.Transcript.{nothing, OnlyBlanks}

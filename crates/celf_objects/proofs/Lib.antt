@@ -1,0 +1,4 @@
+pub mod Made
+pub mod Reading
+pub mod PatternFaults
+pub mod ObjectFaults

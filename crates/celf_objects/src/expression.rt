@@ -1,0 +1,80 @@
+//! Expressions.
+ghost use Rattle.std.specs.Prelude.{IfErr, IsTrue, List, ◌∷◌, ◌<◌, ◌≤◌, IfOk, map};
+ghost use Rattle.celf_grammar.specs.Machine.{Symbol, Expression as ExpressionSymbol};
+ghost use Rattle.celf_cursor.specs.Faults.{IsFaultOf};
+ghost use Rattle.celf_surface.specs.Surface.{expression_tree, step_tree};
+ghost use Rattle.celf_grammar.specs.Grammar.{IsExpression, IsSteps, IsStep, is_let as is_let_kind};
+ghost use Rattle.celf_grammar.specs.State.{Ends};
+ghost use Rattle.celf_cursor.specs.Cursor.{IsCursorOf, state_of, kind_next};
+
+use crate::kinds::is_let;
+use crate::object::application_at;
+use crate::pattern::pattern_at;
+use crate::trees::expression;
+use crate::tuple::tuple_at;
+use celf_cursor::{Cursor, Stop, close, kind_of_next, open, take};
+use celf_lexer::TokenKind;
+use celf_surface::{SExpr, SStep};
+use sqlite_items::Items;
+use std::alloc::Global;
+
+/// An expression: steps, and a tuple behind them.
+#[cycle(objects)]
+#[tactic(auto, using(celf_surface::specs::Surface::surface_laws, crate::proofs::Reading::expression_steps, crate::proofs::ObjectFaults::expression_faults))]
+pub(crate) fn expression_at(
+    alloc: Global,
+    bytes: &[u8],
+    cursor: Cursor,
+) -> Result<(SExpr, Cursor), Stop>
+    requires cursor { IsCursorOf bytes.now cursor }
+    ensures read { IfOk result (λ r. IsExpression (state_of bytes.now cursor) (expression_tree r.0).0 (expression_tree r.0).1 (state_of bytes.now r.1)) }
+    ensures cursor { IfOk result (λ r. IsCursorOf bytes.now r.1) }
+    ensures further { IfOk result (λ r. cursor.end < r.1.end) }
+    ensures fault { IfErr result (λ e. (k : List Symbol) → IsFaultOf bytes.now (ExpressionSymbol ∷ k) (state_of bytes.now cursor) e) }
+{
+    let (steps, last) = steps_at(alloc, bytes, cursor)?;
+    let (tuple, behind) = tuple_at(alloc, bytes, last)?;
+    Ok((expression(steps, tuple), behind))
+}
+
+/// The steps that follow, as many as there are.
+#[cycle(objects)]
+#[tactic(auto, using(celf_surface::specs::Surface::surface_laws, crate::proofs::Reading::steps_steps, crate::proofs::ObjectFaults::steps_faults))]
+fn steps_at(alloc: Global, bytes: &[u8], cursor: Cursor) -> Result<(Items<SStep>, Cursor), Stop>
+    requires cursor { IsCursorOf bytes.now cursor }
+    ensures read { IfOk result (λ r. IsSteps (state_of bytes.now cursor) (map step_tree r.0) (state_of bytes.now r.1)) }
+    ensures ends { IfOk result (λ r. Ends is_let_kind (state_of bytes.now r.1)) }
+    ensures cursor { IfOk result (λ r. IsCursorOf bytes.now r.1) }
+    ensures further { IfOk result (λ r. cursor.end ≤ r.1.end) }
+    ensures fault { IfErr result (λ e. (k : List Symbol) → IsFaultOf bytes.now (ExpressionSymbol ∷ k) (state_of bytes.now cursor) e) }
+{
+    let mut steps = Items::new(alloc);
+    let mut last = cursor;
+    while is_let(kind_of_next(bytes, last)) {
+        let (step, behind) = step_at(alloc, bytes, last)?;
+        steps.push(step)?;
+        last = behind;
+    }
+    Ok((steps, last))
+}
+
+/// A step: `let {pattern} = application in`.
+#[cycle(objects)]
+#[tactic(auto, using(celf_surface::specs::Surface::surface_laws, crate::proofs::Reading::step_steps, crate::proofs::ObjectFaults::step_faults))]
+fn step_at(alloc: Global, bytes: &[u8], cursor: Cursor) -> Result<(SStep, Cursor), Stop>
+    requires cursor { IsCursorOf bytes.now cursor }
+    requires kind { IsTrue (is_let_kind (kind_next bytes.now cursor)) }
+    ensures read { IfOk result (λ r. IsStep (state_of bytes.now cursor) (step_tree r.0).0 (step_tree r.0).1 (state_of bytes.now r.1)) }
+    ensures cursor { IfOk result (λ r. IsCursorOf bytes.now r.1) }
+    ensures further { IfOk result (λ r. cursor.end < r.1.end) }
+    ensures fault { IfErr result (λ e. (k : List Symbol) → IsFaultOf bytes.now (ExpressionSymbol ∷ k) (state_of bytes.now cursor) e) }
+{
+    let begun = take(bytes, cursor, TokenKind::KwLet)?;
+    let opened = open(bytes, begun, TokenKind::LeftBrace)?;
+    let (pattern, last) = pattern_at(alloc, bytes, opened)?;
+    let closed = close(bytes, begun, last, TokenKind::RightBrace)?;
+    let bound = take(bytes, closed, TokenKind::Equals)?;
+    let (rhs, end) = application_at(alloc, bytes, bound)?;
+    let behind = take(bytes, end, TokenKind::KwIn)?;
+    Ok((SStep { pattern, rhs }, behind))
+}

@@ -1,5 +1,0 @@
-pub mod Grammar
-pub mod Parsing
-pub mod Leaves
-pub mod Following
-pub mod Declarations

@@ -1,0 +1,90 @@
+//! Answers to checks.
+ghost use Rattle.std.specs.Prelude.{◌≡◌, ◌<◌, ◌^◌, IfOk, OnOk, true};
+ghost use Rattle.clf_syntax.specs.Plain.{plain_obj};
+ghost use Rattle.clf_syntax.specs.PlainTypes.{plain_ty};
+ghost use Rattle.clf_sig.specs.Signature.{plain_signature};
+ghost use Rattle.clf_kernel.specs.Reach.{without_monads};
+ghost use Rattle.clf_printer.specs.Depth.{scope_depth};
+ghost use Rattle.celf_sugar.specs.Plain.{plain_item, plain_object, plain_type};
+ghost use Rattle.celf_reading.specs.Bare.{IsBareSignature, IsBareType};
+ghost use Rattle.celf_reading.specs.Checks.{check_line as check_line_of};
+ghost use Rattle.celf_run.specs.Transcript.{Checked, Judged};
+ghost use Rattle.celf_run.specs.Answering.{AnswersBy};
+
+use crate::answer::{Answered, not_yet, refused, unknown_name};
+use crate::refusal::kernel_why;
+use celf_explicit::{first_unknown, read_check};
+use celf_sugar::{PObj, PTy, Plain};
+use clf_kernel::check_object;
+use clf_printer::{object_text, type_text};
+use clf_sig::Signature;
+use clf_syntax::{Obj, OrWide, Ty};
+use sqlite_items::Items;
+use std::alloc::{AllocError, Global};
+use use_contexts::{Ctx, Holding};
+
+/// Answers whether an object has a type.
+pub fn check(
+    alloc: Global,
+    sig: &Signature,
+    plain: &Plain,
+    obj: &PObj,
+    ty: &PTy,
+) -> Result<Answered, AllocError>
+    requires bare { IsBareSignature (plain_signature sig.now) }
+    ensures answered { IfOk result (λ a. AnswersBy (Checked (plain_signature sig.now) (plain_item plain.now) (plain_object obj.now) (plain_type ty.now)) (plain_signature sig.now) a.refused a.line.items (plain_signature sig.now)) }
+{
+    if let Some(unknown) = first_unknown(alloc, sig, plain)? {
+        return unknown_name(alloc, unknown);
+    }
+    match read_check(alloc, sig, obj, ty)? {
+        Some((obj, ty)) => judge(alloc, sig, plain, &obj, &ty),
+        None => not_yet(alloc, plain),
+    }
+}
+
+/// Answers whether an object that was read has its type, by the kernel.
+fn judge(
+    alloc: Global,
+    sig: &Signature,
+    plain: &Plain,
+    obj: &Obj,
+    ty: &Ty,
+) -> Result<Answered, AllocError>
+    requires bare { IsBareSignature (plain_signature sig.now) }
+    requires object { without_monads (plain_obj obj.now) ≡ true }
+    requires ty { IsBareType (plain_signature sig.now) (plain_ty ty.now) }
+    ensures answered { IfOk result (λ a. AnswersBy (Judged (plain_signature sig.now) plain.now.span.start (plain_obj obj.now) (plain_ty ty.now)) (plain_signature sig.now) a.refused a.line.items (plain_signature sig.now)) }
+{
+    let ctx = Ctx::empty(alloc);
+    let holding = Holding {
+        held: Items::new(alloc),
+    };
+    match check_object(alloc, sig, &ctx, &holding, obj, ty) {
+        Ok(_left) => Ok(Answered {
+            line: check_line(alloc, sig, obj, ty)?,
+            refused: false,
+        }),
+        Err(OrWide::Fault(refusal)) => {
+            let why = kernel_why(alloc, sig, &refusal)?;
+            refused(alloc, plain.span.start, why.as_slice(), b"")
+        }
+        // A list of so many binders is never there: it counts as want of memory.
+        Err(OrWide::NoMemory | OrWide::TooFar(_)) => Err(AllocError),
+    }
+}
+
+/// The line of an object and its type.
+fn check_line(alloc: Global, sig: &Signature, obj: &Obj, ty: &Ty) -> Result<Vec<u8>, AllocError>
+    ensures line { IfOk result (λ line. line.items ≡ check_line_of (plain_signature sig.now) (plain_obj obj.now) (plain_ty ty.now)) }
+    ensures depth { OnOk result (scope_depth (plain_obj obj.now) < 2 ^ 64) }
+{
+    let object = object_text(alloc, sig, 0, &[], obj)?;
+    let ty = type_text(alloc, sig, 0, &[], ty)?;
+    let mut line = Vec::from_slice(alloc, b"check: ")?;
+    line.extend_from_slice(object.as_slice())?;
+    line.extend_from_slice(b" : ")?;
+    line.extend_from_slice(ty.as_slice())?;
+    line.extend_from_slice(b".\n")?;
+    Ok(line)
+}

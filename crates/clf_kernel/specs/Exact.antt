@@ -1,0 +1,34 @@
+-- What the answers of the kernel's calls say, in words of the rules.
+use Rattle.std.specs.Prelude.{ℕ, List, Result, Ok, Err, Some, None}
+use Rattle.clf_syntax.specs.declared.fault.OrWide.{OrWide}
+use Rattle.clf_syntax.specs.declared.fault.OrWide.TheVariants.{Fault, NoMemory, TooFar}
+use Rattle.clf_syntax.specs.Tree.{Object, PlainNeutral}
+use Rattle.clf_syntax.specs.TypeTree.{PlainType}
+use Rattle.use_contexts.specs.declared.join.Left.{Left}
+use Rattle.use_contexts.specs.Context.{Context, modes}
+use Rattle.use_contexts.specs.Holding.{Holding}
+use Rattle.use_contexts.specs.Rows.{Agrees}
+use Rattle.clf_sig.specs.Entry.{PlainSignature}
+use Rattle.clf_kernel.specs.declared.refusal.Refusal.{Refusal}
+use Rattle.clf_kernel.specs.declared.refusal.Inferred.{Inferred}
+use Rattle.clf_kernel.specs.Typing.{HasType, NeutralHasType}
+use Rattle.clf_kernel.specs.Refusal.{passed, refused}
+use Rattle.clf_kernel.specs.Laws.{AgreesWithType}
+use Rattle.clf_kernel.specs.Explained.{ExplainedAt, ExplainedInNeutral}
+use Rattle.clf_kernel.specs.Answers.{plain_left, plain_inferred, plain_cause, IsWide}
+
+-- What is left stands for exactly the parts of the holding under which the object has the type. A refusal comes exactly where there is no
+-- such part, and its cause is that of the part at its path.
+abbrev pub ChecksObject : PlainSignature → Context → Holding → Object → PlainType → Result Left (OrWide Refusal) → Type 0
+ChecksObject sig g h n t (Ok left) = Agrees (modes g) h (Some (plain_left left)) (λ p. HasType sig g p n t)
+ChecksObject sig g h n t (Err (Fault r)) = Agrees (modes g) h None (λ p. HasType sig g p n t) × ExplainedAt sig g h n t r.path.items (plain_cause r.cause)
+ChecksObject sig g h n t (Err NoMemory) = Unit {0}
+ChecksObject sig g h n t (Err (TooFar w)) = IsWide w
+
+-- So it is with a neutral at the type that it has, which is one.
+abbrev pub InfersNeutral : PlainSignature → Context → Holding → PlainNeutral → Result Inferred (OrWide Refusal) → Type 0
+InfersNeutral sig g h n (Ok found) = AgreesWithType g h (passed (plain_inferred found)) (λ p a. NeutralHasType sig g p n a)
+InfersNeutral sig g h n (Err (Fault r)) = AgreesWithType g h (refused r.path.items (plain_cause r.cause)) (λ p a. NeutralHasType sig g p n a)
+    × ExplainedInNeutral sig g h n r.path.items (plain_cause r.cause)
+InfersNeutral sig g h n (Err NoMemory) = Unit {0}
+InfersNeutral sig g h n (Err (TooFar w)) = IsWide w
