@@ -4,7 +4,7 @@ use Rattle.celf_surface.specs.Surface.{PlainItem as Written}
 use Rattle.clf_sig.specs.Entry.{PlainSignature}
 use Rattle.celf_source.specs.Sink.{Appends}
 use Rattle.celf_source.specs.Shelf.{Told, untold, lacking, holding, StandsBehind}
-use Rattle.celf_items.specs.declared.fault.SyntaxFault.{SyntaxFault}
+use Rattle.celf_parser.specs.declared.fault.SyntaxFault.{SyntaxFault}
 use Rattle.celf_reading.specs.Bare.{IsBareSignature}
 use Rattle.celf_reading.proofs.WellFormed.{bare-signature}
 use Rattle.celf_run.specs.declared.status.Status.{Status}

@@ -11,7 +11,7 @@ pub use Rattle.celf_lexer.specs.Gap
 pub use Rattle.celf_lexer.specs.Tokens
 pub use Rattle.celf_surface.specs.Surface
 pub use Rattle.celf_grammar.specs.Grammar
-pub use Rattle.celf_items.specs.Place
+pub use Rattle.celf_parser.specs.Place
 pub use Rattle.celf_sugar.specs.Sugar
 pub use Rattle.celf_sugar.specs.Faults
 pub use Rattle.celf_explicit.specs.Entries

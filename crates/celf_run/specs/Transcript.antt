@@ -7,9 +7,9 @@ use Rattle.clf_syntax.specs.Word.{is_declarable}
 use Rattle.clf_syntax.specs.Tree.{Object}
 use Rattle.clf_syntax.specs.TypeTree.{PlainType}
 use Rattle.celf_surface.specs.Surface.{PlainItem as Written}
-use Rattle.celf_items.specs.declared.fault.SyntaxFault.{SyntaxFault}
-use Rattle.celf_items.specs.declared.fault.SyntaxFault.TheVariants.{Lex, Unexpected, Directive, TooDeep, NoMemory}
-use Rattle.celf_items.specs.Place.{IsItemAt, IsFaultAt}
+use Rattle.celf_parser.specs.declared.fault.SyntaxFault.{SyntaxFault}
+use Rattle.celf_parser.specs.declared.fault.SyntaxFault.TheVariants.{Lex, Unexpected, Directive, TooDeep, NoMemory}
+use Rattle.celf_parser.specs.Place.{IsItemAt, IsFaultAt}
 use Rattle.celf_sugar.specs.declared.plain.PName.{PName}
 use Rattle.celf_sugar.specs.declared.fault.SugarFault.{SugarFault}
 use Rattle.celf_sugar.specs.declared.fault.SugarFault.TheVariants.{KindPlace, NotAsync, Redex, OutOfRange, BadImplicit, NoMemory as NoRoom}

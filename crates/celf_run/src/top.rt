@@ -9,7 +9,7 @@ ghost use Rattle.celf_run.specs.Words.{file_word as file_word_of};
 use crate::status::Status;
 use crate::turn::{Turn, next_turn};
 use crate::words::file_word;
-use celf_items::MAX_BYTES;
+use celf_parser::MAX_BYTES;
 use celf_source::{ReadAllFault, Shelf, Sink, read_all};
 use clf_sig::Signature;
 use clf_syntax::Name;

@@ -14,7 +14,7 @@ ghost use Rattle.celf_run.specs.Turning.{TakesOn};
 use crate::answer::answer;
 use crate::refusal::syntax_line;
 use crate::status::Status;
-use celf_items::{MAX_BYTES, SyntaxFault, next_item};
+use celf_parser::{MAX_BYTES, SyntaxFault, next_item};
 use celf_source::{Sink, WriteAllFault, write_all};
 use celf_surface::Item;
 use clf_sig::Signature;

@@ -1,0 +1,11 @@
+pub mod Reading
+pub mod Products
+pub mod Arrows
+pub mod Items
+pub mod Names
+pub mod Ends
+pub mod TypeFaults
+pub mod Places
+pub mod BoundFaults
+pub mod LeafFaults
+pub mod BodyFaults

@@ -1,0 +1,21 @@
+use Rattle.celf_grammar.specs.Grammar.{body_check}
+use Rattle.celf_lexer.specs.declared.token.TokenKind.TheVariants as token
+use Rattle.celf_cursor.proofs.Faulty.{expect-missed}
+use Rattle.celf_parser.proofs.BodyFaults.{formed-fault}
+use Rattle.celf_parser.proofs.TypeFaults.{passed, stop-fault}
+use Rattle.celf_parser.proofs.body.check_at.Goals as goal
+
+pub returns-clause-read : goal.returns-clause-read
+returns-clause-read c s h = body_check h c.in_ok-obj.ensures.read c.in_ok-colon.ensures.taken c.in_ok-ty.ensures.read
+
+pub returns-in_err-obj-clause-fault : goal.returns-in_err-obj-clause-fault
+returns-in_err-obj-clause-fault c =
+    passed _ c.from_residual.result c.from_residual.ensures.1 (λ k. c.in_err-obj.ensures.fault _)
+
+pub returns-in_err-colon-clause-fault : goal.returns-in_err-colon-clause-fault
+returns-in_err-colon-clause-fault c =
+    passed _ c.from_residual-in_err-colon.result c.from_residual-in_err-colon.ensures.1 (λ k. formed-fault c.in_ok-obj.ensures.read (expect-missed _ _ token.Colon _ _ c.in_ok-obj.ensures.cursor c.in_err-colon.ensures.missed))
+
+pub returns-in_err-ty-clause-fault : goal.returns-in_err-ty-clause-fault
+returns-in_err-ty-clause-fault c =
+    passed _ c.from_residual-in_err-ty.result c.from_residual-in_err-ty.ensures.1 (λ k. formed-fault c.in_ok-obj.ensures.read (stop-fault c.in_ok-colon.ensures.taken (c.in_err-ty.ensures.fault _)))

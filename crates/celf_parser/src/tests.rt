@@ -1,0 +1,11 @@
+//! The end of a text by example. Each production and each fault is tested where whole texts are read.
+
+use super::next_item;
+use std::test::Fail;
+
+#[test]
+fn nothing_left(rt: HostRuntime) -> Result<(), Fail> {
+    let alloc = rt.alloc();
+    assert!(&rt; next_item(alloc, b" % c : a.", 0)?.is_none());
+    Ok(())
+}
