@@ -1,5 +1,5 @@
 -- The taking of arrows.
-use Rattle.std.proofs.Common.{◌≡◌, ◌≢◌, false, Option, Some, None, is_some, sym, ap, subst, ◌∙◌}
+use Rattle.std.proofs.Common.{◌≡◌, false, Some, None, is_some, sym, ap, ◌∙◌}
 use Rattle.celf_lexer.specs.declared.token.TokenKind.{TokenKind}
 use Rattle.celf_lexer.specs.declared.token.TokenKind.TheVariants.{End}
 use Rattle.celf_surface.specs.declared.surface.Arrow.{Arrow}

@@ -1,17 +1,15 @@
 -- Faults inside an item, as faults of the item.
-use Rattle.std.proofs.Common.{◌≡◌, ◌≢◌, ◌∙◌, inl, inr, ℕ, List, ◌∷◌, Option, true, false, codes, refl, sym, ap, subst, Result, Ok, Err}
-use Rattle.std.proofs.lemmas.Bool.{true≢false}
-use Rattle.celf_lexer.specs.declared.token.TokenKind.{TokenKind}
+use Rattle.std.proofs.Common.{◌≡◌, ◌≢◌, ◌∙◌, inl, inr, ℕ, List, ◌∷◌, Option, codes, refl, sym, ap, subst, Result, Ok, Err}
 use Rattle.celf_lexer.specs.declared.token.TokenKind.TheVariants as token
 use Rattle.celf_lexer.specs.declared.token.Token.{Token}
 use Rattle.celf_lexer.specs.declared.token.LexFault.{LexFault}
-use Rattle.celf_lexer.specs.Tokens.{Lexeme, tokens_after, lexeme_of}
+use Rattle.celf_lexer.specs.Tokens.{tokens_after, lexeme_of}
 use Rattle.celf_surface.specs.declared.surface.Bound.{Bound as BoundTree}
 use Rattle.celf_surface.specs.declared.surface.Span.{Span}
 use Rattle.celf_surface.specs.Surface.{Object as ObjectTree, Body as BodyTree}
-use Rattle.celf_grammar.specs.State.{State, next_kind, Takes, TakesName, TakesDirective}
+use Rattle.celf_grammar.specs.State.{State, next_kind, TakesName, TakesDirective}
 use Rattle.celf_grammar.specs.Grammar.{IsObject, IsBound, IsImplicit, IsBody, body_declare, body_query, body_trace, body_equal, body_check}
-use Rattle.celf_grammar.specs.Machine.{Symbol, Expect, Object, Whole, Bound, Implicit, Body, Item, runs}
+use Rattle.celf_grammar.specs.Machine.{Symbol, Expect, Object, Whole, Bound, Implicit, Body, Item}
 use Rattle.celf_grammar.proofs.TypeRuns.{body-declare, body-query, body-trace, body-equal, body-check, body-stops, item-body}
 use Rattle.celf_grammar.proofs.Accepts.{object-accepts, bound-accepts, implicit-accepts, body-accepts}
 use Rattle.celf_cursor.specs.declared.cursor.Cursor.{Cursor}
@@ -19,13 +17,12 @@ use Rattle.celf_cursor.specs.declared.stop.Stop.{Stop}
 use Rattle.celf_cursor.specs.Cursor.{tokens_on, state_of, kind_next, spelling_next, span_of, IsCursorOf, Misses, MissesWord, MissesName}
 use Rattle.celf_cursor.specs.Faults.{span_in, IsFaultOf, fault_memory}
 use Rattle.celf_cursor.proofs.Cursors.{next-spelling, spelling_next-token}
-use Rattle.celf_cursor.proofs.Ends.{takes-end, name-end, object-end}
+use Rattle.celf_cursor.proofs.Ends.{name-end, object-end}
 use Rattle.celf_cursor.proofs.Faulty.{fault-moved, fault-stops, expect-missed}
 use Rattle.celf_parser.specs.declared.fault.SyntaxFault.{SyntaxFault}
 use Rattle.celf_parser.specs.declared.fault.SyntaxFault.TheVariants.{Directive}
-use Rattle.celf_parser.specs.Fault.{fault_of, unknown, TakesKnown, takes_query, takes_trace, takes_equal, takes_check, IsUnknown, IsKnown, IsItemFault, fault_stop, fault_word}
+use Rattle.celf_parser.specs.Fault.{fault_of, unknown, takes_query, takes_trace, takes_equal, takes_check, IsUnknown, IsKnown, IsItemFault, fault_stop, fault_word}
 use Rattle.celf_parser.proofs.Ends.{directive-end, bound-end, implicit-end, body-end}
-use Rattle.celf_parser.proofs.TypeFaults.{typed-fault, stop-fault}
 
 pub bounded-fault : {text : List ℕ} {b : BoundTree} {k : List Symbol} {s u : State} {e : Stop} → IsBound s b u → IsFaultOf text k u e → IsFaultOf text (Bound ∷ k) s e
 bounded-fault {k = k} d f = fault-moved (bound-accepts d k) (bound-end d) f

@@ -1,9 +1,8 @@
 -- Faults of the numbers of directives and declarations.
-use Rattle.std.proofs.Common.{◌≡◌, ◌∙◌, ℕ, List, ◌∷◌, Bool, true, false, refl, sym, ap}
-use Rattle.celf_lexer.specs.declared.token.TokenKind.{TokenKind}
+use Rattle.std.proofs.Common.{◌≡◌, ◌∙◌, ℕ, List, ◌∷◌}
 use Rattle.celf_lexer.specs.declared.token.TokenKind.TheVariants as token
 use Rattle.celf_surface.specs.declared.surface.Bound.{Bound as BoundTree}
-use Rattle.celf_grammar.specs.State.{State, next_kind, Takes, TakesNumber}
+use Rattle.celf_grammar.specs.State.{State, Takes, TakesNumber}
 use Rattle.celf_grammar.specs.Machine.{Symbol, Expect, NumberWord, Bound, Implicit}
 use Rattle.celf_grammar.proofs.TokenRuns.{number-run, number-stops}
 use Rattle.celf_grammar.proofs.TypeRuns.{bound-stops, implicit-count}

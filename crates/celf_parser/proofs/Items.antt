@@ -1,16 +1,14 @@
 -- Items, from what was read of them.
-use Rattle.std.proofs.Common.{◌≡◌, ◌≤◌, ◌<◌, ◌+◌, ℕ, List, IsTrue, length, drop, refl, sym, ap, subst, ◌∙◌, arith, Ok}
-use Rattle.clf_syntax.specs.Word.{is_declarable}
+use Rattle.std.proofs.Common.{◌≡◌, ◌≤◌, ◌+◌, ℕ, List, length, drop, sym, ap, subst, ◌∙◌, Ok}
 use Rattle.celf_lexer.specs.Gap.{gap}
 use Rattle.celf_lexer.specs.declared.token.TokenKind.TheVariants.{End, Stop}
 use Rattle.celf_lexer.specs.declared.token.Token.{Token}
-use Rattle.celf_lexer.specs.Tokens.{next_token, tokens_from, lexeme_of}
+use Rattle.celf_lexer.specs.Tokens.{next_token, tokens_from}
 use Rattle.celf_lexer.proofs.Tokens.{next_token-ok}
 use Rattle.celf_lexer.proofs.Starts.{next_token-start}
-use Rattle.celf_lexer.proofs.Names.{name-declarable}
 use Rattle.celf_surface.specs.declared.surface.Span.{Span}
-use Rattle.celf_surface.specs.Surface.{Body, PlainItem}
-use Rattle.celf_grammar.specs.State.{State, span_to, Takes, TakesName}
+use Rattle.celf_surface.specs.Surface.{Body}
+use Rattle.celf_grammar.specs.State.{State, span_to, Takes}
 use Rattle.celf_grammar.specs.Grammar.{IsBody, IsItem, item_all}
 use Rattle.celf_cursor.specs.declared.cursor.Cursor.{Cursor}
 use Rattle.celf_cursor.specs.Cursor.{state_of, IsCursorOf}
@@ -39,5 +37,3 @@ pub end-gap : (text : List ℕ) (at : ℕ) (t : Token) → at ≤ length text �
 end-gap text at t h e k = sym (next_token-start text at t e) ∙ ((next_token-ok text at (Ok t) h (sym e)).at_end k).0
 
 pub ruleset item_steps = (item-read, span-end)
-
-pub ruleset next_steps = (end-gap)

@@ -12,7 +12,7 @@ use Rattle.celf_grammar.proofs.Accepts.{family-accepts}
 use Rattle.celf_grammar.proofs.TypeRuns.{begins_type_atom, type_atom-stops, type_atom-family}
 use Rattle.celf_cursor.specs.declared.cursor.Cursor.{Cursor}
 use Rattle.celf_cursor.specs.declared.stop.Stop.{Stop}
-use Rattle.celf_cursor.specs.Cursor.{state_of, kind_next, IsCursorOf, Misses, MissesWord}
+use Rattle.celf_cursor.specs.Cursor.{state_of, kind_next, IsCursorOf, MissesWord}
 use Rattle.celf_cursor.specs.Faults.{IsFaultOf}
 use Rattle.celf_cursor.proofs.Faulty.{fault-moved, fault-stops, taken-missed}
 use Rattle.celf_parser.specs.Going.{begins_no_family}

@@ -1,10 +1,10 @@
 -- A name that is taken from a text may be declared.
-use Rattle.std.proofs.Common.{◌≡◌, ℕ, List, [], ◌∷◌, IsTrue, refl, sym, ap, subst, ◌∙◌, Result, Ok, Err}
+use Rattle.std.proofs.Common.{◌≡◌, ℕ, List, ◌∷◌, IsTrue, sym, ap, ◌∙◌, Result, Ok, Err}
 use Rattle.clf_syntax.specs.Word.{is_declarable}
 use Rattle.celf_lexer.specs.declared.token.Token.{Token}
 use Rattle.celf_lexer.specs.declared.token.LexFault.{LexFault}
 use Rattle.celf_lexer.specs.declared.token.TokenKind.TheVariants.{Name}
-use Rattle.celf_lexer.specs.Tokens.{Lexeme, next_token, lexeme_of}
+use Rattle.celf_lexer.specs.Tokens.{Lexeme, next_token}
 use Rattle.celf_lexer.proofs.Names.{name-declarable}
 use Rattle.celf_grammar.specs.State.{State, TakesName}
 use Rattle.celf_cursor.specs.declared.cursor.Cursor.{Cursor}

@@ -1,5 +1,5 @@
 -- From what the machine comes to, to the place of a fault in the text.
-use Rattle.std.proofs.Common.{◌≡◌, ◌≢◌, ◌≤◌, ◌<◌, ◌+◌, ◌-◌, ℕ, List, [], ◌∷◌, ◌++◌, Bool, true, false, length, take, drop, codes, refl, sym, ap, subst, ◌∙◌, arith, Result, Ok, Err}
+use Rattle.std.proofs.Common.{◌≡◌, ◌≢◌, ◌≤◌, ◌+◌, ℕ, List, [], ◌∷◌, ◌++◌, Bool, true, false, length, codes, refl, sym, ap, subst, ◌∙◌, arith, Result, Ok, Err}
 use Rattle.std.proofs.lemmas.Bool.{false_from_ne_true}
 use Rattle.std.proofs.lemmas.Grind.{common_steps}
 use Rattle.std.proofs.lemmas.Slice.Eq.{bytes_eq-Decides}
@@ -8,11 +8,11 @@ use Rattle.celf_lexer.specs.declared.token.TokenKind.{TokenKind}
 use Rattle.celf_lexer.specs.declared.token.TokenKind.TheVariants as token
 use Rattle.celf_lexer.specs.declared.token.Token.{Token}
 use Rattle.celf_lexer.specs.declared.token.LexFault.{LexFault}
-use Rattle.celf_lexer.specs.Tokens.{Lexeme, next_token, tokens_from, tokens_at, tokens_after, lexeme_of, is_end}
+use Rattle.celf_lexer.specs.Tokens.{Lexeme, next_token, tokens_from, tokens_after, lexeme_of, is_end}
 use Rattle.celf_lexer.proofs.Tokens.{tokens_from-ok, tokens_from-err, next_token-stands, next_token-fault, StandsWithin}
 use Rattle.celf_grammar.specs.State.{State, next_kind}
-use Rattle.celf_grammar.specs.Machine.{Symbol, Item, Body, Expect, accepted, unexpected, too_deep, lacking, runs_on, runs, stops_at}
-use Rattle.celf_grammar.specs.Faults.{HasItem, BeginsItem, IsUnexpected, Says}
+use Rattle.celf_grammar.specs.Machine.{Symbol, Item, Expect, accepted, lacking, runs_on, runs, stops_at}
+use Rattle.celf_grammar.specs.Faults.{BeginsItem, IsUnexpected, Says}
 use Rattle.celf_grammar.proofs.TypeRuns.{NotDirective, body-unknown, item-body}
 use Rattle.celf_grammar.proofs.Derives.{item-derives}
 use Rattle.celf_grammar.proofs.Verdicts.{verdict-true}

@@ -1,8 +1,7 @@
 -- Factors, and the product that they make.
-use Rattle.std.proofs.Common.{◌≡◌, ℕ, List, [], ◌∷◌, ◌++◌, map, refl, sym, ap, subst, ◌∙◌}
+use Rattle.std.proofs.Common.{◌≡◌, List, [], ◌∷◌, ◌++◌, refl, sym, ap, subst}
 use Rattle.std.proofs.lemmas.List.{map-append}
 use Rattle.celf_lexer.specs.declared.token.TokenKind.TheVariants.{Star}
-use Rattle.celf_surface.specs.declared.surface.Span.{Span}
 use Rattle.celf_surface.specs.Surface.{Surface, tensor}
 use Rattle.celf_grammar.specs.State.{State, span_to, Ends, Takes}
 use Rattle.celf_grammar.specs.Grammar.{is_star, IsSync, sync_alone, sync_product, IsFactor}

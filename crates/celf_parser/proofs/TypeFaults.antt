@@ -1,20 +1,19 @@
 -- Faults inside a type, as faults of the type.
-use Rattle.std.proofs.Common.{◌≡◌, ◌∙◌, inl, inr, subst, Result, Ok, Err, IsErrAnd, IfOk, IfErr, ℕ, List, ◌∷◌, Option, Some, Bool, true, false, is_some, codes, refl, sym, ap}
-use Rattle.std.proofs.lemmas.Bool.{true≢false}
+use Rattle.std.proofs.Common.{◌≡◌, ◌∙◌, inl, inr, subst, Result, Ok, Err, IsErrAnd, IfOk, IfErr, ℕ, List, ◌∷◌, Some, true, false, is_some, refl, sym, ap}
 use Rattle.celf_lexer.specs.declared.token.TokenKind.{TokenKind}
 use Rattle.celf_lexer.specs.declared.token.TokenKind.TheVariants as token
 use Rattle.celf_surface.specs.declared.surface.Arrow.{Arrow}
-use Rattle.celf_surface.specs.Surface.{Surface, Object}
-use Rattle.celf_grammar.specs.State.{State, next_kind, Ends, Takes, Opens, TakesName, TakesOne}
-use Rattle.celf_grammar.specs.Grammar.{forward_of, backward_of, is_forward, is_backward, is_mark, is_amp, OpensArrow, IsFamilyName, IsType, IsBackward, IsSync, IsFactor, IsTypeAtom}
-use Rattle.celf_grammar.specs.Machine.{Symbol, Expect, Close, NameWord, Indices, FamilyName, Whole, BackTail, Forward, ForwardTail, Sync, StarTail, Factor, With, AmpTail, TypeAtom, is_pi, is_exists, runs}
+use Rattle.celf_surface.specs.Surface.{Surface}
+use Rattle.celf_grammar.specs.State.{State, next_kind, Takes, Opens, TakesName}
+use Rattle.celf_grammar.specs.Grammar.{forward_of, backward_of, is_forward, is_backward, is_mark, OpensArrow, IsType, IsBackward, IsSync, IsTypeAtom}
+use Rattle.celf_grammar.specs.Machine.{Symbol, Expect, Close, NameWord, Whole, BackTail, Forward, ForwardTail, Sync, StarTail, Factor, With, AmpTail, TypeAtom, runs}
 use Rattle.celf_grammar.proofs.TokenRuns.{expect-run, name-run, name-stops}
-use Rattle.celf_grammar.proofs.TypeRuns.{type_atom-word, type_atom-braces, type_atom-group, type_atom-brace_deep, type_atom-group_deep, type_atom-family, with-atom, amp-more, amp-deep, factor-persistent, factor-affine, factor-bare, sync-exists, sync-deep, sync-factor, star-more, forward-pi, forward-deep, forward-sync, no-pi, no-exists, arrow-more, arrow-deep, back-more, back-deep, type-forward}
-use Rattle.celf_grammar.proofs.Accepts.{type-accepts, backward-accepts, sync-accepts, factor-accepts, type_atom-accepts, family-accepts}
+use Rattle.celf_grammar.proofs.TypeRuns.{type_atom-braces, type_atom-group, type_atom-brace_deep, type_atom-group_deep, with-atom, amp-more, amp-deep, factor-bare, sync-exists, sync-deep, sync-factor, star-more, forward-pi, forward-deep, forward-sync, no-pi, no-exists, arrow-more, arrow-deep, back-more, back-deep, type-forward}
+use Rattle.celf_grammar.proofs.Accepts.{type-accepts, backward-accepts, sync-accepts, factor-accepts, type_atom-accepts}
 use Rattle.celf_grammar.proofs.Begins.{factor-no_exists}
 use Rattle.celf_cursor.specs.declared.cursor.Cursor.{Cursor}
 use Rattle.celf_cursor.specs.declared.stop.Stop.{Stop}
-use Rattle.celf_cursor.specs.Cursor.{state_of, kind_next, IsCursorOf, Misses, MissesOpening, MissesName}
+use Rattle.celf_cursor.specs.Cursor.{state_of, kind_next, IsCursorOf, MissesOpening, MissesName}
 use Rattle.celf_cursor.specs.Faults.{IsFaultOf, fault_memory}
 use Rattle.celf_cursor.proofs.Faulty.{fault-moved, fault-stops, opening-missed, expect-missed, taken-missed}
 use Rattle.celf_cursor.proofs.Ends.{opens-end, takes-end, name-end}
@@ -22,7 +21,7 @@ use Rattle.celf_objects.proofs.PatternFaults.{memory-fault}
 use Rattle.celf_parser.specs.Enclosed.{Binds}
 use Rattle.celf_parser.specs.Going.{OpensOn, TakesOn}
 use Rattle.celf_parser.specs.Product.{IsFactors, factors_none, factors_more}
-use Rattle.celf_parser.proofs.Ends.{type-end, backward-end, sync-end, factors-end, type_atom-end, family-end}
+use Rattle.celf_parser.proofs.Ends.{type-end, backward-end, sync-end, factors-end, type_atom-end}
 
 -- arrows
 

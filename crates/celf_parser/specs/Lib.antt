@@ -7,7 +7,7 @@ pub use Rattle.celf_grammar.specs.Grammar
 pub use Rattle.celf_grammar.specs.Machine
 pub use Rattle.celf_grammar.specs.Faults
 pub use Rattle.celf_cursor.specs.Cursor
-pub use Rattle.celf_cursor.specs.Faults
+pub use Rattle.celf_cursor.specs.Faults as ReadingFaults
 pub mod Product
 pub mod Enclosed
 pub mod Fault

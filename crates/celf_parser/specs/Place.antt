@@ -1,5 +1,5 @@
 -- The items of a text and its faults, by their places.
-use Rattle.std.specs.Prelude.{ℕ, ◌≡◌, ◌≢◌, ◌+◌, IsTrue, true, false, List, [], ◌∷◌, ◌++◌, length, Ok, Err}
+use Rattle.std.specs.Prelude.{ℕ, ◌≡◌, ◌≢◌, ◌+◌, IsTrue, false, List, [], ◌∷◌, ◌++◌, length, Ok, Err}
 use Rattle.clf_syntax.specs.Word.{is_declarable}
 use Rattle.celf_lexer.specs.declared.token.TokenKind.TheVariants.{Directive as DirectiveWord, End}
 use Rattle.celf_lexer.specs.declared.token.Token.{Token}

@@ -13,5 +13,6 @@ mod product;
 mod tests;
 mod types;
 
+pub use celf_cursor::MAX_BYTES;
 pub use fault::SyntaxFault;
 pub use item::{NESTING, next_item};

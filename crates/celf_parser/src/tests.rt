@@ -1,4 +1,4 @@
-//! The end of a text by example. Each production and each fault is tested where whole texts are read.
+//! The end of a text by example.
 
 use super::next_item;
 use std::test::Fail;
