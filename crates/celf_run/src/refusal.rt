@@ -6,8 +6,8 @@ ghost use Rattle.clf_printer.specs.Text.{variable_text};
 ghost use Rattle.celf_run.specs.Causes as spec;
 ghost use Rattle.celf_run.specs.Transcript.{refusal_line as refusal_line_of, byte_of, why as why_of};
 
-use celf_parser::{MAX_BYTES, SyntaxFault};
 use celf_lexer::LexFault;
+use celf_parser::{MAX_BYTES, SyntaxFault};
 use clf_kernel::{Cause, Refusal};
 use clf_printer::{push_number, push_place, push_variable};
 use clf_sig::Signature;

@@ -61,6 +61,31 @@ fn items_are_answered_in_order(rt: HostRuntime) -> Result<(), Fail> {
         ),
         (
             "a : type. #check",
+            "a : type.\nrefused at 16: unexpected end.\n",
+            Status::Refused,
+        ),
+        (
+            "a : type. ?",
+            "a : type.\nrefused at 10: bad byte.\n",
+            Status::Refused,
+        ),
+        (
+            "#exec a.",
+            "refused at 0: unknown directive.\n",
+            Status::Refused,
+        ),
+        (
+            "a : type a.",
+            "refused at 9: unexpected.\n",
+            Status::Refused,
+        ),
+        (
+            "a : type. c : a -o type.",
+            "a : type.\nrefused at 19: misplaced type.\n",
+            Status::Refused,
+        ),
+        (
+            "a : type. k : a -> type.",
             "a : type.\nrefused at 10: not yet.\n",
             Status::Refused,
         ),
@@ -131,6 +156,98 @@ fn types_are_printed_with_few_parentheses(rt: HostRuntime) -> Result<(), Fail> {
 }
 
 #[test]
+fn checks_are_answered(rt: HostRuntime) -> Result<(), Fail> {
+    let alloc = rt.alloc();
+    // Each check stands at byte 44.
+    for (check, printed, status) in [
+        (
+            "\\x. x : a -o a.",
+            "check: \\x1. x1 : a -o a.",
+            Status::Done,
+        ),
+        (
+            "\\x. z : a -o a.",
+            "refused at 44: unused x1 at 1.",
+            Status::Refused,
+        ),
+        (
+            "\\x. f x x : a -> b.",
+            "check: \\!x1. f x1 x1 : a -> b.",
+            Status::Done,
+        ),
+        (
+            "\\x. f x x : a -o b.",
+            "refused at 44: not held x1 at 1.0.1.",
+            Status::Refused,
+        ),
+        (
+            "\\x. z : a -@ a.",
+            "check: \\@x1. z : a -@ a.",
+            Status::Done,
+        ),
+        (
+            "\\x. x : a -@ a.",
+            "check: \\@x1. x1 : a -@ a.",
+            Status::Done,
+        ),
+        (
+            "\\x. f x x : a -@ b.",
+            "refused at 44: not held x1 at 1.0.1.",
+            Status::Refused,
+        ),
+        (
+            "\\x. <x, <>> : a -o a & <T>.",
+            "check: \\x1. <x1, <>> : a -o a & <T>.",
+            Status::Done,
+        ),
+        (
+            "\\x. <x, z> : a -o a & a.",
+            "refused at 44: pairs differ on x1 at 1.0.",
+            Status::Refused,
+        ),
+        (
+            "\\!x. x : a -o a.",
+            "refused at 44: mode differs at 1.",
+            Status::Refused,
+        ),
+        ("(\\x. x) z : a.", "refused at 52: redex.", Status::Refused),
+        ("f : a.", "refused at 44: not atomic at 1.", Status::Refused),
+        (
+            "#1 z : a.",
+            "refused at 44: not a pair at 1.0.",
+            Status::Refused,
+        ),
+        (
+            "<z, z> : a & b.",
+            "refused at 44: family differs: a and b at 1.1.",
+            Status::Refused,
+        ),
+        (
+            "\\x. y : a -o a.",
+            "refused at 55: unknown name y.",
+            Status::Refused,
+        ),
+        (
+            "f : a -o a -o b.",
+            "refused at 44: not yet.",
+            Status::Refused,
+        ),
+        ("X : a.", "refused at 44: not yet.", Status::Refused),
+    ] {
+        let head = b"a : type. b : type. z : a. f : a -o a -o b.\n".as_slice();
+        let entries = b"a : type.\nb : type.\nz : a.\nf : a -o a -o b.\n".as_slice();
+        assert_answer(
+            &rt,
+            alloc,
+            &[head, b"#check ", check.as_bytes()],
+            &[entries, printed.as_bytes(), b"\n"],
+            status,
+        )?;
+    }
+    Ok(())
+}
+
+#[test]
 fn limits_are_exact(rt: HostRuntime) -> Result<(), Fail> {
     let alloc = rt.alloc();
     // The limit of 1,000 nested parts itself is tried on the built program, by tools/check-limits.
@@ -161,7 +278,7 @@ fn limits_are_exact(rt: HostRuntime) -> Result<(), Fail> {
         &rt,
         alloc,
         &[word, b"a:type."],
-        &[b"refused at 0: not yet.\n"],
+        &[b"refused at 0: long name.\n"],
         Status::Refused,
     )?;
     for (blanks, status) in [(16_777_216, Status::Done), (16_777_217, Status::TooLarge)] {
