@@ -108,6 +108,7 @@ fn finds_the_first_number_that_is_no_family(rt: HostRuntime) -> Result<(), Fail>
 }
 
 #[test]
+#[tactic(auto, using(clf_syntax::specs::Plain::plain_laws))]
 fn checks_the_unit(rt: HostRuntime) -> Result<(), Fail> {
     let alloc = rt.alloc();
     let sig = signature(&rt, alloc)?;
@@ -123,6 +124,7 @@ fn checks_the_unit(rt: HostRuntime) -> Result<(), Fail> {
 }
 
 #[test]
+#[tactic(auto, using(clf_syntax::specs::Plain::plain_laws))]
 fn infers_the_type_of_a_constant(rt: HostRuntime) -> Result<(), Fail> {
     let alloc = rt.alloc();
     let sig = signature(&rt, alloc)?;

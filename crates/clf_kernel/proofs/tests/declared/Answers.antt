@@ -5,6 +5,6 @@ use Rattle.clf_kernel.proofs.SimpleSignatures.{simple_more}
 use Rattle.clf_kernel.proofs.tests.declared.Goals as goal
 
 pub returns : goal.returns
-returns c =
+returns g c =
     subst (λ s. IsSimpleSignature (plain_signature s)) (sym c.in-Ok.ensures.added)
     (simple_more c.args.sig c.args.name.now (record { implicit = 0; class = c.args.class }) c.requires.signature c.requires.class)
