@@ -19,6 +19,8 @@ pub struct Cursor {
     pub room: u32,
     /// The byte behind the last token that was taken.
     pub end: u32,
+    /// How many signs `*` of products were taken since the reading began.
+    pub stars: u32,
 }
 
 /// The cursor at a byte.
@@ -34,6 +36,7 @@ pub fn cursor_at(bytes: &[u8], at: u32, room: u32) -> Cursor
         next: celf_lexer::next(bytes, at),
         room,
         end: at,
+        stars: 0,
     }
 }
 
@@ -47,7 +50,13 @@ pub(crate) fn advance(bytes: &[u8], cursor: Cursor, token: Token, room: u32) -> 
     ensures cursor { IsCursorOf bytes.now result }
     ensures further { cursor.end < result.end }
 {
-    cursor_at(bytes, token.end, room)
+    let behind = cursor_at(bytes, token.end, room);
+    Cursor {
+        next: behind.next,
+        room: behind.room,
+        end: behind.end,
+        stars: cursor.stars,
+    }
 }
 
 /// The kind of the token that comes next, and the end where none begins.
@@ -88,5 +97,6 @@ pub fn end_part(bytes: &[u8], before: Cursor, cursor: Cursor) -> Cursor
         next: cursor.next,
         room: before.room,
         end: cursor.end,
+        stars: cursor.stars,
     }
 }
