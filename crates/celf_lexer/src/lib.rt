@@ -5,8 +5,6 @@ mod gap;
 mod laws;
 mod scan;
 mod sign;
-#[cfg(test)]
-mod tests;
 mod token;
 mod word;
 

@@ -9,8 +9,6 @@ mod form;
 mod item;
 mod leaf;
 mod product;
-#[cfg(test)]
-mod tests;
 mod types;
 
 pub use celf_cursor::MAX_BYTES;

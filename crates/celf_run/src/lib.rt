@@ -12,6 +12,3 @@ mod words;
 
 pub use status::Status;
 pub use top::run;
-
-#[cfg(test)]
-mod tests;

@@ -21,6 +21,3 @@ pub use sink::{Sink, SinkFault};
 pub use sure_shelf::SureShelf;
 pub use sure_sink::SureSink;
 pub use write::{WriteAllFault, write_all};
-
-#[cfg(test)]
-mod tests;

@@ -13,8 +13,6 @@ mod number;
 mod object;
 mod plain;
 mod redex;
-#[cfg(test)]
-mod tests;
 mod types;
 
 pub use fault::SugarFault;

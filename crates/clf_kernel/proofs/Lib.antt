@@ -11,5 +11,4 @@ pub mod Spines
 pub mod Variables
 pub mod Formed
 pub mod Entries
-pub mod SimpleSignatures
 pub mod Exactness

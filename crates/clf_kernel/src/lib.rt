@@ -10,8 +10,6 @@ mod refusal;
 mod rows;
 mod scope;
 mod steps;
-#[cfg(test)]
-mod tests;
 
 pub use entry::check_entry;
 pub use laws::{checking, clean, refusals, weakening, well_formed_signatures, well_formed_types};

@@ -12,6 +12,3 @@ mod words;
 
 pub use text::{declaration_text, entry_text, object_text, type_text};
 pub use words::{push_number, push_place, push_variable};
-
-#[cfg(test)]
-mod tests;

@@ -4,8 +4,6 @@
 mod entry;
 mod item;
 mod signature;
-#[cfg(test)]
-mod tests;
 
 pub use entry::{Class, Entry};
 pub use item::Core;

@@ -5,8 +5,6 @@ mod context;
 mod holding;
 mod join;
 mod laws;
-#[cfg(test)]
-mod tests;
 
 pub use context::Ctx;
 pub use holding::{Holding, NotHeld, State, take, weak};

@@ -1,4 +1,5 @@
-use crate::{
+//! Files that are read and texts that are written, with each call failing in turn.
+use celf_source::{
     Failed, MemShelf, MemSink, ReadAllFault, Shelf, ShelfFile, SureShelf, SureSink, WriteAllFault,
     read_all, write_all,
 };

@@ -1,8 +1,8 @@
 use Rattle.std.proofs.Common.{sym, subst}
 use Rattle.clf_sig.specs.Signature.{plain_signature}
 use Rattle.clf_kernel.specs.Reach.{IsSimpleSignature}
-use Rattle.clf_kernel.proofs.SimpleSignatures.{simple_more}
-use Rattle.clf_kernel.proofs.tests.declared.Goals as goal
+use Rattle.celf_tests.proofs.SimpleSignatures.{simple_more}
+use Rattle.celf_tests.proofs.kernel.declared.Goals as goal
 
 pub returns : goal.returns
 returns g c =

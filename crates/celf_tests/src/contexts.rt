@@ -2,11 +2,11 @@
 ghost use Rattle.std.specs.Prelude.{◌≡◌, ◌↔◌, IsTrue, length};
 ghost use Rattle.use_contexts.specs.Marks.{context, marks};
 
-use crate::{Ctx, Differ, Holding, Left, NotHeld, State, join_add, join_seq, take, weak};
 use clf_syntax::{Mode, TeleEntry, Ty};
 use sqlite_items::Items;
 use std::alloc::Global;
-use std::test::*;
+use std::test::Fail;
+use use_contexts::{Ctx, Differ, Holding, Left, NotHeld, State, join_add, join_seq, take, weak};
 
 fn context(alloc: Global, modes: &[Mode]) -> Result<Ctx, Fail> {
     let mut ctx = Ctx::empty(alloc);

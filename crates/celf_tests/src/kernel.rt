@@ -1,50 +1,18 @@
-//! Each call of the kernel once; tables of checks stand at the top, over text.
-ghost use Rattle.std.specs.Prelude.{◌≡◌, true, IfOk};
-ghost use Rattle.clf_syntax.specs.PlainTypes.{plain_ty};
+//! Each call of the kernel once; tables of checks stand in `run`, over text.
+ghost use Rattle.std.specs.Prelude.{IfOk};
 ghost use Rattle.clf_sig.specs.Signature.{plain_class, plain_signature};
-ghost use Rattle.clf_kernel.specs.Reach.{without_indices};
 ghost use Rattle.clf_kernel.specs.Reach.{IsSimpleSignature};
 ghost use Rattle.clf_kernel.specs.Formation.{IsSimpleClass};
 
-use crate::{Cause, check_entry, check_object, infer};
+use crate::trees::{atom, family, function};
+use clf_kernel::{Cause, check_entry, check_object, infer};
 use clf_sig::{Class, Entry, Signature};
-use clf_syntax::{Head, Kind, Mode, Neutral, Obj, OrWide, Ty};
-use sqlite_items::{Boxed, Items};
+use clf_syntax::{Head, Mode, Neutral, Obj, OrWide, Ty};
+use sqlite_items::Items;
 use std::alloc::Global;
 use std::process::Abort;
-use std::test::*;
+use std::test::Fail;
 use use_contexts::{Ctx, Holding};
-
-#[tactic(auto, using(clf_syntax::specs::PlainTypes::plain_type_laws))]
-fn atom(alloc: Global, family: u32) -> Ty
-    ensures { without_indices (plain_ty result) ≡ true }
-{
-    Ty::Fam {
-        family,
-        indices: Items::new(alloc),
-    }
-}
-
-#[tactic(auto, using(clf_syntax::specs::PlainTypes::plain_type_laws))]
-fn function(alloc: Global, mode: Mode, dom: Ty, cod: Ty) -> Result<Ty, Fail>
-    requires dom { without_indices (plain_ty dom) ≡ true }
-    requires cod { without_indices (plain_ty cod) ≡ true }
-    ensures { IfOk result (λ ty. without_indices (plain_ty ty) ≡ true) }
-{
-    let dom = Boxed::new(alloc, dom)?;
-    Ok(Ty::Fun {
-        mode,
-        dom,
-        cod: Boxed::new(alloc, cod)?,
-    })
-}
-
-#[tactic(auto, using(clf_syntax::specs::PlainTypes::plain_type_laws))]
-fn top() -> Ty
-    ensures { without_indices (plain_ty result) ≡ true }
-{
-    Ty::Top
-}
 
 /// The signature with one entry more, none of whose arguments is implicit.
 #[tactic(auto, using(crate::proofs::SimpleSignatures::simple_more))]
@@ -64,14 +32,8 @@ fn declared(rt: &impl Abort, sig: Signature, name: &str, class: Class) -> Signat
 fn signature(rt: &impl Abort, alloc: Global) -> Result<Signature, Fail>
     ensures { IfOk result (λ sig. IsSimpleSignature (plain_signature sig)) }
 {
-    let a = Class::Family(Kind {
-        args: Items::new(alloc),
-    });
-    let b = Class::Family(Kind {
-        args: Items::new(alloc),
-    });
-    let sig = declared(rt, Signature::new(alloc), "a", a);
-    let sig = declared(rt, sig, "b", b);
+    let sig = declared(rt, Signature::new(alloc), "a", family(alloc).class);
+    let sig = declared(rt, sig, "b", family(alloc).class);
     let sig = declared(rt, sig, "z", Class::Constant(atom(alloc, 0)));
     let rest = function(alloc, Mode::Linear, atom(alloc, 0), atom(alloc, 1))?;
     let ty = function(alloc, Mode::Linear, atom(alloc, 0), rest)?;
@@ -116,7 +78,7 @@ fn checks_the_unit(rt: HostRuntime) -> Result<(), Fail> {
     let holding = Holding {
         held: Items::new(alloc),
     };
-    match check_object(alloc, &sig, &ctx, &holding, &Obj::Unit, &top()) {
+    match check_object(alloc, &sig, &ctx, &holding, &Obj::Unit, &Ty::Top) {
         Ok(left) => assert!(rt; left.slack),
         Err(_fault) => panic!(rt; "refused"),
     }

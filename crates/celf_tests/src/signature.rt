@@ -1,35 +1,16 @@
 //! Each call once: with ample memory the calls that take memory answer Ok.
-use crate::{AddFault, Class, Entry, Signature};
-use clf_syntax::{Kind, Mode, Simple, Ty};
-use sqlite_items::{Boxed, Items};
+use crate::trees::{atom, family, function};
+use clf_sig::{AddFault, Class, Entry, Signature};
+use clf_syntax::{Mode, Simple, Ty};
 use std::alloc::Global;
-use std::test::*;
+use std::test::Fail;
 
-// `a : type` and `c : a -o a`, where `a` has the place 0.
-fn atom(alloc: Global) -> Ty {
-    Ty::Fam {
-        family: 0,
-        indices: Items::new(alloc),
-    }
-}
-
-fn family(alloc: Global) -> Entry {
-    Entry {
-        implicit: 0,
-        class: Class::Family(Kind {
-            args: Items::new(alloc),
-        }),
-    }
-}
-
+/// `a -o a`, where `a` has the place 0.
 fn linear_function(alloc: Global) -> Result<Entry, Fail> {
+    let ty = function(alloc, Mode::Linear, atom(alloc, 0), atom(alloc, 0))?;
     Ok(Entry {
         implicit: 0,
-        class: Class::Constant(Ty::Fun {
-            mode: Mode::Linear,
-            dom: Boxed::new(alloc, atom(alloc))?,
-            cod: Boxed::new(alloc, atom(alloc))?,
-        }),
+        class: Class::Constant(ty),
     })
 }
 
@@ -49,15 +30,6 @@ fn declares_in_order(rt: HostRuntime) -> Result<(), Fail> {
     for (place, name) in [(0, Some("a")), (1, Some("c")), (2, None)] {
         assert_eq!(rt; signature.name(place), name, "at {place}");
     }
-    Ok(())
-}
-
-#[test]
-fn keeps_entries_and_simple_types(rt: HostRuntime) -> Result<(), Fail> {
-    let alloc = rt.alloc();
-    let mut signature = Signature::new(alloc);
-    assert!(rt; matches!(signature.add("a", family(alloc)), Ok(_)));
-    assert!(rt; matches!(signature.add("c", linear_function(alloc)?), Ok(_)));
     assert!(rt;
         matches!(signature.entry(0), Some(entry) if matches!(&entry.class, Class::Family(_)))
     );

@@ -1,12 +1,12 @@
 //! Tokens by example.
 
-use super::{LexFault, Token, TokenKind, next};
 use TokenKind::{
     Affine, Amp, Arrow, AtSign, BackArrow, BackLolli, Backslash, Bang, Colon, Comma, ConstName,
     Directive, End, Equals, Greater, Hole, KwExists, KwIn, KwLet, KwPi, KwType, LeftBrace,
     LeftBracket, LeftParen, Less, Lolli, Number, Proj1, Proj2, RightBrace, RightBracket,
     RightParen, Star, Stop, TopSign, UnitSign,
 };
+use celf_lexer::{LexFault, Token, TokenKind, next};
 use std::process::Abort;
 
 const SMALL: TokenKind = TokenKind::Name { capital: false };

@@ -1,5 +1,5 @@
 //! Runs over files that are held in memory, with the text that the language's rules give.
-use crate::{Status, run};
+use celf_run::{Status, run};
 use celf_source::{MemShelf, MemSink, Shelf, ShelfFile, Sink, SureShelf, SureSink};
 use clf_syntax::Name;
 use std::alloc::Global;
