@@ -12,7 +12,7 @@ use Rattle.celf_grammar.specs.Machine.{is_pi, is_exists}
 use Rattle.celf_grammar.proofs.ObjectRuns.{begins_family}
 
 -- the kind of a token that is taken
-kind-taken : {left : ℕ} {t : Lexeme} {s u : State} {c : TokenKind} → TakesToken left t s u → t.kind ≡ c → next_kind s.rest ≡ c
+pub kind-taken : {left : ℕ} {t : Lexeme} {s u : State} {c : TokenKind} → TakesToken left t s u → t.kind ≡ c → next_kind s.rest ≡ c
 kind-taken h e = ap next_kind h.first ∙ e
 
 pub atom-begins : {s u : State} {o : Object} → IsAtom s o u → begins_atom (next_kind s.rest) ≡ true
@@ -37,7 +37,7 @@ argument-begins (mark_affine h) a = ap begins_argument (kind-taken h.taken h.kin
 argument-begins {s} (mark_none h) a = as_argument (next_kind s.rest) (atom-begins a)
 
 -- the first tokens of an object
-abbrev begins_object : TokenKind → Bool
+abbrev pub begins_object : TokenKind → Bool
 begins_object token.Backslash = true
 begins_object c = begins_atom c
 
@@ -45,7 +45,7 @@ as_object : (c : TokenKind) → begins_atom c ≡ true → begins_object c ≡ t
 as_object token.Backslash h = refl
 as_object _ h = h
 
-object-begins : {s u : State} {o : Object} → IsObject s o u → begins_object (next_kind s.rest) ≡ true
+pub object-begins : {s u : State} {o : Object} → IsObject s o u → begins_object (next_kind s.rest) ≡ true
 object-begins (obj_lambda h m b d o) = ap begins_object (kind-taken h.taken h.kind)
 object-begins {s} (obj_app (app_all a xs e)) = as_object (next_kind s.rest) (atom-begins a)
 

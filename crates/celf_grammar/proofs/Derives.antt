@@ -468,7 +468,7 @@ state_of : State → Verdict → State
 state_of z (accepted u) = u
 state_of z _ = z
 
-pub same_state : (s u : State) → accepted s ≡ accepted u → s ≡ u
+same_state : (s u : State) → accepted s ≡ accepted u → s ≡ u
 unfolding state_of
 same_state s u e = ap (state_of s) e
 

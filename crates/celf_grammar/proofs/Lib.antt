@@ -10,3 +10,8 @@ pub mod Lift
 pub mod Passes
 pub mod Finishes
 pub mod Verdicts
+pub mod OneToken
+pub mod Goes
+pub mod OneObject
+pub mod OneType
+pub mod OneItem

@@ -10,10 +10,10 @@ use Rattle.celf_surface.specs.Surface.{PlainItem}
 use Rattle.celf_grammar.specs.State.{State}
 use Rattle.celf_grammar.specs.Grammar.{is_let, IsItem}
 use Rattle.celf_grammar.specs.Machine.{Symbol, Item, stops, deep, feed, Verdict, accepted, unexpected, too_deep, lacking, at_end, after_token, runs_on, runs}
-use Rattle.celf_grammar.specs.Faults.{HasItem, BeginsItem, opens_part, StaysWithin, IsUnexpected, IsTooDeep, IsLacking, Says, VerdictIsTrue, VerdictIsOnly, BehindIsOne}
+use Rattle.celf_grammar.specs.Faults.{HasItem, BeginsItem, opens_part, StaysWithin, IsUnexpected, IsTooDeep, IsLacking, Says, VerdictIsTrue, VerdictIsOnly}
 use Rattle.celf_grammar.proofs.Runs.{runs-empty}
 use Rattle.celf_grammar.proofs.Accepts.{item-accepts}
-use Rattle.celf_grammar.proofs.Derives.{is_accepted, same_state, item-derives}
+use Rattle.celf_grammar.proofs.Derives.{is_accepted, item-derives}
 use Rattle.celf_grammar.proofs.Lift.{lift, Lifted, feed-lifts, run-lifts, end-same}
 use Rattle.celf_grammar.proofs.Passes.{Passes, passes-run, passes-lift, passes-push, passes-front, Comes, run-comes}
 use Rattle.celf_grammar.proofs.Finishes.{finish, well, well_or_let, Sound, feed-sound, finished, finished-within, at}
@@ -21,9 +21,6 @@ use Rattle.celf_grammar.proofs.Finishes.{finish, well, well_or_let, Sound, feed-
 -- Where an item stands, the machine accepts it, with what is left behind it.
 pub item-accepted : (s u : State) (i : PlainItem) → IsItem s i u → runs (Item ∷ []) s ≡ accepted u
 item-accepted s u i h = item-accepts h [] ∙ runs-empty u
-
-pub behind-one : BehindIsOne
-behind-one s u v i j h g = same_state u v (sym (item-accepted s u i h) ∙ item-accepted s v j g)
 
 state_accepted : (v : Verdict) → is_accepted v ≡ true → (u : State) × (v ≡ accepted u)
 state_accepted (accepted u) h = (u, refl)
@@ -255,4 +252,4 @@ one-verdict s lacking lacking e h g = refl
 pub verdict-only : VerdictIsOnly
 verdict-only s v g = one-verdict s (runs (Item ∷ []) s) v refl (verdict-true s) g
 
-pub ruleset verdict_laws = (verdict-true, verdict-only, behind-one)
+pub ruleset verdict_laws = (verdict-true, verdict-only)

@@ -76,6 +76,10 @@ VerdictIsTrue = (s : State) → Says s (runs (Item ∷ []) s)
 abbrev pub VerdictIsOnly : Type 0
 VerdictIsOnly = (s : State) (v : Verdict) → Says s v → runs (Item ∷ []) s ≡ v
 
+-- An item has one tree.
+abbrev pub TreeIsOne : Type 0
+TreeIsOne = (s u v : State) (i j : PlainItem) → IsItem s i u → IsItem s j v → i ≡ j
+
 -- What is left behind an item is determined.
 abbrev pub BehindIsOne : Type 0
 BehindIsOne = (s u v : State) (i j : PlainItem) → IsItem s i u → IsItem s j v → u ≡ v

@@ -3,4 +3,4 @@
 
 mod laws;
 
-pub use laws::{exact_verdicts, what_is_left};
+pub use laws::{exact_verdicts, one_reading};
