@@ -63,7 +63,7 @@ fn entries_are_checked(rt: HostRuntime) -> Result<(), Fail> {
 }
 
 #[test]
-#[tactic(auto, using(clf_syntax::specs::Plain::plain_laws))]
+#[tactic(auto, using(clf_syntax::specs::Plain::plain_laws, clf_syntax::specs::PlainTypes::plain_type_laws))]
 fn objects_are_checked(rt: HostRuntime) {
     let alloc = rt.alloc();
     let sig = signature(&rt, alloc);
