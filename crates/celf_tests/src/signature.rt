@@ -1,18 +1,8 @@
 //! Each call once: with ample memory the calls that take memory answer Ok.
-use crate::trees::{atom, family, function};
-use clf_sig::{AddFault, Class, Entry, Signature};
+use crate::trees::{atom, constant, family, function};
+use clf_sig::{AddFault, Class, Signature};
 use clf_syntax::{Mode, Simple, Ty};
-use std::alloc::Global;
 use std::test::Fail;
-
-/// `a -o a`, where `a` has the place 0.
-fn linear_function(alloc: Global) -> Result<Entry, Fail> {
-    let ty = function(alloc, Mode::Linear, atom(alloc, 0), atom(alloc, 0))?;
-    Ok(Entry {
-        implicit: 0,
-        class: Class::Constant(ty),
-    })
-}
 
 #[test]
 fn declares_in_order(rt: HostRuntime) -> Result<(), Fail> {
@@ -20,9 +10,11 @@ fn declares_in_order(rt: HostRuntime) -> Result<(), Fail> {
     let mut signature = Signature::new(alloc);
     assert!(rt; signature.is_empty());
     assert!(rt; matches!(signature.add("a", family(alloc)), Ok(0)));
-    let constant = linear_function(alloc)?;
-    assert!(rt; matches!(signature.add("c", constant.copy(alloc)?), Ok(1)));
-    assert!(rt; matches!(signature.add("a", constant), Err(AddFault::Duplicate)));
+    // `a -o a`
+    let ty = function(alloc, Mode::Linear, atom(alloc, 0), atom(alloc, 0))?;
+    let entry = constant(ty);
+    assert!(rt; matches!(signature.add("c", entry.copy(alloc)?), Ok(1)));
+    assert!(rt; matches!(signature.add("a", entry), Err(AddFault::Duplicate)));
     assert_eq!(rt; signature.len(), 2);
     for (name, place) in [("a", Some(0)), ("c", Some(1)), ("", None), ("ac", None)] {
         assert_eq!(rt; signature.find(name), place, "of {name}");

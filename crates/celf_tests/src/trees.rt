@@ -2,6 +2,8 @@
 ghost use Rattle.std.specs.Prelude.{◌≡◌, [], IfOk};
 ghost use Rattle.clf_syntax.specs.TypeTree.{family as family_type, function as function_type};
 ghost use Rattle.clf_syntax.specs.PlainTypes.{plain_ty};
+ghost use Rattle.clf_sig.specs.Entry.{family_of, constant_of};
+ghost use Rattle.clf_sig.specs.Signature.{plain_class};
 
 use clf_sig::{Class, Entry};
 use clf_syntax::{Kind, Mode, Ty};
@@ -31,12 +33,26 @@ pub fn function(alloc: Global, mode: Mode, dom: Ty, cod: Ty) -> Result<Ty, Alloc
     })
 }
 
-/// A declaration `type`.
-pub fn family(alloc: Global) -> Entry {
+/// A family without arguments.
+pub fn family(alloc: Global) -> Entry
+    ensures implicit { result.implicit ≡ 0 }
+    ensures class { plain_class result.class ≡ family_of [] }
+{
     Entry {
         implicit: 0,
         class: Class::Family(Kind {
             args: Items::new(alloc),
         }),
+    }
+}
+
+/// A constant none of whose arguments is implicit.
+pub fn constant(ty: Ty) -> Entry
+    ensures implicit { result.implicit ≡ 0 }
+    ensures class { plain_class result.class ≡ constant_of (plain_ty ty) }
+{
+    Entry {
+        implicit: 0,
+        class: Class::Constant(ty),
     }
 }

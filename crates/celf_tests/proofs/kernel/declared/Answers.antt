@@ -7,4 +7,4 @@ use Rattle.celf_tests.proofs.kernel.declared.Goals as goal
 pub returns : goal.returns
 returns g c =
     subst (λ s. IsSimpleSignature (plain_signature s)) (sym c.in-Ok.ensures.added)
-    (simple_more c.args.sig c.args.name.now (record { implicit = 0; class = c.args.class }) c.requires.signature c.requires.class)
+    (simple_more c.args.sig c.args.name.now c.args.entry c.requires.signature c.requires.class)
