@@ -7,13 +7,18 @@ use Rattle.celf_lexer.specs.Tokens.{next_token, tokens_from}
 use Rattle.celf_lexer.proofs.Tokens.{next_token-ok}
 use Rattle.celf_lexer.proofs.Starts.{next_token-start}
 use Rattle.celf_surface.specs.declared.surface.Span.{Span}
-use Rattle.celf_surface.specs.Surface.{Body}
+use Rattle.celf_surface.specs.declared.surface.SObj.{SObj}
+use Rattle.celf_surface.specs.Surface.{Body, object_tree}
 use Rattle.celf_grammar.specs.State.{State, span_to, Takes}
-use Rattle.celf_grammar.specs.Grammar.{IsBody, IsItem, item_all}
+use Rattle.celf_grammar.specs.Grammar.{IsBody, IsItem, item_all, IsObject}
 use Rattle.celf_cursor.specs.declared.cursor.Cursor.{Cursor}
 use Rattle.celf_cursor.specs.Cursor.{state_of, IsCursorOf}
 use Rattle.celf_cursor.proofs.Cursors.{tokens_on-from}
 use Rattle.celf_parser.specs.Place.{start_at, IsItemAt}
+
+-- what was read is the same out of its box
+pub unboxed-read : {s u : State} {o b : SObj} → o ≡ b → IsObject s (object_tree b) u → IsObject s (object_tree o) u
+unboxed-read {s} {u} e h = subst (λ (x : SObj). IsObject s (object_tree x) u) (sym e) h
 
 -- the span of an item ends where its full stop does
 pub span-end : (text : List ℕ) (s : State) (c : Cursor) (p : Span) → p ≡ span_to s (state_of text c) → p.end ≡ c.end

@@ -1,8 +1,8 @@
 //! What items say: declarations and directives, without their full stop.
 ghost use Rattle.std.specs.Prelude.{◌≡◌, ◌≢◌, ◌<◌, IfOk, IfErr, codes, List, ◌∷◌};
-ghost use Rattle.celf_surface.specs.Surface.{body_of, surface};
+ghost use Rattle.celf_surface.specs.Surface.{body_of, object_tree, surface};
 ghost use Rattle.celf_grammar.specs.State.{State, TakesDirective};
-ghost use Rattle.celf_grammar.specs.Grammar.{IsBody, IsType};
+ghost use Rattle.celf_grammar.specs.Grammar.{IsBody, IsObject, IsType};
 ghost use Rattle.celf_grammar.specs.Machine.{Symbol, Expect, Whole, Bound as BoundSymbol, Object as ObjectSymbol, Body as BodySymbol};
 ghost use Rattle.celf_cursor.specs.Cursor.{IsCursorOf, state_of, kind_next};
 ghost use Rattle.celf_cursor.specs.Faults.{IsFaultOf};
@@ -15,7 +15,8 @@ use crate::types::type_at;
 use celf_cursor::{Cursor, Stop, kind_of_next, take, take_directive, take_name};
 use celf_lexer::TokenKind;
 use celf_objects::object_at;
-use celf_surface::{ItemBody, SType};
+use celf_surface::{ItemBody, SObj, SType};
+use sqlite_items::Boxed;
 use std::alloc::Global;
 
 /// A declaration or a directive.
@@ -47,6 +48,23 @@ fn item_type_at(alloc: Global, bytes: &[u8], cursor: Cursor) -> Result<(SType, C
 {
     let (ty, end) = type_at(alloc, bytes, cursor)?;
     Ok((ty.into_inner(), end))
+}
+
+/// An object in a box. There it is dropped by a call: dropped in place, each of its forms would be a case of the function that reads on.
+#[tactic(auto, using(crate::proofs::TypeFaults::memory_faults))]
+fn boxed_object_at(
+    alloc: Global,
+    bytes: &[u8],
+    cursor: Cursor,
+) -> Result<(Boxed<SObj>, Cursor), Stop>
+    requires cursor { IsCursorOf bytes.now cursor }
+    ensures read { IfOk result (λ r. IsObject (state_of bytes.now cursor) (object_tree r.0) (state_of bytes.now r.1)) }
+    ensures cursor { IfOk result (λ r. IsCursorOf bytes.now r.1) }
+    ensures further { IfOk result (λ r. cursor.end < r.1.end) }
+    ensures fault { IfErr result (λ e. (k : List Symbol) → IsFaultOf bytes.now (ObjectSymbol ∷ k) (state_of bytes.now cursor) e) }
+{
+    let (obj, end) = object_at(alloc, bytes, cursor)?;
+    Ok((Boxed::new(alloc, obj)?, end))
 }
 
 /// `NAME : type`, or `NAME : [n] type`.
@@ -137,11 +155,12 @@ fn equal_at(alloc: Global, bytes: &[u8], cursor: Cursor) -> Result<(ItemBody, Cu
     ensures further { IfOk result (λ r. cursor.end < r.1.end) }
     ensures fault { IfErr result (λ e. (k : List Symbol) → IsFaultOf bytes.now (ObjectSymbol ∷ Expect TokenKind.Equals ∷ ObjectSymbol ∷ Expect TokenKind.Colon ∷ Whole ∷ k) (state_of bytes.now cursor) e) }
 {
-    let (left, behind_left) = object_at(alloc, bytes, cursor)?;
+    let (left, behind_left) = boxed_object_at(alloc, bytes, cursor)?;
     let equals = take(bytes, behind_left, TokenKind::Equals)?;
-    let (right, behind_right) = object_at(alloc, bytes, equals)?;
+    let (right, behind_right) = boxed_object_at(alloc, bytes, equals)?;
     let colon = take(bytes, behind_right, TokenKind::Colon)?;
     let (ty, end) = item_type_at(alloc, bytes, colon)?;
+    let (left, right) = (left.into_inner(), right.into_inner());
     Ok((ItemBody::Equal { left, right, ty }, end))
 }
 
@@ -154,8 +173,9 @@ fn check_at(alloc: Global, bytes: &[u8], cursor: Cursor) -> Result<(ItemBody, Cu
     ensures further { IfOk result (λ r. cursor.end < r.1.end) }
     ensures fault { IfErr result (λ e. (k : List Symbol) → IsFaultOf bytes.now (ObjectSymbol ∷ Expect TokenKind.Colon ∷ Whole ∷ k) (state_of bytes.now cursor) e) }
 {
-    let (obj, behind) = object_at(alloc, bytes, cursor)?;
+    let (obj, behind) = boxed_object_at(alloc, bytes, cursor)?;
     let colon = take(bytes, behind, TokenKind::Colon)?;
     let (ty, end) = item_type_at(alloc, bytes, colon)?;
+    let obj = obj.into_inner();
     Ok((ItemBody::Check { obj, ty }, end))
 }

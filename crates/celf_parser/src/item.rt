@@ -47,7 +47,15 @@ fn item_at(alloc: Global, bytes: &[u8], cursor: Cursor) -> Result<Item, SyntaxFa
     ensures fault { IfErr result (λ f. (k : List Symbol) → IsItemFault bytes.now (ItemSymbol ∷ k) (state_of bytes.now cursor) f) }
 {
     let (body, behind) = body_at(alloc, bytes, cursor)?;
-    let end = take(bytes, behind, TokenKind::Stop)?;
-    let span = span_from(bytes, cursor, end);
-    Ok(Item { span, body })
+    match take(bytes, behind, TokenKind::Stop) {
+        Ok(end) => {
+            let span = span_from(bytes, cursor, end);
+            Ok(Item { span, body })
+        }
+        Err(stop) => {
+            // By a call: dropped here, each form of the tree would be a case of this function.
+            drop(body);
+            Err(SyntaxFault::from(stop))
+        }
+    }
 }

@@ -2,11 +2,12 @@ use Rattle.celf_grammar.specs.Grammar.{body_equal}
 use Rattle.celf_lexer.specs.declared.token.TokenKind.TheVariants as token
 use Rattle.celf_cursor.proofs.Faulty.{expect-missed}
 use Rattle.celf_parser.proofs.BodyFaults.{formed-fault}
+use Rattle.celf_parser.proofs.Items.{unboxed-read}
 use Rattle.celf_parser.proofs.TypeFaults.{passed, stop-fault}
 use Rattle.celf_parser.proofs.body.equal_at.Goals as goal
 
 pub returns-clause-read : goal.returns-clause-read
-returns-clause-read c s h = body_equal h c.in_ok-left.ensures.read c.in_ok-equals.ensures.taken c.in_ok-right.ensures.read c.in_ok-colon.ensures.taken c.in_ok-ty.ensures.read
+returns-clause-read c s h = body_equal h (unboxed-read c.into_inner-left.ensures c.in_ok-left.ensures.read) c.in_ok-equals.ensures.taken (unboxed-read c.into_inner-right.ensures c.in_ok-right.ensures.read) c.in_ok-colon.ensures.taken c.in_ok-ty.ensures.read
 
 pub returns-in_err-left-clause-fault : goal.returns-in_err-left-clause-fault
 returns-in_err-left-clause-fault c =
