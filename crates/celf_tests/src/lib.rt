@@ -8,8 +8,6 @@ mod kernel;
 #[cfg(test)]
 mod lexer;
 #[cfg(test)]
-mod parser;
-#[cfg(test)]
 mod printer;
 #[cfg(test)]
 mod run;
@@ -17,7 +15,5 @@ mod run;
 mod signature;
 #[cfg(test)]
 mod source;
-#[cfg(test)]
-mod sugar;
 #[cfg(test)]
 mod trees;

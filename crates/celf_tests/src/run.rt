@@ -156,6 +156,48 @@ fn types_are_printed_with_few_parentheses(rt: HostRuntime) -> Result<(), Fail> {
 }
 
 #[test]
+fn sugar_is_read(rt: HostRuntime) -> Result<(), Fail> {
+    let alloc = rt.alloc();
+    // Each declaration begins at byte 30.
+    for (item, printed, status) in [
+        ("d : b <- a.", "d : a -> b.", Status::Done),
+        ("d : c o- b o- a.", "d : a -o b -o c.", Status::Done),
+        ("d : c o- a * @b.", "d : a -o b -@ c.", Status::Done),
+        (
+            "d : a * (1 * !b) * a & b -o c.",
+            "d : a -o b -> a & b -o c.",
+            Status::Done,
+        ),
+        (
+            "d : b o- (Exists x: a. a * @c).",
+            "d : a -> a -o c -@ b.",
+            Status::Done,
+        ),
+        ("d : 1 -o a.", "d : a.", Status::Done),
+        (
+            "d : [2] a -> b -o c.",
+            "refused at 35: implicit count.",
+            Status::Refused,
+        ),
+        (
+            "d : a * (b * c) -> type.",
+            "refused at 34: synchronous type.",
+            Status::Refused,
+        ),
+    ] {
+        let families = b"a : type.\nb : type.\nc : type.\n".as_slice();
+        assert_answer(
+            &rt,
+            alloc,
+            &[families, item.as_bytes()],
+            &[families, printed.as_bytes(), b"\n"],
+            status,
+        )?;
+    }
+    Ok(())
+}
+
+#[test]
 fn checks_are_answered(rt: HostRuntime) -> Result<(), Fail> {
     let alloc = rt.alloc();
     // Each check stands at byte 44.
