@@ -14,6 +14,8 @@ mod steps;
 mod tests;
 
 pub use entry::check_entry;
-pub use laws::{checking, clean, refusals, weakening, well_formed_signatures, well_formed_types};
+pub use laws::{
+    checking, clean, one_answer, refusals, weakening, well_formed_signatures, well_formed_types,
+};
 pub use object::{check_object, infer};
 pub use refusal::{Cause, Inferred, Refusal};
