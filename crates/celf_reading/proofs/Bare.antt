@@ -11,7 +11,8 @@ use Rattle.celf_explicit.specs.Reading.{read_type}
 use Rattle.celf_explicit.specs.Entries.{read_class, fresh_entry, read_entry}
 use Rattle.celf_reading.specs.Bare.{IsBareType, IsBareClass, IsBareEntry, AreBare, IsBareSignature}
 use Rattle.celf_reading.proofs.Options.{option_map-some, option_and_then-some, combined-some}
-use Rattle.celf_reading.proofs.Places.{same_bytes-refl, place_of-behind}
+use Rattle.celf_lexer.proofs.Signs.{same_bytes-refl}
+use Rattle.celf_reading.proofs.Places.{place_of-behind}
 
 -- The entry at a place of a bare signature: its name has that place and can be declared, and it is bare over the entries before it.
 pub record IsEntryAt (sig : PlainSignature) (k : ℕ) (e : List ℕ × PlainEntry) : Type 0 where

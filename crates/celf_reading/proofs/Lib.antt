@@ -16,4 +16,3 @@ pub mod PairSign
 pub mod ObjectText
 pub mod ChecksBack
 pub mod WithinReach
-pub mod Judged

@@ -7,7 +7,7 @@ use Rattle.std.proofs.lemmas.Fmt.{decimal_is_IsNumeral, decimal_injective, lengt
 use Rattle.std.proofs.lemmas.Str.Parse.{digit_from_value}
 use Rattle.clf_syntax.specs.Word.{is_digit, is_letter, is_name_byte, is_word_rest, all_digits, same_bytes, is_variable_word, is_declarable}
 use Rattle.clf_printer.specs.Text.{variable_text}
-use Rattle.celf_reading.proofs.Places.{same_bytes-equal}
+use Rattle.celf_lexer.proofs.Bounds.{same_bytes-equal}
 
 digit-code : (c : ℕ) → 48 ≤ c → c ≤ 57 → is_digit c ≡ true
 digit-code c low high = rw (le-leb 48 c low, le-leb c 57 high)

@@ -19,8 +19,8 @@ use Rattle.celf_sugar.specs.PlainTree as plain
 use Rattle.clf_sig.specs.Entry.{PlainEntry, PlainSignature, place_of}
 use Rattle.clf_kernel.specs.WellFormed.{WellFormedEntry}
 use Rattle.clf_kernel.specs.Typing.{HasType}
-use Rattle.clf_kernel.specs.Refusal.{Cause, refused as refusal}
-use Rattle.clf_kernel.specs.Checking.{checked}
+use Rattle.clf_kernel.specs.Refusal.{Cause}
+use Rattle.clf_kernel.specs.Explained.{ExplainedAt}
 use Rattle.celf_explicit.specs.Unknown.{first_unknown}
 use Rattle.celf_explicit.specs.Entries.{read_entry}
 use Rattle.celf_explicit.specs.Reading.{read_check}
@@ -110,8 +110,9 @@ pub data Declared (sig : PlainSignature) (item : plain.PlainItem) (name : List �
 
 -- the answers to an object and a type that were read from an item at a byte
 pub data Judged (sig : PlainSignature) (start : ℕ) (n : Object) (a : PlainType) : Answer → Type 0 where
-  -- the rules do not type the object; this is the first refusal of the kernel
-  has_none : {path : List ℕ} {cause : Cause} → (HasType sig [] [] n a → ⊥) → checked sig [] [] n a ≡ refusal path cause
+  -- The rules do not type the object, and at the path stands a part that they refuse for the cause. Of an object that is read there is
+  -- one such path with one such cause: the kernel's laws `one_answer` say so.
+  has_none : {path : List ℕ} {cause : Cause} → (HasType sig [] [] n a → ⊥) → ExplainedAt sig [] [] n a path cause
       → Judged sig start n a (refused start (kernel_why sig (1 ∷ path) cause))
   -- they type it, and the line reads back
   has_type : HasType sig [] [] n a → ChecksBack sig n a → Judged sig start n a (typed n a)

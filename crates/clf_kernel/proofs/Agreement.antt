@@ -20,10 +20,11 @@ use Rattle.hered_subst.specs.Substitution.{single, SubstitutedType}
 use Rattle.trace_equal.specs.Exchange.{JoinedEach}
 use Rattle.clf_sig.specs.Entry.{PlainSignature, constant_type}
 use Rattle.clf_kernel.specs.Typing.{HeadHasType, HasType, NeutralHasType}
-use Rattle.clf_kernel.specs.Refusal.{unused, mode_differs, family_differs, Outcome, passed, refused, at_part, and_then}
-use Rattle.clf_kernel.specs.Checking.{Leftover, answer_of, same_mode, constant_left, held_left, variable_left, head_left, closed_scope, lambda_left, joined_left, pair_left, unit_left, found_left, atomic_left, argument_left, first_left, second_left, eliminations, checked, inferred}
+use Rattle.clf_kernel.specs.Refusal.{unused, mode_differs, family_differs, Outcome, passed, refused, at_part, and_then, Leftover, eliminations}
+use Rattle.clf_kernel.specs.Checking.{answer_of, same_mode, constant_left, held_left, variable_left, head_left, closed_scope, lambda_left, joined_left, pair_left, unit_left, found_left, atomic_left, argument_left, first_left, second_left, checked, inferred}
 use Rattle.clf_kernel.specs.Reach.{without_indices, IsSimpleSignature, IsSimpleContext, without_monads, neutral_without_monads}
-use Rattle.clf_kernel.specs.Laws.{AgreesWithType, ChecksExactly, InfersExactly}
+use Rattle.clf_kernel.specs.Exact.{AgreesWithType}
+use Rattle.clf_kernel.specs.Laws.{ChecksExactly, InfersExactly}
 use Rattle.clf_kernel.proofs.Held.{same_number}
 use Rattle.clf_kernel.proofs.WithoutIndices.{renamed-type, same-type, itself-type, simple-variable}
 

@@ -13,11 +13,10 @@ use Rattle.clf_kernel.specs.declared.refusal.Refusal.{Refusal}
 use Rattle.clf_kernel.specs.declared.refusal.Inferred.{Inferred}
 use Rattle.clf_kernel.specs.Typing.{HasType, NeutralHasType}
 use Rattle.clf_kernel.specs.Reach.{IsSimpleSignature, IsSimpleContext, without_indices, without_monads, neutral_without_monads}
-use Rattle.clf_kernel.specs.Checking.{Leftover, answer_of, checked, inferred}
-use Rattle.clf_kernel.specs.Refusal.{Outcome}
-use Rattle.clf_kernel.specs.Laws.{AgreesWithType}
+use Rattle.clf_kernel.specs.Checking.{answer_of, checked, inferred}
+use Rattle.clf_kernel.specs.Refusal.{Outcome, Leftover}
 use Rattle.clf_kernel.specs.Answers.{plain_left, plain_inferred, plain_cause, Answers}
-use Rattle.clf_kernel.specs.Exact.{ChecksObject, InfersNeutral}
+use Rattle.clf_kernel.specs.Exact.{AgreesWithType, ChecksObject, InfersNeutral}
 use Rattle.clf_kernel.proofs.Agreement.{checks_exactly, infers_exactly}
 use Rattle.clf_kernel.proofs.FirstRefusals.{refuses_exactly, refuses_neutrals_exactly}
 

@@ -15,11 +15,11 @@ use Rattle.use_contexts.proofs.RowLaws.{IsPart-stands}
 use Rattle.use_contexts.proofs.UseLaws.{WellMarked-part}
 use Rattle.clf_sig.specs.Entry.{PlainSignature, constant_type}
 use Rattle.clf_kernel.specs.Typing.{HasType, NeutralHasType}
-use Rattle.clf_kernel.specs.Refusal.{Cause, unused, mode_differs, family_differs, Outcome, passed, refused, at_part, and_then}
-use Rattle.clf_kernel.specs.Checking.{Leftover, answer_of, same_mode, eliminations, constant_left, held_left, variable_left, head_left, closed_scope, lambda_left, joined_left, pair_left, unit_left, found_left, atomic_left, argument_left, first_left, second_left, checked, inferred}
+use Rattle.clf_kernel.specs.Refusal.{Cause, unused, mode_differs, family_differs, Outcome, passed, refused, at_part, and_then, Leftover, eliminations}
+use Rattle.clf_kernel.specs.Checking.{answer_of, same_mode, constant_left, held_left, variable_left, head_left, closed_scope, lambda_left, joined_left, pair_left, unit_left, found_left, atomic_left, argument_left, first_left, second_left, checked, inferred}
 use Rattle.clf_kernel.specs.Reach.{without_indices, IsSimpleSignature, IsSimpleContext, without_monads, neutral_without_monads}
 use Rattle.clf_kernel.specs.Explained.{DiffersAt, MaySynthesize, object_at, neutral_with, whole, in_body, in_left_part, in_right_part, in_neutral, at_head, at_argument, at_first, at_second, before_argument, before_first, before_second, in_argument_part, lambda_at_none, argument_to_none, pair_at_none, first_of_none, second_of_none, unit_at_none, neutral_at_none, neutral_of_none, hole_stands, metavariable_stands, lambda_differs, argument_differs, variable_not_held, variable_unused, parts_differ, other_family, no_variable, no_constant, ExplainedAt, ExplainedInNeutral}
-use Rattle.clf_kernel.specs.Laws.{AgreesWithType}
+use Rattle.clf_kernel.specs.Exact.{AgreesWithType}
 use Rattle.clf_kernel.proofs.Agreement.{marked-there, same-mode, other-mode, other-number, allowed-marked, object-agrees, neutral-agrees}
 
 -- ---- a row stands for some part: that with the entries that are used

@@ -14,11 +14,12 @@ use Rattle.use_contexts.proofs.Bits.{at_entry, given_3, and-left, and-right, and
 use Rattle.use_contexts.proofs.UseLaws.{WellMarked-part, scope-agrees}
 use Rattle.clf_sig.specs.Entry.{PlainSignature}
 use Rattle.clf_kernel.specs.Typing.{HasType, NeutralHasType}
-use Rattle.clf_kernel.specs.Refusal.{Cause, not_function, not_pair, not_top, not_atomic, unused, mode_differs, family_differs, pairs_differ, Outcome, passed, refused, at_part, and_then}
-use Rattle.clf_kernel.specs.Checking.{Leftover, answer_of, same_mode, eliminations, constant_left, held_left, variable_left, head_left, closed_scope, lambda_left, joined_left, pair_left, unit_left, found_left, atomic_left, argument_left, first_left, second_left, checked, inferred}
+use Rattle.clf_kernel.specs.Refusal.{Cause, not_function, not_pair, not_top, not_atomic, unused, mode_differs, family_differs, pairs_differ, Outcome, passed, refused, at_part, and_then, Leftover, eliminations}
+use Rattle.clf_kernel.specs.Checking.{answer_of, same_mode, constant_left, held_left, variable_left, head_left, closed_scope, lambda_left, joined_left, pair_left, unit_left, found_left, atomic_left, argument_left, first_left, second_left, checked, inferred}
 use Rattle.clf_kernel.specs.Reach.{without_indices, IsSimpleSignature, IsSimpleContext, without_monads, neutral_without_monads}
 use Rattle.clf_kernel.specs.Explained.{MayHaveType, MaySynthesize, CheckedPart, object_at, neutral_with, Reaches, ReachesInNeutral, whole, in_body, in_left_part, in_right_part, in_neutral, at_head, at_argument, at_first, at_second, before_argument, before_first, before_second, in_argument_part, IsNoFunction, IsNoPair, IsNoFamily, DiffersAt, Refuses, lambda_at_none, argument_to_none, pair_at_none, first_of_none, second_of_none, unit_at_none, neutral_at_none, neutral_of_none, hole_stands, metavariable_stands, lambda_differs, argument_differs, variable_not_held, variable_unused, parts_differ, other_family, no_variable, no_constant}
-use Rattle.clf_kernel.specs.Laws.{AgreesWithType, RefusesExactly, RefusesNeutralsExactly}
+use Rattle.clf_kernel.specs.Exact.{AgreesWithType}
+use Rattle.clf_kernel.specs.Laws.{RefusesExactly, RefusesNeutralsExactly}
 use Rattle.clf_kernel.proofs.Agreement.{itself-mode, allowed-marked, object-agrees, neutral-agrees}
 use Rattle.clf_kernel.proofs.Explanations.{explained-object, explained-neutral, some-part, same_from_beq, differ-at, differ-found, rows-differ, parts-differ, used, used_of, used-part}
 

@@ -5,6 +5,7 @@ pub mod WithoutIndices
 pub mod Agreement
 pub mod Explanations
 pub mod FirstRefusals
+pub mod OneAnswer
 pub mod RowSteps
 pub mod Stops
 pub mod Spines

@@ -5,8 +5,8 @@ use Rattle.clf_syntax.specs.TypeTree.{PlainType}
 use Rattle.use_contexts.specs.Context.{Context, modes}
 use Rattle.use_contexts.specs.Holding.{Holding}
 use Rattle.use_contexts.specs.Rows.{taken}
-use Rattle.clf_kernel.specs.Refusal.{passed, refused, not_held}
-use Rattle.clf_kernel.specs.Checking.{level, variable_left}
+use Rattle.clf_kernel.specs.Refusal.{passed, refused, not_held, level}
+use Rattle.clf_kernel.specs.Checking.{variable_left}
 
 present : {X : Type 0} (xs : List X) (i : ℕ) → i < length xs → (x : X) × (slice_get xs i ≡ Some x)
 present [] i l = absurd (omega arith)

@@ -12,8 +12,7 @@ use Rattle.clf_kernel.specs.declared.refusal.Cause.{Cause as DeclaredCause}
 use Rattle.clf_kernel.specs.declared.refusal.Cause.TheVariants.{NotFunction, NotPair, NotTop, NotAtomic, NotClosed, ModeDiffers, NotHeld, Unused, PairsDiffer, FamilyDiffers, UnknownHead}
 use Rattle.clf_kernel.specs.declared.refusal.Refusal.{Refusal}
 use Rattle.clf_kernel.specs.declared.refusal.Inferred.{Inferred}
-use Rattle.clf_kernel.specs.Refusal.{Cause, not_function, not_pair, not_top, not_atomic, not_closed, mode_differs, not_held, unused, pairs_differ, family_differs, unknown_head, Outcome, passed, refused}
-use Rattle.clf_kernel.specs.Checking.{Leftover}
+use Rattle.clf_kernel.specs.Refusal.{Cause, not_function, not_pair, not_top, not_atomic, not_closed, mode_differs, not_held, unused, pairs_differ, family_differs, unknown_head, Outcome, passed, refused, Leftover}
 
 abbrev pub plain_cause : DeclaredCause → Cause
 plain_cause (NotFunction a) = not_function (plain_ty a)

@@ -1,12 +1,11 @@
 -- What the check of an object leaves of a holding, or which refusal comes first. This follows the table of leftovers in
--- docs/language.md; that it agrees with the rules of Typing is a theorem and no part of the definition.
+-- docs/language.md. It is an inner definition: what the calls that check promise does not speak of it. The laws `checking` and
+-- `refusals` say that it agrees with the rules of Typing and of Explained.
 -- It speaks of objects without monads over types without indices, where nothing is put for the variable of a function;
 -- what it says of a monadic object is of no use yet.
 --
--- The parts of an object are checked in the order of their numbers, and then the object itself. A path lists the numbers
--- from the whole to the part that is refused: of a lambda the body is 0, of a pair the parts are 0 and 1, and of an atomic
--- object the eliminations are numbered from the head on. What is wrong with an elimination itself is at its place.
-use Rattle.std.specs.Prelude.{ℕ, suc, ◌-◌, Bool, true, false, ◌||◌, ◌&&◌, ◌==◌, if◌then◌else◌, [], ◌∷◌, length, Option, None, Some}
+-- The parts of an object are checked in the order of their numbers, and then the object itself.
+use Rattle.std.specs.Prelude.{ℕ, suc, Bool, true, false, ◌||◌, ◌&&◌, ◌==◌, if◌then◌else◌, [], ◌∷◌, length, Option, None, Some}
 use Rattle.std.specs.List.{slice_get}
 use Rattle.clf_syntax.specs.declared.tree.Mode.{Mode}
 use Rattle.clf_syntax.specs.declared.tree.Mode.TheVariants.{Persistent, Affine, Linear}
@@ -18,33 +17,18 @@ use Rattle.use_contexts.specs.Context.{Context, modes}
 use Rattle.use_contexts.specs.Holding.{Holding}
 use Rattle.use_contexts.specs.Rows.{Answer, taken, left_in_both, newest_difference, now, later, is_unused, allowed, outside, slack_outside}
 use Rattle.clf_sig.specs.Entry.{PlainSignature, constant_type}
-use Rattle.clf_kernel.specs.Refusal.{not_function, not_pair, not_top, not_atomic, not_closed, mode_differs, not_held, unused, pairs_differ, family_differs, unknown_head, Outcome, passed, refused, at_part, and_then}
-
--- the row that is left, and its slack
-abbrev pub Leftover : Type 0
-Leftover = Holding × Bool
+use Rattle.clf_kernel.specs.Refusal.{not_function, not_pair, not_top, not_atomic, not_closed, mode_differs, not_held, unused, pairs_differ, family_differs, unknown_head, level, eliminations, Leftover, Outcome, passed, refused, at_part, and_then}
 
 -- the answer of an outcome, without the words of its refusal
 abbrev pub answer_of : Outcome Leftover → Answer
 answer_of (passed a) = Some a
 answer_of (refused path cause) = None
 
--- A variable's level counts from the oldest, from 1 on: it is the number in its printed name.
-abbrev pub level : Context → ℕ → ℕ
-level g i = length g - i
-
 abbrev pub same_mode : Mode → Mode → Bool
 same_mode Persistent Persistent = true
 same_mode Affine Affine = true
 same_mode Linear Linear = true
 same_mode _ _ = false
-
--- how many eliminations a neutral has
-abbrev pub eliminations : PlainNeutral → ℕ
-eliminations (bare x) = 0
-eliminations (app m r n) = suc (eliminations r)
-eliminations (fst r) = suc (eliminations r)
-eliminations (snd r) = suc (eliminations r)
 
 -- A constant has its type, and uses nothing.
 abbrev pub constant_left : ℕ → Holding → Option PlainType → Outcome (PlainType × Leftover)

@@ -13,8 +13,7 @@ use Rattle.use_contexts.specs.Holding.{Holding}
 use Rattle.use_contexts.specs.Rows.{IsPart, Agrees, allowed}
 use Rattle.clf_sig.specs.Entry.{PlainSignature, constant_type}
 use Rattle.clf_kernel.specs.Typing.{HasType, NeutralHasType}
-use Rattle.clf_kernel.specs.Refusal.{Cause, not_function, not_pair, not_top, not_atomic, not_closed, mode_differs, not_held, unused, pairs_differ, family_differs, unknown_head}
-use Rattle.clf_kernel.specs.Checking.{level, eliminations}
+use Rattle.clf_kernel.specs.Refusal.{Cause, not_function, not_pair, not_top, not_atomic, not_closed, mode_differs, not_held, unused, pairs_differ, family_differs, unknown_head, level, eliminations}
 
 -- Under some part of the row the object has the type.
 abbrev pub MayHaveType : PlainSignature → Context → Holding → Object → PlainType → Type 0

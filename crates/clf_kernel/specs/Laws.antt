@@ -1,20 +1,21 @@
 -- Laws of well-formed types and signatures, as statements; the functions of the crate's `laws` state them.
-use Rattle.std.specs.Prelude.{ℕ, ◌≡◌, ◌↔◌, true, false, List, [], ◌∷◌, ◌++◌, Some}
+use Rattle.std.specs.Prelude.{ℕ, ◌≡◌, ◌↔◌, Bool, true, false, List, [], ◌∷◌, ◌++◌, None, Some}
 use Rattle.std.specs.List.{slice_get}
 use Rattle.clf_syntax.specs.declared.tree.Mode.{Mode}
 use Rattle.clf_syntax.specs.Tree.{Object, PlainNeutral, Expression}
 use Rattle.clf_syntax.specs.TypeTree.{PlainType, family, function, both, top, monad, Telescope, PlainKind}
 use Rattle.use_contexts.specs.Context.{Context, modes}
-use Rattle.use_contexts.specs.Holding.{Holding, WellMarked}
-use Rattle.use_contexts.specs.Rows.{IsPart, Agrees}
+use Rattle.use_contexts.specs.Holding.{Holding, WellMarked, is_weak}
+use Rattle.use_contexts.specs.Rows.{Stands, Agrees}
 use Rattle.clf_sig.specs.Entry.{PlainSignature, Declaration, names, family_kind, constant_type}
 use Rattle.clf_kernel.specs.Typing.{HasType, NeutralHasType, HasResult}
 use Rattle.clf_kernel.specs.WellFormed.{WellFormedType, WellFormedTelescope, WellFormedKind, WellFormedContext, MayFollow, WellFormedSignature}
 use Rattle.clf_kernel.specs.Clean.{IsNotPersistent, CleanType, CleanTelescope, CleanContext}
 use Rattle.clf_kernel.specs.Reach.{without_indices, IsSimpleSignature, IsSimpleContext, without_monads, neutral_without_monads}
-use Rattle.clf_kernel.specs.Refusal.{Cause, Outcome, passed, refused}
+use Rattle.clf_kernel.specs.Refusal.{Cause, Leftover, passed, refused}
 use Rattle.clf_kernel.specs.Explained.{ExplainedAt, ExplainedInNeutral}
-use Rattle.clf_kernel.specs.Checking.{Leftover, answer_of, checked, inferred}
+use Rattle.clf_kernel.specs.Exact.{AgreesWithType}
+use Rattle.clf_kernel.specs.Checking.{answer_of, checked, inferred}
 use Rattle.clf_syntax.specs.Occurs.{occurs, occurs_type, occurs_telescope}
 
 -- A family without arguments is a well-formed type exactly where the signature has it so.
@@ -79,12 +80,6 @@ ChecksExactly = (sig : PlainSignature) (g : Context) (h : Holding) (n : Object) 
     → IsSimpleSignature sig → IsSimpleContext g → WellMarked (modes g) h → without_monads n ≡ true → without_indices t ≡ true
     → Agrees (modes g) h (answer_of (checked sig g h n t)) (λ p. HasType sig g p n t)
 
--- An outcome with a type agrees with a property of parts and types: where it passed, the type has no indices, the row that is left stands
--- for exactly the parts that have the property at that type, and they have it at no other. Where it is refused, no part has it at any type.
-abbrev pub AgreesWithType : Context → Holding → Outcome (PlainType × Leftover) → (Holding → PlainType → Type 0) → Type 0
-AgreesWithType g h (passed f) P = (without_indices f.0 ≡ true) × Agrees (modes g) h (Some f.1) (λ p. P p f.0) × ((p : Holding) (a : PlainType) → P p a → a ≡ f.0)
-AgreesWithType g h (refused path cause) P = (p : Holding) (a : PlainType) → IsPart (modes g) h p → P p a → ⊥
-
 -- So it is with the type that is found of a neutral.
 abbrev pub InfersExactly : Type 0
 InfersExactly = (sig : PlainSignature) (g : Context) (h : Holding) (r : PlainNeutral)
@@ -102,3 +97,40 @@ abbrev pub RefusesNeutralsExactly : Type 0
 RefusesNeutralsExactly = (sig : PlainSignature) (g : Context) (h : Holding) (r : PlainNeutral) (path : List ℕ) (why : Cause)
     → IsSimpleSignature sig → IsSimpleContext g → WellMarked (modes g) h → neutral_without_monads r ≡ true
     → (inferred sig g h r ≡ refused path why) ↔ ExplainedInNeutral sig g h r path why
+
+-- No part of the holding types an object exactly where some refusal explains it.
+abbrev pub RefusedIsExplained : Type 0
+RefusedIsExplained = (sig : PlainSignature) (g : Context) (h : Holding) (n : Object) (t : PlainType)
+    → IsSimpleSignature sig → IsSimpleContext g → WellMarked (modes g) h → without_monads n ≡ true → without_indices t ≡ true
+    → Agrees (modes g) h None (λ p. HasType sig g p n t) ↔ ((path : List ℕ) × (why : Cause) × ExplainedAt sig g h n t path why)
+
+-- The refusal that explains it is one, with its path and its cause.
+abbrev pub RefusalIsOne : Type 0
+RefusalIsOne = (sig : PlainSignature) (g : Context) (h : Holding) (n : Object) (t : PlainType) (path other : List ℕ) (why because : Cause)
+    → IsSimpleSignature sig → IsSimpleContext g → WellMarked (modes g) h → without_monads n ≡ true → without_indices t ≡ true
+    → ExplainedAt sig g h n t path why → ExplainedAt sig g h n t other because → (path ≡ other) × (why ≡ because)
+
+-- So it is with a neutral.
+abbrev pub NeutralRefusalIsOne : Type 0
+NeutralRefusalIsOne = (sig : PlainSignature) (g : Context) (h : Holding) (r : PlainNeutral) (path other : List ℕ) (why because : Cause)
+    → IsSimpleSignature sig → IsSimpleContext g → WellMarked (modes g) h → neutral_without_monads r ≡ true
+    → ExplainedInNeutral sig g h r path why → ExplainedInNeutral sig g h r other because → (path ≡ other) × (why ≡ because)
+
+-- Two leftovers have the same row, and the same slack where a linear entry is left.
+abbrev pub LeaveTheSame : Context → Leftover → Leftover → Type 0
+LeaveTheSame g a b = (a.0 ≡ b.0) × (is_weak (modes g) a.0 ≡ false → a.1 ≡ b.1)
+
+-- Where no linear entry is left, slack has nothing to take: with it and without it a row stands for the same parts.
+abbrev pub SlackIsIdle : Type 0
+SlackIsIdle = (g : Context) (h l : Holding) (s t : Bool) (p : Holding) → is_weak (modes g) l ≡ true → Stands (modes g) h l s p → Stands (modes g) h l t p
+
+-- What stands for exactly the parts under which an object has a type is one.
+abbrev pub LeftoverIsOne : Type 0
+LeftoverIsOne = (sig : PlainSignature) (g : Context) (h : Holding) (n : Object) (t : PlainType) (a b : Leftover) → WellMarked (modes g) h
+    → Agrees (modes g) h (Some a) (λ p. HasType sig g p n t) → Agrees (modes g) h (Some b) (λ p. HasType sig g p n t) → LeaveTheSame g a b
+
+-- So it is with a neutral and its type.
+abbrev pub InferredIsOne : Type 0
+InferredIsOne = (sig : PlainSignature) (g : Context) (h : Holding) (r : PlainNeutral) (e f : PlainType × Leftover) → WellMarked (modes g) h
+    → AgreesWithType g h (passed e) (λ p a. NeutralHasType sig g p r a) → AgreesWithType g h (passed f) (λ p a. NeutralHasType sig g p r a)
+    → (e.0 ≡ f.0) × LeaveTheSame g e.1 f.1

@@ -1,8 +1,26 @@
 -- Refusals of the kernel, and outcomes: something that passed, or a refusal with its path.
-use Rattle.std.specs.Prelude.{ℕ, List, ◌∷◌}
+--
+-- A path lists the numbers of parts, from the whole to the part that is refused: of a lambda the body is 0, of a pair the parts are
+-- 0 and 1, and of an atomic object the eliminations are numbered from the head on. What is wrong with an elimination itself is at
+-- its place.
+use Rattle.std.specs.Prelude.{ℕ, suc, ◌-◌, Bool, List, ◌∷◌, length}
 use Rattle.clf_syntax.specs.declared.tree.Mode.{Mode}
 use Rattle.clf_syntax.specs.declared.tree.Head.{Head}
+use Rattle.clf_syntax.specs.Tree.{PlainNeutral, bare, app, fst, snd}
 use Rattle.clf_syntax.specs.TypeTree.{PlainType}
+use Rattle.use_contexts.specs.Context.{Context}
+use Rattle.use_contexts.specs.Holding.{Holding}
+
+-- A variable's level counts from the oldest, from 1 on: it is the number in its printed name.
+abbrev pub level : Context → ℕ → ℕ
+level g i = length g - i
+
+-- how many eliminations a neutral has
+abbrev pub eliminations : PlainNeutral → ℕ
+eliminations (bare x) = 0
+eliminations (app m r n) = suc (eliminations r)
+eliminations (fst r) = suc (eliminations r)
+eliminations (snd r) = suc (eliminations r)
 
 -- Why a part is refused, with what the refusal keeps.
 pub data Cause : Type 0 where
@@ -28,6 +46,10 @@ pub data Cause : Type 0 where
   family_differs : ℕ → ℕ → Cause
   -- a variable that is not in the context, or a number that is no constant or no family
   unknown_head : Head → Cause
+
+-- the row that is left, and its slack
+abbrev pub Leftover : Type 0
+Leftover = Holding × Bool
 
 pub data Outcome (A : Type 0) : Type 0 where
   passed : A → Outcome A

@@ -7,8 +7,8 @@ use Rattle.use_contexts.specs.Context.{Context, modes}
 use Rattle.use_contexts.specs.Holding.{Holding}
 use Rattle.use_contexts.specs.Rows.{allowed, outside, slack_outside}
 use Rattle.clf_sig.specs.Entry.{PlainSignature}
-use Rattle.clf_kernel.specs.Refusal.{Outcome, passed, at_part, and_then}
-use Rattle.clf_kernel.specs.Checking.{Leftover, argument_left, first_left, second_left, checked}
+use Rattle.clf_kernel.specs.Refusal.{Outcome, passed, at_part, and_then, Leftover}
+use Rattle.clf_kernel.specs.Checking.{argument_left, first_left, second_left, checked}
 
 -- what an argument of this mode leaves of what its function left
 abbrev pub argument_used : Mode → Context → ℕ → Leftover → (Holding → Outcome Leftover) → Outcome Leftover

@@ -1,5 +1,5 @@
 //! Laws of the rules, each stated by a function that does nothing.
-ghost use Rattle.clf_kernel.specs.Laws.{AnyContext, BareFamilies, ChecksExactly, CompoundTypes, EachFollows, EntriesWellFormed, Extended, InfersExactly, MentionsHeldAlone, NamesDiffer, RefusesExactly, RefusesNeutralsExactly, Weakening, WellFormedIsClean};
+ghost use Rattle.clf_kernel.specs.Laws.{AnyContext, BareFamilies, ChecksExactly, CompoundTypes, EachFollows, EntriesWellFormed, Extended, InferredIsOne, InfersExactly, LeftoverIsOne, MentionsHeldAlone, NamesDiffer, NeutralRefusalIsOne, RefusalIsOne, RefusedIsExplained, RefusesExactly, RefusesNeutralsExactly, SlackIsIdle, Weakening, WellFormedIsClean};
 
 /// Which types are well formed: families without arguments, functions, pairs, the unit and monads.
 #[tactic(auto, using(crate::proofs::Signatures::signature_laws))]
@@ -43,4 +43,14 @@ pub fn checking()
 pub fn refusals()
     ensures objects { RefusesExactly }
     ensures neutrals { RefusesNeutralsExactly }
+{}
+
+/// What the rules leave of a holding is one, and so is the refusal that explains why they leave nothing.
+pub fn one_answer()
+    ensures explained { RefusedIsExplained }
+    ensures refusal { RefusalIsOne }
+    ensures neutral_refusal { NeutralRefusalIsOne }
+    ensures leftover { LeftoverIsOne }
+    ensures slack { SlackIsIdle }
+    ensures inferred { InferredIsOne }
 {}

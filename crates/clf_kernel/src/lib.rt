@@ -12,6 +12,8 @@ mod scope;
 mod steps;
 
 pub use entry::check_entry;
-pub use laws::{checking, clean, refusals, weakening, well_formed_signatures, well_formed_types};
+pub use laws::{
+    checking, clean, one_answer, refusals, weakening, well_formed_signatures, well_formed_types,
+};
 pub use object::{check_object, infer};
 pub use refusal::{Cause, Inferred, Refusal};

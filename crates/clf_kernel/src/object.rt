@@ -9,7 +9,7 @@ ghost use Rattle.use_contexts.specs.Marks.{context, marks};
 ghost use Rattle.clf_kernel.specs.Reach.{IsSimpleSignature, IsSimpleContext, without_indices, without_monads, neutral_without_monads};
 ghost use Rattle.clf_kernel.specs.Exact.{ChecksObject, InfersNeutral};
 ghost use Rattle.clf_kernel.specs.Checking.{checked, inferred};
-ghost use Rattle.clf_kernel.specs.Answers.{plain_left, plain_inferred, Answers};
+ghost use Rattle.clf_kernel.specs.Answers.{plain_left, plain_inferred};
 ghost use Rattle.clf_kernel.specs.Stops.{Gives};
 
 use crate::check::{check, infer_neutral};
@@ -21,7 +21,8 @@ use use_contexts::{Ctx, Holding, Left};
 
 /// What the check of an object against a type leaves of a holding.
 ///
-/// It refuses where no part of the holding types the object, with the path and the cause of the first part that is refused.
+/// It refuses where no part of the holding types the object, with the path and the cause of a part that the rules refuse.
+/// There is one such path with one such cause, and one such rest (`one_answer`).
 #[tactic(auto, using(crate::proofs::Stops::answer_laws, crate::proofs::Exactness::exact_laws))]
 pub fn check_object(
     alloc: Global,
@@ -37,7 +38,6 @@ pub fn check_object(
     requires ty { without_indices (plain_ty ty.now) ≡ true }
     requires marked { WellMarked (modes (context ctx.now)) (marks holding.now) }
     ensures exact { ChecksObject (plain_signature sig.now) (context ctx.now) (marks holding.now) (plain_obj obj.now) (plain_ty ty.now) result }
-    ensures outcome { Answers plain_left (checked (plain_signature sig.now) (context ctx.now) (marks holding.now) (plain_obj obj.now) (plain_ty ty.now)) result }
 {
     match check_in_copy(alloc, sig, ctx, holding, obj, ty) {
         Ok(left) => Ok(left),
@@ -47,7 +47,8 @@ pub fn check_object(
 
 /// The type of a neutral, and what it leaves of a holding.
 ///
-/// It refuses where no part of the holding types the neutral, with the path and the cause of the first part that is refused.
+/// It refuses where no part of the holding types the neutral, with the path and the cause of a part that the rules refuse.
+/// There is one such path with one such cause, and one such type and rest (`one_answer`).
 #[tactic(auto, using(crate::proofs::Stops::answer_laws, crate::proofs::Exactness::exact_laws))]
 pub fn infer(
     alloc: Global,
@@ -61,7 +62,6 @@ pub fn infer(
     requires neutral { neutral_without_monads (plain_neutral neutral.now) ≡ true }
     requires marked { WellMarked (modes (context ctx.now)) (marks holding.now) }
     ensures exact { InfersNeutral (plain_signature sig.now) (context ctx.now) (marks holding.now) (plain_neutral neutral.now) result }
-    ensures outcome { Answers plain_inferred (inferred (plain_signature sig.now) (context ctx.now) (marks holding.now) (plain_neutral neutral.now)) result }
 {
     match infer_in_copy(alloc, sig, ctx, holding, neutral) {
         Ok(found) => Ok(found),

@@ -6,7 +6,9 @@ use Rattle.use_contexts.specs.Marks.{context, marks}
 use Rattle.clf_kernel.proofs.Exactness.{checks-object}
 use Rattle.clf_kernel.proofs.object.check_object.Goals as goal
 
-pub returns-in-Ok-clause-exact : goal.returns-in-Ok-clause-exact
-returns-in-Ok-clause-exact c =
-    checks-object (plain_signature c.args.sig.now) (context c.args.ctx.now) (marks c.args.holding.now) (plain_obj c.args.obj.now) (plain_ty c.args.ty.now) (Ok c.in-Ok.left)
-    c.requires.signature c.requires.context c.requires.object c.requires.ty c.requires.marked c.in-Ok.ensures
+pub returns-in-Ok : goal.returns-in-Ok
+returns-in-Ok c =
+    record {
+      exact = checks-object (plain_signature c.args.sig.now) (context c.args.ctx.now) (marks c.args.holding.now) (plain_obj c.args.obj.now) (plain_ty c.args.ty.now) (Ok c.in-Ok.left)
+          c.requires.signature c.requires.context c.requires.object c.requires.ty c.requires.marked c.in-Ok.ensures;
+    }

@@ -5,7 +5,9 @@ use Rattle.use_contexts.specs.Marks.{context, marks}
 use Rattle.clf_kernel.proofs.Exactness.{infers-neutral}
 use Rattle.clf_kernel.proofs.object.infer.Goals as goal
 
-pub returns-in-Ok-clause-exact : goal.returns-in-Ok-clause-exact
-returns-in-Ok-clause-exact c =
-    infers-neutral (plain_signature c.args.sig.now) (context c.args.ctx.now) (marks c.args.holding.now) (plain_neutral c.args.neutral.now) (Ok c.in-Ok.found)
-    c.requires.signature c.requires.context c.requires.neutral c.requires.marked c.in-Ok.ensures
+pub returns-in-Ok : goal.returns-in-Ok
+returns-in-Ok c =
+    record {
+      exact = infers-neutral (plain_signature c.args.sig.now) (context c.args.ctx.now) (marks c.args.holding.now) (plain_neutral c.args.neutral.now) (Ok c.in-Ok.found)
+          c.requires.signature c.requires.context c.requires.neutral c.requires.marked c.in-Ok.ensures;
+    }

@@ -1,0 +1,146 @@
+-- What the rules say of an object or a neutral is said of one answer alone.
+use Rattle.std.proofs.Common.{◌≡◌, ℕ, Bool, true, false, not, ◌&&◌, List, [], ◌∷◌, None, Some, refl, sym, subst, arith}
+use Rattle.std.proofs.Math.Bool.{beq}
+use Rattle.clf_syntax.specs.declared.tree.Mode.{Mode}
+use Rattle.clf_syntax.specs.declared.tree.Mode.TheVariants.{Persistent, Affine, Linear}
+use Rattle.clf_syntax.specs.TypeTree.{PlainType}
+use Rattle.use_contexts.specs.Context.{Context, modes}
+use Rattle.use_contexts.specs.Holding.{Holding, WellMarked, is_weak, is_linear}
+use Rattle.use_contexts.specs.Rows.{implies, within, stands, now, later, IsPart, EachWithin, EachStands, Stands, Agrees}
+use Rattle.use_contexts.proofs.Bits.{at_entry, given_2, given_3, and-left, and-right, and-both}
+use Rattle.use_contexts.proofs.UseLaws.{IsPart-self}
+use Rattle.clf_kernel.specs.Typing.{HasType, NeutralHasType}
+use Rattle.clf_kernel.specs.Refusal.{Cause, Leftover, Outcome, passed, refused}
+use Rattle.clf_kernel.specs.Checking.{answer_of, checked, inferred}
+use Rattle.clf_kernel.specs.Explained.{ExplainedAt}
+use Rattle.clf_kernel.specs.Laws.{RefusedIsExplained, RefusalIsOne, NeutralRefusalIsOne, LeaveTheSame, LeftoverIsOne, SlackIsIdle, InferredIsOne}
+use Rattle.clf_kernel.proofs.Agreement.{checks_exactly}
+use Rattle.clf_kernel.proofs.Explanations.{used, used_of, used-part, some-part, same_from_beq}
+use Rattle.clf_kernel.proofs.FirstRefusals.{refuses_exactly, refuses_neutrals_exactly}
+
+-- ---- refusals
+same_refusal : {A : Type 0} (o : Outcome A) (path other : List ℕ) (why because : Cause) → o ≡ refused path why → o ≡ refused other because → (path ≡ other) × (why ≡ because)
+same_refusal o path other why because e f = (cc, cc)
+
+pub refusal_is_one : RefusalIsOne
+refusal_is_one sig g h n t path other why because s c w m e x y =
+    same_refusal (checked sig g h n t) path other why because ((refuses_exactly sig g h n t path why s c w m e).1 x) ((refuses_exactly sig g h n t other because s c w m e).1 y)
+
+pub neutral_refusal_is_one : NeutralRefusalIsOne
+neutral_refusal_is_one sig g h r path other why because s c w m x y =
+    same_refusal (inferred sig g h r) path other why because ((refuses_neutrals_exactly sig g h r path why s c w m).1 x) ((refuses_neutrals_exactly sig g h r other because s c w m).1 y)
+
+pub refused_is_explained : RefusedIsExplained
+refused_is_explained sig g h n t s c w m e = (there (checked sig g h n t) refl, back)
+  where
+    agrees : (o : Outcome Leftover) → checked sig g h n t ≡ o → Agrees (modes g) h (answer_of o) (λ p. HasType sig g p n t)
+    agrees o q = subst (λ (x : Outcome Leftover). Agrees (modes g) h (answer_of x) (λ p. HasType sig g p n t)) q (checks_exactly sig g h n t s c w m e)
+
+    there : (o : Outcome Leftover) → checked sig g h n t ≡ o → Agrees (modes g) h None (λ p. HasType sig g p n t) → (path : List ℕ) × (why : Cause) × ExplainedAt sig g h n t path why
+    there (passed a) q none = let p = some-part (modes g) h a (λ p. HasType sig g p n t) (agrees (passed a) q) in absurd (none p.0 p.1 p.2)
+    there (refused path why) q none = (path, why, (refuses_exactly sig g h n t path why s c w m e).0 q)
+
+    back : (path : List ℕ) × (why : Cause) × ExplainedAt sig g h n t path why → Agrees (modes g) h None (λ p. HasType sig g p n t)
+    back x = agrees (refused x.0 x.1) ((refuses_exactly sig g h n t x.0 x.1 s c w m e).1 x.2)
+
+-- ---- leftovers
+-- Rows that stand for the parts that each other uses are the same.
+same_mark : (m : Mode) (h l s k t : Bool) → (within m h l && within m h k) ≡ true → stands m h k t (used m h l) ≡ true → stands m h l s (used m h k) ≡ true → l ≡ k
+same_mark m h l s k t a b c =
+    same_from_beq l k (given_3 (within m h l && within m h k) (stands m h k t (used m h l)) (stands m h l s (used m h k)) (beq l k)
+    (at_entry (λ m h l s k t _ _ _. implies (within m h l && within m h k) (implies (stands m h k t (used m h l)) (implies (stands m h l s (used m h k)) (beq l k))))
+    refl refl refl m h l s k t true true true) a b c)
+
+same_row : (ms : List Mode) (h l : Holding) (s : Bool) (k : Holding) (t : Bool) → IsPart ms h l → IsPart ms h k
+    → EachStands ms h k t (used_of ms h l) → EachStands ms h l s (used_of ms h k) → l ≡ k
+same_row [] h [] s [] t a b c d = refl
+same_row [] h (x ∷ l) s k t a b c d = let e = a.0 in absurd (omega arith)
+same_row [] h [] s (y ∷ k) t a b c d = let e = b.0 in absurd (omega arith)
+same_row (m ∷ ms) h [] s k t a b c d = let e = a.0 in absurd (omega arith)
+same_row (m ∷ ms) h (x ∷ l) s [] t a b c d = let e = b.0 in absurd (omega arith)
+same_row (m ∷ ms) h (x ∷ l) s (y ∷ k) t a b c d =
+    let p = a.0 in
+    let q = b.0 in
+    let mark : x ≡ y = same_mark m (now h) x s y t (and-both (within m (now h) x) (within m (now h) y) a.1.0 b.1.0) c.0 d.0 in
+    let rest : l ≡ k = same_row ms (later h) l s k t (omega arith, a.1.1) (omega arith, b.1.1) c.1 d.1 in
+    cc
+
+-- A row with slack stands for the whole holding, if that is a part of itself.
+each_whole : (ms : List Mode) (h l : Holding) → EachWithin ms h h → EachWithin ms h l → EachStands ms h l true h
+each_whole [] h l a b = tt
+each_whole (m ∷ ms) h l a b = (
+  given_2 (within m (now h) (now h)) (within m (now h) (now l)) (stands m (now h) (now l) true (now h))
+      (at_entry (λ m h l _ _ _ _ _ _. implies (within m h h) (implies (within m h l) (stands m h l true h))) refl refl refl m (now h) (now l) true true true true true true) a.0 b.0,
+  each_whole ms (later h) (later l) a.1 b.1,
+)
+
+-- A row that leaves a linear entry stands for the whole holding with slack alone.
+needs_slack : (m : Mode) (h l t : Bool) → (is_linear m && l) ≡ true → within m h l ≡ true → stands m h l t h ≡ true → t ≡ true
+needs_slack m h l t a b c =
+    given_3 (is_linear m && l) (within m h l) (stands m h l t h) t
+    (at_entry (λ m h l t _ _ _ _ _. implies (is_linear m && l) (implies (within m h l) (implies (stands m h l t h) t))) refl refl refl m h l t true true true true true) a b c
+
+has_slack : (ms : List Mode) (h l : Holding) (t : Bool) → EachWithin ms h l → EachStands ms h l t h → is_weak ms l ≡ false → t ≡ true
+has_slack [] h l t a b e = absurd (cc)
+has_slack (m ∷ ms) h [] t a b e = absurd (cc)
+has_slack (m ∷ ms) h (x ∷ l) t a b e = by (is_linear m && x) refl e (has_slack ms (later h) l t a.1 b.1)
+  where
+    by : (here : Bool) → (is_linear m && x) ≡ here → (not here && is_weak ms l) ≡ false → (is_weak ms l ≡ false → t ≡ true) → t ≡ true
+    by true is e rest = needs_slack m (now h) x t is a.0 b.0
+    by false is e rest = rest e
+
+slack_too : (ms : List Mode) (h l : Holding) (s t : Bool) (P : Holding → Type 0) → WellMarked ms h → Agrees ms h (Some (l, s)) P → Agrees ms h (Some (l, t)) P
+    → is_weak ms l ≡ false → s ≡ true → t ≡ true
+slack_too ms h l s t P w a b e is =
+    let self = IsPart-self ms h w in
+    let stood : Stands ms h l s h = (self.0, subst (λ (x : Bool). EachStands ms h l x h) (sym is) (each_whole ms h l self.1 a.0.1)) in
+    has_slack ms h l t a.0.1 (b.1 h self (a.2 h self stood)).1 e
+
+both_ways : (s t : Bool) → (s ≡ true → t ≡ true) → (t ≡ true → s ≡ true) → s ≡ t
+both_ways true t f g = sym (f refl)
+both_ways false true f g = g refl
+both_ways false false f g = refl
+
+leftover_is_one : (g : Context) (h : Holding) (a b : Leftover) (P : Holding → Type 0) → WellMarked (modes g) h → Agrees (modes g) h (Some a) P → Agrees (modes g) h (Some b) P → LeaveTheSame g a b
+leftover_is_one g h (l, s) (k, t) P w a b =
+    let first = used-part (modes g) h (l, s) P a in
+    let second = used-part (modes g) h (k, t) P b in
+    let row : l ≡ k = same_row (modes g) h l s k t a.0 b.0 (b.1 (used_of (modes g) h l) first.0 first.1).1 (a.1 (used_of (modes g) h k) second.0 second.1).1 in
+    let same : Agrees (modes g) h (Some (l, t)) P = subst (λ (x : Holding). Agrees (modes g) h (Some (x, t)) P) (sym row) b in
+    (row, λ e. both_ways s t (slack_too (modes g) h l s t P w a same e) (slack_too (modes g) h l t s P w same a e))
+
+pub object_leftover_is_one : LeftoverIsOne
+object_leftover_is_one sig g h n t a b w x y = leftover_is_one g h a b (λ p. HasType sig g p n t) w x y
+
+pub inferred_is_one : InferredIsOne
+inferred_is_one sig g h r (a, l) (b, k) w x y =
+    let p = some-part (modes g) h l (λ p. NeutralHasType sig g p r a) x.1 in
+    let type : a ≡ b = y.2 p.0 a p.2 in
+    let same = subst (λ (c : PlainType). Agrees (modes g) h (Some k) (λ p. NeutralHasType sig g p r c)) (sym type) y.1 in
+    (type, leftover_is_one g h l k (λ p. NeutralHasType sig g p r a) w x.1 same)
+
+-- ---- slack that has nothing to take
+idle_mark : (m : Mode) (h l s t p : Bool) → not (is_linear m && l) ≡ true → stands m h l s p ≡ true → stands m h l t p ≡ true
+idle_mark m h l s t p a b =
+    given_2 (not (is_linear m && l)) (stands m h l s p) (stands m h l t p)
+    (at_entry (λ m h l s t p _ _ _. implies (not (is_linear m && l)) (implies (stands m h l s p) (stands m h l t p))) refl refl refl m h l s t p true true true) a b
+
+each_idle : (ms : List Mode) (h l : Holding) (s t : Bool) (p : Holding) → is_weak ms l ≡ true → EachStands ms h l s p → EachStands ms h l t p
+each_idle [] h l s t p w a = tt
+each_idle (m ∷ ms) h [] s t p w a = (idle_mark m (now h) false s t (now p) (unheld m) a.0, each_idle ms (later h) [] s t (later p) (weak_nothing ms) a.1)
+  where
+    unheld : (m : Mode) → not (is_linear m && false) ≡ true
+    unheld Persistent = refl
+    unheld Affine = refl
+    unheld Linear = refl
+
+    weak_nothing : (ms : List Mode) → is_weak ms [] ≡ true
+    weak_nothing [] = refl
+    weak_nothing (m ∷ ms) = refl
+each_idle (m ∷ ms) h (x ∷ l) s t p w a = (
+  idle_mark m (now h) x s t (now p) (and-left (not (is_linear m && x)) (is_weak ms l) w) a.0,
+  each_idle ms (later h) l s t (later p) (and-right (not (is_linear m && x)) (is_weak ms l) w) a.1,
+)
+
+pub slack_is_idle : SlackIsIdle
+slack_is_idle g h l s t p w a = (a.0, each_idle (modes g) h l s t p w a.1)
