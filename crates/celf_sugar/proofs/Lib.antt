@@ -2,3 +2,4 @@ pub mod EarliestLaws
 pub mod FunctionLaws
 pub mod LeadingLaws
 pub mod AnswerLaws
+pub mod TypeLaws

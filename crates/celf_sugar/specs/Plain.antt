@@ -17,7 +17,7 @@ use Rattle.celf_sugar.specs.declared.plain.PElim.TheViews.{roll-PElim, roll-PObj
 use Rattle.celf_sugar.specs.declared.plain.PTyForm.{PTyForm, Family, Fun, With, Top, Monad, fold-PTyForm, fold-roll-PTyForm, roll-PTyForm}
 use Rattle.celf_sugar.specs.declared.plain.PEntry.{PEntry, out-PEntry, fold-PEntry, fold_out-PEntry}
 use Rattle.celf_sugar.specs.declared.plain.PTele.{PTele, out-PTele, roll-PTele, fold-PTele, fold-roll-PTele, fold_out-PTele}
-use Rattle.celf_sugar.specs.declared.plain.PTy.{PTy, out-PTy, fold-PTy, fold_out-PTy}
+use Rattle.celf_sugar.specs.declared.plain.PTy.{PTy, out-PTy, roll-PTy, fold-PTy, fold-roll-PTy, fold_out-PTy}
 use Rattle.celf_sugar.specs.declared.plain.PTyForm.TheOpen as type_layer
 use Rattle.celf_sugar.specs.declared.plain.PClass.{PClass}
 use Rattle.celf_sugar.specs.declared.plain.PClass.TheVariants.{Family as FamilyClass, Constant}
@@ -190,7 +190,28 @@ pub type-of : (t : PTy) → plain_type t ≡ plain_type_form (out-PTy t).form (o
 unfolding plain_type_form plain_entry plain_telescope plain_type roll-PTyForm roll
 type-of t = fold_out-PTy _ _ _ _ on_type_form on_entry on_telescope on_type t
 
+pub type-made : (f : PTyForm) (s : Span) → plain_type (roll-PTy (record { span = s; form = f })) ≡ plain_type_form f s
+unfolding plain_type_form plain_entry plain_telescope plain_type
+type-made f s = fold-roll-PTy _ _ _ _ on_type_form on_entry on_telescope on_type (record { span = s; form = f })
+
 pub ruleset plain_laws = (elim-Arg, elim-First, elim-Second, form-Lam, form-Pair, form-Unit, form-Mon, form-At, form-Hole, expression-of, expression-made, marked-of, object-of, step-of, type-Family, type-Fun, type-With, type-Top, type-Monad, entry-of, telescope-of, telescope-made, type-of)
+
+-- the laws of one kind of tree alone, which are sooner tried than all
+pub ruleset elim_laws = (elim-Arg, elim-First, elim-Second)
+
+pub ruleset form_laws = (form-Lam, form-Pair, form-Unit, form-Mon, form-At, form-Hole)
+
+pub ruleset expression_laws = (expression-of, expression-made)
+
+pub ruleset marked_laws = (marked-of)
+
+pub ruleset object_laws = (object-of)
+
+pub ruleset step_laws = (step-of)
+
+pub ruleset entry_laws = (entry-of)
+
+pub ruleset telescope_laws = (telescope-of, telescope-made)
 
 abbrev pub class_of : PClass → Class
 class_of (FamilyClass t) = of_family (plain_telescope t)

@@ -47,3 +47,14 @@ pub expression-result : (e : SExpr) → (written.expression_tree e).1 ≡ writte
 expression-result e = ap (λ (p : written.Steps × written.Tuple). p.1) (written.expression-of e)
 
 pub ruleset sugar_laws = (expression-steps, expression-result, arguments-mapped, steps-mapped, tuples-joined, patterns-joined)
+
+-- the laws of one kind of written tree alone, which are sooner tried than all
+pub ruleset written_object_laws = (written.object-of, written.form-Lam, written.form-App, written.form-Named, written.form-Hole, written.form-Unit, written.form-Pair, written.form-Braces, written.form-First, written.form-Second)
+
+pub ruleset written_part_laws = (written.argument-of, written.step-of)
+
+pub ruleset written_tuple_laws = (written.tuple-One, written.tuple-List, written.tuple-Marked, written.tuple-Bare)
+
+pub ruleset written_pattern_laws = (written.pattern-One, written.pattern-Entry, written.pattern-List)
+
+pub ruleset written_type_laws = (written.type-Pi, written.type-Exists, written.type-Arrow, written.type-Tensor, written.type-Marked, written.type-With, written.type-TypeWord, written.type-Family, written.type-Top, written.type-One, written.type-Braces, written.type-of)

@@ -98,7 +98,7 @@ fn query(
 }
 
 /// `#trace n ty.`
-#[tactic(auto, using(crate::proofs::AnswerLaws::answer_laws, crate::specs::Plain::plain_laws))]
+#[tactic(auto, using(crate::proofs::AnswerLaws::answer_laws, crate::specs::Plain::telescope_laws))]
 fn trace(alloc: Global, n: Bound, ty: &SType) -> Result<PlainBody, SugarFault>
     ensures plain { IfOk result (λ b. body_of b ≡ plain_body (trace_of n (surface ty.now))) }
     ensures clean { OnOk result (first_of (trace_of n (surface ty.now)) ≡ None) }

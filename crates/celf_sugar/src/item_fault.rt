@@ -81,7 +81,6 @@ pub fn equal_fault(left: &SObj, right: &SObj, ty: &SType) -> Option<SugarFault>
     })
 }
 
-#[tactic(auto, using(crate::proofs::EarliestLaws::earliest_laws))]
 fn equal_redex(left: &SObj, right: &SObj, ty: &SType) -> Option<Span>
     ensures { result ≡ earliest start (redexes (object_tree left.now) ++ (redexes (object_tree right.now) ++ type_redexes (surface ty.now))) }
 {
@@ -101,7 +100,6 @@ pub fn check_fault(obj: &SObj, ty: &SType) -> Option<SugarFault>
     })
 }
 
-#[tactic(auto, using(crate::proofs::EarliestLaws::earliest_laws))]
 fn check_redex(obj: &SObj, ty: &SType) -> Option<Span>
     ensures { result ≡ earliest start (redexes (object_tree obj.now) ++ type_redexes (surface ty.now)) }
 {

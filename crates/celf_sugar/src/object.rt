@@ -4,6 +4,7 @@ ghost use Rattle.std.specs.List.{flat_map};
 ghost use Rattle.celf_surface.specs.declared.surface.SObj.{out-SObj};
 ghost use Rattle.celf_surface.specs.Surface.{object_tree, argument_tree, step_tree, tuple_tree, expression_tree, pattern_tree};
 ghost use Rattle.celf_sugar.specs.PlainTree.{tuple_of};
+ghost use Rattle.celf_sugar.specs.declared.plain.PObjForm.{Lam, Pair};
 ghost use Rattle.celf_sugar.specs.Plain.{plain_object, plain_form, plain_elim, plain_step, plain_marked, plain_expression};
 ghost use Rattle.celf_sugar.specs.Sugar.{object as object_of, head as head_of, acts as acts_of, steps as steps_of, entries_of_tuple, binders as binders_of, mark as mark_of};
 ghost use Rattle.celf_sugar.specs.SugarLists.{act_of, plain_step_of};
@@ -16,7 +17,7 @@ use std::alloc::{AllocError, Global};
 
 /// The plain object of an object. It fails only where memory runs out.
 #[cycle(object)]
-#[tactic(auto, using(celf_surface::specs::Surface::surface_laws, crate::specs::Plain::plain_laws, crate::specs::SugarLists::sugar_laws))]
+#[tactic(auto, using(crate::specs::Plain::object_laws))]
 pub fn object(alloc: Global, obj: &SObj) -> Result<PObj, AllocError>
     ensures { IfOk result (λ o. plain_object o ≡ object_of (object_tree obj.now)) }
 {
@@ -27,25 +28,18 @@ pub fn object(alloc: Global, obj: &SObj) -> Result<PObj, AllocError>
 }
 
 #[cycle(object)]
-#[tactic(auto, using(celf_surface::specs::Surface::surface_laws, crate::specs::Plain::plain_laws, crate::specs::SugarLists::sugar_laws))]
+#[tactic(auto, using(crate::specs::SugarLists::written_object_laws, crate::specs::Plain::form_laws))]
 fn object_form(alloc: Global, obj: &SObj) -> Result<PObjForm, AllocError>
     ensures { IfOk result (λ f. plain_form f (out-SObj obj.now).span ≡ object_of (object_tree obj.now)) }
 {
     match &obj.form {
         SObjForm::Lam { mode, name, body } => {
-            let body = Boxed::new(alloc, object(alloc, body.get())?)?;
-            Ok(PObjForm::Lam {
-                mode: *mode,
-                name: copy_name(alloc, name)?,
-                body,
-            })
+            let body = object(alloc, body.get())?;
+            lam_form(alloc, *mode, name, body)
         }
         SObjForm::Pair { left, right } => {
-            let left = Boxed::new(alloc, object(alloc, left.get())?)?;
-            Ok(PObjForm::Pair {
-                left,
-                right: Boxed::new(alloc, object(alloc, right.get())?)?,
-            })
+            let left = object(alloc, left.get())?;
+            pair_form(alloc, left, object(alloc, right.get())?)
         }
         SObjForm::Unit => Ok(PObjForm::Unit),
         SObjForm::Hole => Ok(PObjForm::Hole),
@@ -65,8 +59,29 @@ fn object_form(alloc: Global, obj: &SObj) -> Result<PObjForm, AllocError>
     }
 }
 
+fn lam_form(
+    alloc: Global,
+    mode: SMode,
+    name: &Option<Name>,
+    body: PObj,
+) -> Result<PObjForm, AllocError>
+    ensures { IfOk result (λ f. f ≡ Lam mode name.now body) }
+{
+    let name = copy_name(alloc, name)?;
+    let body = Boxed::new(alloc, body)?;
+    Ok(PObjForm::Lam { mode, name, body })
+}
+
+fn pair_form(alloc: Global, left: PObj, right: PObj) -> Result<PObjForm, AllocError>
+    ensures { IfOk result (λ f. f ≡ Pair left right) }
+{
+    let left = Boxed::new(alloc, left)?;
+    let right = Boxed::new(alloc, right)?;
+    Ok(PObjForm::Pair { left, right })
+}
+
 /// The head of an object; a name without bytes where it has none.
-#[tactic(auto, using(celf_surface::specs::Surface::surface_laws, crate::specs::Plain::plain_laws))]
+#[tactic(auto, using(crate::specs::SugarLists::written_object_laws))]
 fn head_name(alloc: Global, obj: &SObj) -> Result<PName, AllocError>
     ensures { IfOk result (λ n. n ≡ head_of (object_tree obj.now)) }
 {
@@ -92,7 +107,7 @@ fn head_name(alloc: Global, obj: &SObj) -> Result<PName, AllocError>
 
 /// What is done to the head of an object.
 #[cycle(object)]
-#[tactic(auto, using(celf_surface::specs::Surface::surface_laws, crate::specs::Plain::plain_laws, crate::specs::SugarLists::sugar_laws))]
+#[tactic(auto, using(crate::specs::SugarLists::written_object_laws, crate::specs::Plain::elim_laws, crate::specs::SugarLists::sugar_laws))]
 fn spine_of_head(alloc: Global, obj: &SObj) -> Result<Items<PElim>, AllocError>
     ensures { IfOk result (λ es. map plain_elim es ≡ acts_of (object_tree obj.now)) }
 {
@@ -131,7 +146,6 @@ fn projected(spine: Items<PElim>, projection: PElim) -> Result<Items<PElim>, All
 }
 
 #[cycle(object)]
-#[tactic(auto, using(celf_surface::specs::Surface::surface_laws, crate::specs::Plain::plain_laws, crate::specs::SugarLists::sugar_laws))]
 fn arguments(alloc: Global, args: &[SArg]) -> Result<Items<PElim>, AllocError>
     ensures { IfOk result (λ es. map plain_elim es ≡ map act_of (map argument_tree args.now)) }
 {
@@ -143,7 +157,7 @@ fn arguments(alloc: Global, args: &[SArg]) -> Result<Items<PElim>, AllocError>
 }
 
 #[cycle(object)]
-#[tactic(auto, using(celf_surface::specs::Surface::surface_laws, crate::specs::Plain::plain_laws, crate::specs::SugarLists::sugar_laws))]
+#[tactic(auto, using(crate::specs::SugarLists::written_part_laws, crate::specs::Plain::elim_laws))]
 fn argument(alloc: Global, arg: &SArg) -> Result<PElim, AllocError>
     ensures { IfOk result (λ e. plain_elim e ≡ act_of (argument_tree arg.now)) }
 {
@@ -154,7 +168,7 @@ fn argument(alloc: Global, arg: &SArg) -> Result<PElim, AllocError>
 }
 
 #[cycle(object)]
-#[tactic(auto, using(celf_surface::specs::Surface::surface_laws, crate::specs::Plain::plain_laws, crate::specs::SugarLists::sugar_laws))]
+#[tactic(auto, using(crate::specs::Plain::expression_laws, crate::specs::SugarLists::sugar_laws))]
 fn expression(alloc: Global, expr: &SExpr) -> Result<PExpr, AllocError>
     ensures { IfOk result (λ e. plain_expression e ≡ (steps_of (expression_tree expr.now).0, tuple_of (entries_of_tuple (expression_tree expr.now).1))) }
 {
@@ -166,7 +180,6 @@ fn expression(alloc: Global, expr: &SExpr) -> Result<PExpr, AllocError>
 }
 
 #[cycle(object)]
-#[tactic(auto, using(celf_surface::specs::Surface::surface_laws, crate::specs::Plain::plain_laws, crate::specs::SugarLists::sugar_laws))]
 fn steps(alloc: Global, steps: &[SStep]) -> Result<Items<PStep>, AllocError>
     ensures { IfOk result (λ ss. map plain_step ss ≡ map plain_step_of (map step_tree steps.now)) }
 {
@@ -178,7 +191,7 @@ fn steps(alloc: Global, steps: &[SStep]) -> Result<Items<PStep>, AllocError>
 }
 
 #[cycle(object)]
-#[tactic(auto, using(celf_surface::specs::Surface::surface_laws, crate::specs::Plain::plain_laws, crate::specs::SugarLists::sugar_laws))]
+#[tactic(auto, using(crate::specs::SugarLists::written_part_laws, crate::specs::Plain::step_laws))]
 fn step(alloc: Global, step: &SStep) -> Result<PStep, AllocError>
     ensures { IfOk result (λ s. plain_step s ≡ plain_step_of (step_tree step.now)) }
 {
@@ -193,7 +206,7 @@ fn step(alloc: Global, step: &SStep) -> Result<PStep, AllocError>
 
 /// The entries of a tuple, as one flat list.
 #[cycle(object)]
-#[tactic(auto, using(celf_surface::specs::Surface::surface_laws, crate::specs::Plain::plain_laws, crate::specs::SugarLists::sugar_laws))]
+#[tactic(auto, using(crate::specs::SugarLists::written_tuple_laws, crate::specs::SugarLists::sugar_laws))]
 fn tuple(alloc: Global, tuple: &STuple) -> Result<Items<PMarked>, AllocError>
     ensures { IfOk result (λ es. map plain_marked es ≡ entries_of_tuple (tuple_tree tuple.now)) }
 {
@@ -206,7 +219,6 @@ fn tuple(alloc: Global, tuple: &STuple) -> Result<Items<PMarked>, AllocError>
 }
 
 #[cycle(object)]
-#[tactic(auto, using(celf_surface::specs::Surface::surface_laws, crate::specs::Plain::plain_laws, crate::specs::SugarLists::sugar_laws))]
 fn tuples(alloc: Global, tuples: &[STuple]) -> Result<Items<PMarked>, AllocError>
     ensures { IfOk result (λ es. map plain_marked es ≡ flat_map entries_of_tuple (map tuple_tree tuples.now)) }
 {
@@ -219,7 +231,7 @@ fn tuples(alloc: Global, tuples: &[STuple]) -> Result<Items<PMarked>, AllocError
 
 /// One entry of a tuple.
 #[cycle(object)]
-#[tactic(auto, using(celf_surface::specs::Surface::surface_laws, crate::specs::Plain::plain_laws, crate::specs::SugarLists::sugar_laws))]
+#[tactic(auto, using(crate::specs::Plain::marked_laws))]
 fn marked(alloc: Global, mode: SMode, obj: &SObj) -> Result<Items<PMarked>, AllocError>
     ensures { IfOk result (λ es. map plain_marked es ≡ (mode, object_of (object_tree obj.now)) ∷ []) }
 {
@@ -244,7 +256,7 @@ fn mark(mode: Mode) -> SMode
 
 /// The entries of a pattern, as one flat list.
 #[cycle(binders)]
-#[tactic(auto, using(celf_surface::specs::Surface::surface_laws, crate::specs::SugarLists::sugar_laws))]
+#[tactic(auto, using(crate::specs::SugarLists::written_pattern_laws, crate::specs::SugarLists::sugar_laws))]
 fn binders(alloc: Global, pattern: &SPat) -> Result<Items<PBinder>, AllocError>
     ensures { IfOk result (λ bs. bs ≡ binders_of (pattern_tree pattern.now)) }
 {
@@ -263,7 +275,6 @@ fn binders(alloc: Global, pattern: &SPat) -> Result<Items<PBinder>, AllocError>
 }
 
 #[cycle(binders)]
-#[tactic(auto, using(celf_surface::specs::Surface::surface_laws, crate::specs::SugarLists::sugar_laws))]
 fn all_binders(alloc: Global, patterns: &[SPat]) -> Result<Items<PBinder>, AllocError>
     ensures { IfOk result (λ bs. bs ≡ flat_map binders_of (map pattern_tree patterns.now)) }
 {

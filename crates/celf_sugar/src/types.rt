@@ -1,9 +1,10 @@
 //! Plain types, kinds and telescopes.
-ghost use Rattle.std.specs.Prelude.{◌≡◌, ◌∷◌, ◌++◌, [], IfOk, map};
+ghost use Rattle.std.specs.Prelude.{◌≡◌, ◌∷◌, ◌++◌, [], IfOk, map, Some, None};
+ghost use Rattle.clf_syntax.specs.declared.tree.Mode.TheVariants.{Persistent};
 ghost use Rattle.celf_surface.specs.Surface.{surface, object_tree};
 ghost use Rattle.celf_sugar.specs.Plain.{plain_type, plain_entry, plain_object, class_of};
 ghost use Rattle.celf_sugar.specs.Sugar.{reading, functions as functions_of, is_kind as is_kind_of, kind_arguments as kind_arguments_of, class as class_of_type, object as object_of, unbraced as unbraced_of};
-ghost use Rattle.celf_sugar.specs.PlainTree.{function, both};
+ghost use Rattle.celf_sugar.specs.PlainTree.{function, both, family, monad, top, telescope_of};
 
 use crate::object::object;
 use crate::plain::{PClass, PEntry, PName, PObj, PTele, PTy, PTyForm};
@@ -14,74 +15,50 @@ use std::alloc::{AllocError, Global};
 
 /// The plain type of a type. It fails only where memory runs out.
 #[cycle(types)]
-#[tactic(auto, using(celf_surface::specs::Surface::surface_laws, crate::specs::Plain::plain_laws))]
+#[tactic(auto, using(crate::specs::SugarLists::written_type_laws))]
 pub fn plain_type_of(alloc: Global, ty: &SType) -> Result<PTy, AllocError>
     ensures { IfOk result (λ t. plain_type t ≡ (reading (surface ty.now)).as_type) }
 {
     match &ty.form {
         STypeForm::Pi { name, dom, rest } => {
-            let name = name.copy(alloc)?;
             let dom = plain_type_of(alloc, dom.get())?;
-            let cod = plain_type_of(alloc, rest.get())?;
-            function_type(alloc, ty.span, Mode::Persistent, Some(name), dom, cod)
+            pi_type(alloc, rest.get(), ty.span, name, dom)
         }
         STypeForm::Arrow { arrow, left, right } => match arrow {
             Arrow::To => {
                 let dom = plain_type_of(alloc, left.get())?;
-                let cod = plain_type_of(alloc, right.get())?;
-                function_type(alloc, ty.span, Mode::Persistent, None, dom, cod)
+                arrow_type(alloc, right.get(), ty.span, Mode::Persistent, dom)
             }
             Arrow::Back => {
                 let dom = plain_type_of(alloc, right.get())?;
-                let cod = plain_type_of(alloc, left.get())?;
-                function_type(alloc, ty.span, Mode::Persistent, None, dom, cod)
+                arrow_type(alloc, left.get(), ty.span, Mode::Persistent, dom)
             }
             Arrow::Affine => {
                 let dom = plain_type_of(alloc, left.get())?;
-                let cod = plain_type_of(alloc, right.get())?;
-                function_type(alloc, ty.span, Mode::Affine, None, dom, cod)
+                arrow_type(alloc, right.get(), ty.span, Mode::Affine, dom)
             }
             Arrow::Lolli => {
                 let doms = entries(alloc, left.get())?;
-                let cod = plain_type_of(alloc, right.get())?;
-                functions(alloc, ty.span, doms, cod)
+                lolli_type(alloc, right.get(), ty.span, doms)
             }
             Arrow::BackLolli => {
                 let doms = entries(alloc, right.get())?;
-                let cod = plain_type_of(alloc, left.get())?;
-                functions(alloc, ty.span, doms, cod)
+                lolli_type(alloc, left.get(), ty.span, doms)
             }
         },
         STypeForm::With { left, right } => {
             let left = plain_type_of(alloc, left.get())?;
-            let right = plain_type_of(alloc, right.get())?;
-            both_type(alloc, ty.span, left, right)
+            with_type(alloc, right.get(), ty.span, left)
         }
         STypeForm::Family {
             name,
             dollar,
             at,
             indices,
-        } => {
-            let head = PName {
-                name: name.copy(alloc)?,
-                dollar: *dollar,
-                span: *at,
-            };
-            let indices = plain_objects(alloc, indices.as_slice())?;
-            Ok(PTy {
-                span: ty.span,
-                form: PTyForm::Family { head, indices },
-            })
-        }
+        } => family_type(alloc, ty.span, name, *dollar, *at, indices.as_slice()),
         STypeForm::Braces { body } => {
-            let tele = PTele {
-                entries: entries(alloc, body.get())?,
-            };
-            Ok(PTy {
-                span: ty.span,
-                form: PTyForm::Monad { tele },
-            })
+            let entries = entries(alloc, body.get())?;
+            Ok(monad_type(ty.span, entries))
         }
         // The other forms but `<T>` are at fault here, and what is answered is not used.
         STypeForm::Top
@@ -89,25 +66,68 @@ pub fn plain_type_of(alloc: Global, ty: &SType) -> Result<PTy, AllocError>
         | STypeForm::Exists { .. }
         | STypeForm::Tensor { .. }
         | STypeForm::Marked { .. }
-        | STypeForm::One => Ok(PTy {
-            span: ty.span,
-            form: PTyForm::Top,
-        }),
+        | STypeForm::One => Ok(top_type(ty.span)),
     }
+}
+
+/// The function that binds a name, given its domain.
+#[cycle(types)]
+fn pi_type(alloc: Global, cod: &SType, span: Span, name: &Name, dom: PTy) -> Result<PTy, AllocError>
+    ensures { IfOk result (λ t. plain_type t ≡ function span Persistent (Some name.now) (plain_type dom) (reading (surface cod.now)).as_type) }
+{
+    let cod = plain_type_of(alloc, cod)?;
+    let name = name.copy(alloc)?;
+    function_type(alloc, span, Mode::Persistent, Some(name), dom, cod)
+}
+
+/// The function that binds no name, given its domain.
+#[cycle(types)]
+fn arrow_type(
+    alloc: Global,
+    cod: &SType,
+    span: Span,
+    mode: Mode,
+    dom: PTy,
+) -> Result<PTy, AllocError>
+    ensures { IfOk result (λ t. plain_type t ≡ function span mode None (plain_type dom) (reading (surface cod.now)).as_type) }
+{
+    let cod = plain_type_of(alloc, cod)?;
+    function_type(alloc, span, mode, None, dom, cod)
+}
+
+/// One function for each entry of a domain, in order, and then a type.
+#[cycle(types)]
+fn lolli_type(
+    alloc: Global,
+    cod: &SType,
+    span: Span,
+    doms: Items<PEntry>,
+) -> Result<PTy, AllocError>
+    ensures { IfOk result (λ t. plain_type t ≡ functions_of span (map plain_entry doms) (reading (surface cod.now)).as_type) }
+{
+    let cod = plain_type_of(alloc, cod)?;
+    functions(alloc, span, doms, cod)
+}
+
+/// A type, given the left one of the two that it is both of.
+#[cycle(types)]
+fn with_type(alloc: Global, right: &SType, span: Span, left: PTy) -> Result<PTy, AllocError>
+    ensures { IfOk result (λ t. plain_type t ≡ both span (plain_type left) (reading (surface right.now)).as_type) }
+{
+    let right = plain_type_of(alloc, right)?;
+    both_type(alloc, span, left, right)
 }
 
 /// The entries of the telescope of a type: those of a synchronous type, or one linear entry.
 #[cycle(types)]
-#[tactic(auto, using(celf_surface::specs::Surface::surface_laws, crate::specs::Plain::plain_laws))]
+#[tactic(auto, using(crate::specs::SugarLists::written_type_laws))]
 pub fn entries(alloc: Global, ty: &SType) -> Result<Items<PEntry>, AllocError>
     ensures { IfOk result (λ es. map plain_entry es ≡ (reading (surface ty.now)).as_entries) }
 {
     match &ty.form {
         STypeForm::Exists { name, dom, rest } => {
-            let name = name.copy(alloc)?;
             let dom = plain_type_of(alloc, dom.get())?;
-            let bound = one_entry(alloc, Mode::Persistent, Some(name), dom)?;
-            joined(bound, entries(alloc, rest.get())?)
+            entries_behind(alloc, rest.get(), name, dom)
         }
         STypeForm::Tensor { left, right } => {
             let first = entries(alloc, left.get())?;
@@ -131,9 +151,23 @@ pub fn entries(alloc: Global, ty: &SType) -> Result<Items<PEntry>, AllocError>
     }
 }
 
+/// The entries of a telescope behind one that binds a name, and that one first.
+#[cycle(types)]
+fn entries_behind(
+    alloc: Global,
+    rest: &SType,
+    name: &Name,
+    dom: PTy,
+) -> Result<Items<PEntry>, AllocError>
+    ensures { IfOk result (λ es. map plain_entry es ≡ (Persistent, Some name.now, plain_type dom) ∷ (reading (surface rest.now)).as_entries) }
+{
+    let bound = bound_entry(alloc, name, dom)?;
+    joined(bound, entries(alloc, rest)?)
+}
+
 /// The entries of the later factors of a product, which may be many, behind those of the first.
 #[cycle(types)]
-#[tactic(auto, using(celf_surface::specs::Surface::surface_laws, crate::specs::Plain::plain_laws))]
+#[tactic(auto, using(crate::specs::SugarLists::written_type_laws))]
 fn entries_of_factors(
     alloc: Global,
     factors: &SType,
@@ -159,8 +193,16 @@ fn joined(entries: Items<PEntry>, more: Items<PEntry>) -> Result<Items<PEntry>, 
     Ok(entries)
 }
 
+/// One persistent entry alone, which binds a name.
+fn bound_entry(alloc: Global, name: &Name, ty: PTy) -> Result<Items<PEntry>, AllocError>
+    ensures { IfOk result (λ es. map plain_entry es ≡ (Persistent, Some name.now, plain_type ty) ∷ []) }
+{
+    let name = name.copy(alloc)?;
+    one_entry(alloc, Mode::Persistent, Some(name), ty)
+}
+
 /// One entry alone.
-#[tactic(auto, using(crate::specs::Plain::plain_laws))]
+#[tactic(auto, using(crate::specs::Plain::entry_laws))]
 fn one_entry(
     alloc: Global,
     mode: Mode,
@@ -174,7 +216,6 @@ fn one_entry(
     Ok(entries)
 }
 
-#[tactic(auto, using(crate::specs::Plain::plain_laws))]
 fn function_type(
     alloc: Global,
     span: Span,
@@ -198,7 +239,6 @@ fn function_type(
     })
 }
 
-#[tactic(auto, using(crate::specs::Plain::plain_laws))]
 fn both_type(alloc: Global, span: Span, left: PTy, right: PTy) -> Result<PTy, AllocError>
     ensures { IfOk result (λ t. plain_type t ≡ both span (plain_type left) (plain_type right)) }
 {
@@ -210,8 +250,48 @@ fn both_type(alloc: Global, span: Span, left: PTy, right: PTy) -> Result<PTy, Al
     })
 }
 
+fn family_type(
+    alloc: Global,
+    span: Span,
+    name: &Name,
+    dollar: bool,
+    at: Span,
+    indices: &[SObj],
+) -> Result<PTy, AllocError>
+    ensures { IfOk result (λ t. plain_type t ≡ family span (record { name = name.now; dollar = dollar; span = at }) (map object_of (map object_tree indices.now))) }
+{
+    let head = PName {
+        name: name.copy(alloc)?,
+        dollar,
+        span: at,
+    };
+    let indices = plain_objects(alloc, indices)?;
+    Ok(PTy {
+        span,
+        form: PTyForm::Family { head, indices },
+    })
+}
+
+fn monad_type(span: Span, entries: Items<PEntry>) -> PTy
+    ensures { plain_type result ≡ monad span (telescope_of (map plain_entry entries)) }
+{
+    let tele = PTele { entries };
+    PTy {
+        span,
+        form: PTyForm::Monad { tele },
+    }
+}
+
+fn top_type(span: Span) -> PTy
+    ensures { plain_type result ≡ top span }
+{
+    PTy {
+        span,
+        form: PTyForm::Top,
+    }
+}
+
 /// One function for each entry, in order, and then a type.
-#[tactic(auto, using(crate::specs::Plain::plain_laws))]
 fn functions(alloc: Global, span: Span, doms: Items<PEntry>, cod: PTy) -> Result<PTy, AllocError>
     ensures { IfOk result (λ t. plain_type t ≡ functions_of span (map plain_entry doms) (plain_type cod)) }
 {
@@ -223,7 +303,7 @@ fn functions(alloc: Global, span: Span, doms: Items<PEntry>, cod: PTy) -> Result
     Ok(cod)
 }
 
-#[tactic(auto, using(crate::specs::Plain::plain_laws))]
+#[tactic(auto, using(crate::specs::Plain::entry_laws))]
 fn function_of_entry(alloc: Global, span: Span, entry: PEntry, cod: PTy) -> Result<PTy, AllocError>
     ensures { IfOk result (λ t. plain_type t ≡ function span (plain_entry entry).0 (plain_entry entry).1 (plain_entry entry).2 (plain_type cod)) }
 {
@@ -231,7 +311,6 @@ fn function_of_entry(alloc: Global, span: Span, entry: PEntry, cod: PTy) -> Resu
     function_type(alloc, span, mode, name, ty, cod)
 }
 
-#[tactic(auto, using(crate::specs::Plain::plain_laws))]
 fn plain_objects(alloc: Global, objs: &[SObj]) -> Result<Items<PObj>, AllocError>
     ensures { IfOk result (λ os. map plain_object os ≡ map object_of (map object_tree objs.now)) }
 {
@@ -243,7 +322,7 @@ fn plain_objects(alloc: Global, objs: &[SObj]) -> Result<Items<PObj>, AllocError
 }
 
 /// What a declaration with this type or kind declares. It fails only where memory runs out.
-#[tactic(auto, using(crate::specs::Plain::plain_laws))]
+#[tactic(auto, using(crate::specs::Plain::telescope_laws))]
 pub fn class(alloc: Global, ty: &SType) -> Result<PClass, AllocError>
     ensures { IfOk result (λ c. class_of c ≡ class_of_type (surface ty.now)) }
 {
@@ -256,7 +335,7 @@ pub fn class(alloc: Global, ty: &SType) -> Result<PClass, AllocError>
 }
 
 /// Whether the word `type` stands at the end, behind `Pi`, `->` and `<-` alone.
-#[tactic(auto, using(celf_surface::specs::Surface::surface_laws))]
+#[tactic(auto, using(crate::specs::SugarLists::written_type_laws))]
 fn is_kind(ty: &SType) -> bool
     ensures { result ≡ is_kind_of (surface ty.now) }
 {
@@ -284,28 +363,19 @@ fn is_kind(ty: &SType) -> bool
 }
 
 /// The arguments of a kind.
-#[tactic(auto, using(celf_surface::specs::Surface::surface_laws, crate::specs::Plain::plain_laws))]
+#[cycle(kind_arguments)]
+#[tactic(auto, using(crate::specs::SugarLists::written_type_laws))]
 fn kind_arguments(alloc: Global, ty: &SType) -> Result<Items<PEntry>, AllocError>
     ensures { IfOk result (λ es. map plain_entry es ≡ kind_arguments_of (surface ty.now)) }
 {
     match &ty.form {
         STypeForm::Pi { name, dom, rest } => {
             let name = name.copy(alloc)?;
-            let dom = plain_type_of(alloc, dom.get())?;
-            let entry = one_entry(alloc, Mode::Persistent, Some(name), dom)?;
-            joined(entry, kind_arguments(alloc, rest.get())?)
+            arguments_behind(alloc, rest.get(), Some(name), dom.get())
         }
         STypeForm::Arrow { arrow, left, right } => match arrow {
-            Arrow::To => {
-                let dom = plain_type_of(alloc, left.get())?;
-                let entry = one_entry(alloc, Mode::Persistent, None, dom)?;
-                joined(entry, kind_arguments(alloc, right.get())?)
-            }
-            Arrow::Back => {
-                let dom = plain_type_of(alloc, right.get())?;
-                let entry = one_entry(alloc, Mode::Persistent, None, dom)?;
-                joined(entry, kind_arguments(alloc, left.get())?)
-            }
+            Arrow::To => arguments_behind(alloc, right.get(), None, left.get()),
+            Arrow::Back => arguments_behind(alloc, left.get(), None, right.get()),
             Arrow::Lolli | Arrow::BackLolli | Arrow::Affine => Ok(Items::new(alloc)),
         },
         STypeForm::Exists { .. }
@@ -320,8 +390,23 @@ fn kind_arguments(alloc: Global, ty: &SType) -> Result<Items<PEntry>, AllocError
     }
 }
 
+/// The arguments of a kind behind one, and that one first.
+#[cycle(kind_arguments)]
+fn arguments_behind(
+    alloc: Global,
+    rest: &SType,
+    name: Option<Name>,
+    dom: &SType,
+) -> Result<Items<PEntry>, AllocError>
+    ensures { IfOk result (λ es. map plain_entry es ≡ (Persistent, name, (reading (surface dom.now)).as_type) ∷ kind_arguments_of (surface rest.now)) }
+{
+    let dom = plain_type_of(alloc, dom)?;
+    let argument = one_entry(alloc, Mode::Persistent, name, dom)?;
+    joined(argument, kind_arguments(alloc, rest)?)
+}
+
 /// The type without the braces around the whole, again and again.
-#[tactic(auto, using(celf_surface::specs::Surface::surface_laws))]
+#[tactic(auto, using(crate::specs::SugarLists::written_type_laws))]
 pub fn unbraced(ty: &SType) -> &SType
     ensures { surface result.now ≡ unbraced_of (surface ty.now) }
 {
