@@ -35,7 +35,12 @@ pub fn answer(alloc: Global, sig: &mut Signature, item: &Item) -> Result<Answere
     ensures err { OnErr result (sig.new ≡ sig.old) }
 {
     match desugar(alloc, item) {
-        Ok(plain) => answer_plain(alloc, sig, &plain),
+        Ok(plain) => {
+            let answered = answer_plain(alloc, sig, &plain);
+            // By a call: dropped at the end, each form of its trees would be a case of this function.
+            drop(plain);
+            answered
+        }
         Err(fault) => sugar_refusal(alloc, fault),
     }
 }

@@ -38,7 +38,13 @@ pub fn check(
         return unknown_name(alloc, unknown);
     }
     match read_check(alloc, sig, obj, ty)? {
-        Some((obj, ty)) => judge(alloc, sig, plain, &obj, &ty),
+        Some((obj, ty)) => {
+            let answered = judge(alloc, sig, plain, &obj, &ty);
+            // By calls: dropped at the end, each form of the trees would be a case of this function.
+            drop(obj);
+            drop(ty);
+            answered
+        }
         None => not_yet(alloc, plain),
     }
 }

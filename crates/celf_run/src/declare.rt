@@ -91,8 +91,14 @@ fn accepted(
     ensures bare { IsBareSignature (plain_signature sig.new) }
     ensures err { OnErr result (sig.new ≡ sig.old) }
 {
-    let mut line = declaration_text(alloc, sig, name, &entry)?;
-    line.push(b'\n')?;
+    let line = match declaration_line(alloc, sig, name, &entry) {
+        Ok(line) => line,
+        Err(error) => {
+            // By a call: dropped here, each form of its type would be a case of this function.
+            drop(entry);
+            return Err(error);
+        }
+    };
     match sig.add(name, entry) {
         Ok(_) => Ok(Answered {
             line,
@@ -102,4 +108,18 @@ fn accepted(
         Err(AddFault::Duplicate) => unreachable!(),
         Err(AddFault::Full) => unreachable!(),
     }
+}
+
+/// The line of a declaration.
+fn declaration_line(
+    alloc: Global,
+    sig: &Signature,
+    name: &str,
+    entry: &Entry,
+) -> Result<Vec<u8>, AllocError>
+    ensures { IfOk result (λ line. line.items ≡ entry_line_of (plain_signature sig.now) name.now (plain_entry entry.now)) }
+{
+    let mut line = declaration_text(alloc, sig, name, entry)?;
+    line.push(b'\n')?;
+    Ok(line)
 }

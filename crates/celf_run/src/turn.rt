@@ -50,7 +50,12 @@ pub fn next_turn<W: Sink>(
 {
     match next_item(alloc, bytes, at) {
         Ok(None) => Turn::Ended(Status::Done),
-        Ok(Some(item)) => answered(alloc, sig, &item, out),
+        Ok(Some(item)) => {
+            let turn = answered(alloc, sig, &item, out);
+            // By a call: dropped at the end, each form of its trees would be a case of this function.
+            drop(item);
+            turn
+        }
         Err(SyntaxFault::NoMemory) => Turn::Ended(Status::NoMemory),
         Err(fault) => Turn::Ended(refused(alloc, bytes, fault, out)),
     }

@@ -6,8 +6,8 @@ use Rattle.celf_run.proofs.answer.answer.Goals as goal
 
 pub returns-in-Ok-clause-answered : goal.returns-in-Ok-clause-answered
 returns-in-Ok-clause-answered c =
-    plainly-answers (plain_signature c.args.sig.now) (plain_signature c.answer_plain.new.sig) (written_item c.args.item.now) (plain_item c.in-Ok.plain) c.answer_plain.result
-    c.in-Ok.ensures.clean c.in-Ok.ensures.plain c.answer_plain.ensures.answered
+    plainly-answers (plain_signature c.args.sig.now) (plain_signature c.answer_plain-answered.new.sig) (written_item c.args.item.now) (plain_item c.in-Ok.plain) c.answer_plain-answered.result
+    c.in-Ok.ensures.clean c.in-Ok.ensures.plain c.answer_plain-answered.ensures.answered
 
 pub returns-in-Err-clause-answered : goal.returns-in-Err-clause-answered
 returns-in-Err-clause-answered c =

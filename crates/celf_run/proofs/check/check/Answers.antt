@@ -16,13 +16,13 @@ returns-in-Some c =
     let found = sym c.in_ok-unknown.ensures ∙ ap option_copied c.in-Some.is in
     record { answered = refusal-answers P sig _ _ c.unknown_name.result (unknown_in found) c.unknown_name.ensures }
 
-pub judge-requires-clause-object : goal.judge-requires-clause-object
-judge-requires-clause-object c =
+pub judge-answered-requires-clause-object : goal.judge-answered-requires-clause-object
+judge-answered-requires-clause-object c =
     let read = sym c.in_ok-obj.ensures ∙ ap (option_map plain_check) c.in-Some-2.is in
     (read_check-within (plain_signature c.args.sig.now) (plain_object c.args.obj.now) (plain_type c.args.ty.now) (plain_obj c.in-Some-2.obj) (plain_ty c.in-Some-2.ty) c.requires.bare read).0
 
-pub judge-requires-clause-ty : goal.judge-requires-clause-ty
-judge-requires-clause-ty c =
+pub judge-answered-requires-clause-ty : goal.judge-answered-requires-clause-ty
+judge-answered-requires-clause-ty c =
     let read = sym c.in_ok-obj.ensures ∙ ap (option_map plain_check) c.in-Some-2.is in
     (read_check-within (plain_signature c.args.sig.now) (plain_object c.args.obj.now) (plain_type c.args.ty.now) (plain_obj c.in-Some-2.obj) (plain_ty c.in-Some-2.ty) c.requires.bare read).1
 
@@ -33,8 +33,8 @@ returns-in-Some-2 c =
     let read = sym c.in_ok-obj.ensures ∙ ap (option_map plain_check) c.in-Some-2.is in
     let none = sym c.in_ok-unknown.ensures ∙ ap option_copied c.in_default.is in
     record {
-      answered = answers-as (Judged sig item.span.start (plain_obj c.in-Some-2.obj) (plain_ty c.in-Some-2.ty)) (Checked sig item (plain_object c.args.obj.now) (plain_type c.args.ty.now)) sig sig c.judge.result
-          (λ a j. judged none read j) c.judge.ensures.answered;
+      answered = answers-as (Judged sig item.span.start (plain_obj c.in-Some-2.obj) (plain_ty c.in-Some-2.ty)) (Checked sig item (plain_object c.args.obj.now) (plain_type c.args.ty.now)) sig sig c.judge-answered.result
+          (λ a j. judged none read j) c.judge-answered.ensures.answered;
     }
 
 pub returns-in-None : goal.returns-in-None
