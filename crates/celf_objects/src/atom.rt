@@ -15,6 +15,7 @@ use celf_cursor::{
 };
 use celf_lexer::TokenKind;
 use celf_surface::{SObj, SObjForm};
+use sqlite_items::Boxed;
 use std::alloc::Global;
 
 /// An atom.
@@ -121,11 +122,13 @@ fn pair_at(alloc: Global, bytes: &[u8], cursor: Cursor) -> Result<(SObj, Cursor)
 {
     let opened = open(bytes, cursor, TokenKind::Less)?;
     let (left, separator) = object_at(alloc, bytes, opened)?;
+    let left_half = Boxed::new(alloc, left)?;
     let next = take(bytes, separator, TokenKind::Comma)?;
     let (right, last) = object_at(alloc, bytes, next)?;
+    let right_half = Boxed::new(alloc, right)?;
     let behind = close(bytes, cursor, last, TokenKind::Greater)?;
     let span = span_from(bytes, cursor, behind);
-    Ok((pair(alloc, span, left, right)?, behind))
+    Ok((pair(span, left_half, right_half), behind))
 }
 
 /// An expression in braces.
@@ -141,9 +144,10 @@ fn braces_at(alloc: Global, bytes: &[u8], cursor: Cursor) -> Result<(SObj, Curso
 {
     let opened = open(bytes, cursor, TokenKind::LeftBrace)?;
     let (expr, last) = expression_at(alloc, bytes, opened)?;
+    let inside = Boxed::new(alloc, expr)?;
     let behind = close(bytes, cursor, last, TokenKind::RightBrace)?;
     let span = span_from(bytes, cursor, behind);
-    Ok((braces(alloc, span, expr)?, behind))
+    Ok((braces(span, inside), behind))
 }
 
 /// An object in parentheses, which leave no form.

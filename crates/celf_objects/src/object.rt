@@ -2,8 +2,9 @@
 ghost use Rattle.std.specs.Prelude.{◌≡◌, ◌≢◌, IfErr, List, ◌∷◌, ◌<◌, IfOk};
 ghost use Rattle.celf_grammar.specs.Machine.{Symbol, Object as ObjectSymbol, Application as ApplicationSymbol};
 ghost use Rattle.celf_cursor.specs.Faults.{IsFaultOf};
-ghost use Rattle.celf_surface.specs.Surface.{object_tree};
+ghost use Rattle.celf_surface.specs.Surface.{object_tree, lam as lambda_of};
 ghost use Rattle.celf_grammar.specs.Grammar.{IsObject, IsApplication};
+ghost use Rattle.celf_grammar.specs.State.{span_to};
 ghost use Rattle.celf_cursor.specs.Cursor.{IsCursorOf, state_of, kind_next};
 
 use crate::arguments::arguments_at;
@@ -12,8 +13,9 @@ use crate::binder::{binder_at, mark_at};
 use crate::trees::{applied, lambda};
 use celf_cursor::{Cursor, Stop, kind_of_next, open, span_from, take};
 use celf_lexer::TokenKind;
-use celf_surface::SObj;
-use std::alloc::Global;
+use celf_surface::{SMode, SObj};
+use clf_syntax::Name;
+use std::alloc::{AllocError, Global};
 
 /// An object: a lambda or an application.
 #[cycle(objects)]
@@ -47,6 +49,23 @@ fn lambda_at(alloc: Global, bytes: &[u8], cursor: Cursor) -> Result<(SObj, Curso
     let (name, named) = binder_at(alloc, bytes, marked)?;
     let dotted = take(bytes, named, TokenKind::Stop)?;
     let (body, behind) = object_at(alloc, bytes, dotted)?;
+    Ok(lambda_from(alloc, bytes, cursor, mode, name, body, behind)?)
+}
+
+/// A lambda from a cursor to the end of its body. No token ends its part, so there is as much room as behind the body.
+#[tactic(auto, using(celf_surface::specs::Surface::surface_laws))]
+fn lambda_from(
+    alloc: Global,
+    bytes: &[u8],
+    cursor: Cursor,
+    mode: SMode,
+    name: Option<Name>,
+    body: SObj,
+    behind: Cursor,
+) -> Result<(SObj, Cursor), AllocError>
+    ensures tree { IfOk result (λ r. object_tree r.0 ≡ lambda_of (span_to (state_of bytes.now cursor) (state_of bytes.now behind)) mode name (object_tree body)) }
+    ensures behind { IfOk result (λ r. r.1 ≡ behind) }
+{
     let span = span_from(bytes, cursor, behind);
     Ok((lambda(alloc, span, mode, name, body)?, behind))
 }

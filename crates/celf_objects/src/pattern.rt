@@ -26,7 +26,10 @@ pub fn pattern_at(alloc: Global, bytes: &[u8], cursor: Cursor) -> Result<(SPat, 
     ensures fault { IfErr result (λ e. (k : List Symbol) → IsFaultOf bytes.now (PatternSymbol ∷ k) (state_of bytes.now cursor) e) }
 {
     match kind_of_next(bytes, cursor) {
-        TokenKind::Number => Ok((SPat::One, take_one(bytes, cursor)?)),
+        TokenKind::Number => {
+            let behind = take_one(bytes, cursor)?;
+            Ok((SPat::One, behind))
+        }
         TokenKind::LeftBracket => pattern_list_at(alloc, bytes, cursor),
         _ => pattern_entry_at(alloc, bytes, cursor),
     }

@@ -50,21 +50,18 @@ pub(crate) fn applied(
 
 /// A pair.
 #[tactic(auto, using(celf_surface::specs::Surface::surface_laws))]
-pub(crate) fn pair(alloc: Global, span: Span, left: SObj, right: SObj) -> Result<SObj, AllocError>
-    ensures { IfOk result (λ o. object_tree o ≡ pair_of span (object_tree left) (object_tree right)) }
+pub(crate) fn pair(span: Span, left: Boxed<SObj>, right: Boxed<SObj>) -> SObj
+    ensures { object_tree result ≡ pair_of span (object_tree left) (object_tree right) }
 {
-    let left = Boxed::new(alloc, left)?;
-    let right = Boxed::new(alloc, right)?;
-    Ok(leaf(span, SObjForm::Pair { left, right }))
+    leaf(span, SObjForm::Pair { left, right })
 }
 
 /// An expression in braces.
 #[tactic(auto, using(celf_surface::specs::Surface::surface_laws))]
-pub(crate) fn braces(alloc: Global, span: Span, expr: SExpr) -> Result<SObj, AllocError>
-    ensures { IfOk result (λ o. object_tree o ≡ braces_of span (expression_tree expr).0 (expression_tree expr).1) }
+pub(crate) fn braces(span: Span, expr: Boxed<SExpr>) -> SObj
+    ensures { object_tree result ≡ braces_of span (expression_tree expr).0 (expression_tree expr).1 }
 {
-    let expr = Boxed::new(alloc, expr)?;
-    Ok(leaf(span, SObjForm::Braces { expr }))
+    leaf(span, SObjForm::Braces { expr })
 }
 
 /// A first projection.

@@ -32,7 +32,10 @@ pub(crate) fn tuple_at(
     ensures fault { IfErr result (λ e. (k : List Symbol) → IsFaultOf bytes.now (TupleSymbol ∷ k) (state_of bytes.now cursor) e) }
 {
     match kind_of_next(bytes, cursor) {
-        TokenKind::Number => Ok((STuple::One, take_one(bytes, cursor)?)),
+        TokenKind::Number => {
+            let behind = take_one(bytes, cursor)?;
+            Ok((STuple::One, behind))
+        }
         TokenKind::LeftBracket => tuple_list_at(alloc, bytes, cursor),
         TokenKind::Bang => persistent_at(alloc, bytes, cursor),
         TokenKind::AtSign => affine_at(alloc, bytes, cursor),
