@@ -1,5 +1,5 @@
 -- Faults of a part are faults of what it is part of, and what a token that is missed comes to.
-use Rattle.std.proofs.Common.{◌≡◌, inl, inr, ℕ, List, ◌∷◌, true, false, refl, sym, ap, subst, ◌∙◌, Result, Ok, Err}
+use Rattle.std.proofs.Common.{◌≡◌, inl, inr, ℕ, List, ◌∷◌, true, false, refl, sym, ap, subst, ◌∙◌, Result, Ok, Err, IsErrAnd, IfErr}
 use Rattle.std.proofs.lemmas.Bool.{true≢false}
 use Rattle.celf_lexer.specs.declared.token.TokenKind.{TokenKind}
 use Rattle.celf_lexer.specs.declared.token.TokenKind.TheVariants as token
@@ -62,6 +62,11 @@ fault-deep text c j e h f r = subst (IsFaultOf text j (state_of text c)) (sym f)
     by_next (Err x) g =
         let came = r ∙ ap (λ (n : Result Token LexFault). deep_on (tokens_on text n)) g in
         subst (λ (n : Result Token LexFault). IsFaultOf text j (state_of text c) (too_deep n)) (sym g) (fault_lacking came (lacking-here text c x h g))
+
+-- a fault that a ? hands on
+pub passed : {T E : Type 0} (P : E → Type 0) (r : Result T E) {e : E} → IsErrAnd r (λ y. y ≡ e) → P e → IfErr r P
+passed P (Ok x) h p = absurd h
+passed P (Err y) h p = subst P (sym h) p
 
 -- a token that is missed
 pub expect-missed : (text : List ℕ) (c : Cursor) (kind : TokenKind) (k : List Symbol) (e : Stop) → IsCursorOf text c → Misses text kind c e → IsFaultOf text (Expect kind ∷ k) (state_of text c) e

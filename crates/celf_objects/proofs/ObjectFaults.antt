@@ -14,7 +14,7 @@ use Rattle.celf_cursor.specs.declared.cursor.Cursor.{Cursor}
 use Rattle.celf_cursor.specs.declared.stop.Stop.{Stop}
 use Rattle.celf_cursor.specs.Cursor.{state_of, kind_next, IsCursorOf, unexpected, Misses, MissesOpening, MissesWord}
 use Rattle.celf_cursor.specs.Faults.{IsFaultOf}
-use Rattle.celf_cursor.proofs.Faulty.{fault-moved, fault-stops, opening-missed, expect-missed, close-missed, taken-missed, name-missed, constant-missed}
+use Rattle.celf_cursor.proofs.Faulty.{fault-moved, fault-stops, opening-missed, taken-missed, name-missed, constant-missed}
 use Rattle.celf_cursor.proofs.Ends.{opens-end, takes-end, closes-end, mark-end, binder-end, pattern-end, object-end, application-end, arguments-end, atom-end, expression-end, steps-end, tuples-end, indices-end}
 use Rattle.celf_objects.proofs.PatternFaults.{not-one-word, memory-fault, comma-fault, bracket-not}
 
@@ -215,25 +215,11 @@ pub tuples_next-fault : {text : List ℕ} {s u v : State} {ts : List TupleTree} 
     → IsTuples s ts u → Takes token.Comma u v → ((j : List Symbol) → IsFaultOf text (Tuple ∷ j) v e) → IsFaultOf text (Tuple ∷ TupleTail ∷ k) s e
 tuples_next-fault {k = k} ts c f = fault-moved (tuples-accept ts k ∙ tuple_tail-more c k) (tuples-end ts ∙ takes-end c) (f _)
 
-pub ruleset lambda_faults = (memory-fault, expect-missed, lambda_opening-fault, lambda_mark-fault, lambda_binder-fault, lambda_stop-fault, lambda_body-fault)
-
 pub ruleset applied_faults = (applied-fault)
-
-pub ruleset application_faults = (memory-fault, head-fault, called-fault)
 
 pub ruleset arguments_faults = (memory-fault, argument_mark-fault, argument_atom-fault)
 
 pub ruleset atom_faults = (atom-fault)
-
-pub ruleset pair_faults = (memory-fault, atom_opening-fault, pair_left-fault)
-
-pub ruleset braces_faults = (memory-fault, close-missed, atom_opening-fault, braces_inside-fault, braces_closing-fault)
-
-pub ruleset group_faults = (atom_opening-fault, group_inside-fault)
-
-pub ruleset first_faults = (memory-fault, atom_opening-fault, first-fault)
-
-pub ruleset second_faults = (memory-fault, atom_opening-fault, second-fault)
 
 pub ruleset name_faults = (name-missed)
 
@@ -245,20 +231,8 @@ pub ruleset index_faults = (taken-missed, index_banged-fault, index_bare-fault)
 
 pub ruleset indices_faults = (memory-fault, indices-fault)
 
-pub ruleset expression_faults = (result-fault)
-
 pub ruleset steps_faults = (memory-fault, step-fault)
 
 pub ruleset tuple_faults = (tuple_one-fault)
 
-pub ruleset tuple_list_faults = (close-missed, tuple_opening-fault, tuple_inside-fault, tuple_closing-fault)
-
-pub ruleset persistent_faults = (taken-missed, persistent-fault)
-
-pub ruleset affine_faults = (taken-missed, affine-fault)
-
-pub ruleset bare_faults = (bare-fault)
-
 pub ruleset tuples_faults = (memory-fault, comma-fault, tuples_next-fault)
-
-pub ruleset step_faults = (let-fault, let_opening-fault, let_pattern-fault)

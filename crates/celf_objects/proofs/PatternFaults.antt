@@ -66,6 +66,10 @@ pub patterns_next-fault : {text : List ℕ} {s u v : State} {ps : List PatternTr
     → IsPatterns s ps u → Takes token.Comma u v → IsFaultOf text (Pattern ∷ PatternTail ∷ k) v e → IsFaultOf text (Pattern ∷ PatternTail ∷ k) s e
 patterns_next-fault {k = k} ps c f = fault-moved (patterns-accept ps k ∙ pattern_tail-more c k) (patterns-end ps ∙ takes-end c) f
 
-pub ruleset pattern_faults = (memory-fault, close-missed, pattern_one-fault, pattern_entry-fault, pattern_mark-fault, pattern_opening-fault, pattern_inside-fault, pattern_closing-fault)
+pub ruleset pattern_one_faults = (pattern_one-fault)
+
+pub ruleset pattern_entry_faults = (pattern_entry-fault, pattern_mark-fault)
+
+pub ruleset pattern_list_faults = (close-missed, pattern_opening-fault, pattern_inside-fault, pattern_closing-fault)
 
 pub ruleset patterns_faults = (memory-fault, comma-fault, patterns_next-fault)

@@ -123,7 +123,11 @@ indices_none-read {s} e = subst (λ (l : List Object). IsIndices s l s) (sym e) 
 pub indices_more-read : {s u v : State} {os ps : List Object} {o : Object} → IsIndices s os u → IsIndex u o v → ps ≡ os ++ (o ∷ []) → IsIndices s ps v
 indices_more-read {s} {v = v} h g e = subst (λ (l : List Object). IsIndices s l v) (sym e) (indices_more h g)
 
-pub ruleset pattern_steps = (pattern_one-read, pattern_entry-read, pattern_list-read)
+pub ruleset pattern_one_steps = (pattern_one-read)
+
+pub ruleset pattern_entry_steps = (pattern_entry-read)
+
+pub ruleset pattern_list_steps = (pattern_list-read)
 
 pub ruleset patterns_steps = (patterns_first-read, patterns_more-read, map-append)
 

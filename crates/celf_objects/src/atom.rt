@@ -111,7 +111,7 @@ fn unit_at(bytes: &[u8], cursor: Cursor) -> Result<(SObj, Cursor), Stop>
 
 /// A pair of objects.
 #[cycle(objects)]
-#[tactic(auto, using(celf_surface::specs::Surface::surface_laws, crate::proofs::Reading::pair_steps, crate::proofs::ObjectFaults::pair_faults))]
+#[tactic(auto, using(celf_surface::specs::Surface::surface_laws, crate::proofs::Reading::pair_steps))]
 fn pair_at(alloc: Global, bytes: &[u8], cursor: Cursor) -> Result<(SObj, Cursor), Stop>
     requires cursor { IsCursorOf bytes.now cursor }
     requires kind { kind_next bytes.now cursor ≡ TokenKind.Less }
@@ -133,7 +133,7 @@ fn pair_at(alloc: Global, bytes: &[u8], cursor: Cursor) -> Result<(SObj, Cursor)
 
 /// An expression in braces.
 #[cycle(objects)]
-#[tactic(auto, using(celf_surface::specs::Surface::surface_laws, crate::proofs::Reading::braces_steps, crate::proofs::ObjectFaults::braces_faults))]
+#[tactic(auto, using(celf_surface::specs::Surface::surface_laws, crate::proofs::Reading::braces_steps))]
 fn braces_at(alloc: Global, bytes: &[u8], cursor: Cursor) -> Result<(SObj, Cursor), Stop>
     requires cursor { IsCursorOf bytes.now cursor }
     requires kind { kind_next bytes.now cursor ≡ TokenKind.LeftBrace }
@@ -152,7 +152,7 @@ fn braces_at(alloc: Global, bytes: &[u8], cursor: Cursor) -> Result<(SObj, Curso
 
 /// An object in parentheses, which leave no form.
 #[cycle(objects)]
-#[tactic(auto, using(celf_surface::specs::Surface::surface_laws, crate::proofs::Reading::group_steps, crate::proofs::ObjectFaults::group_faults))]
+#[tactic(auto, using(celf_surface::specs::Surface::surface_laws, crate::proofs::Reading::group_steps))]
 fn group_at(alloc: Global, bytes: &[u8], cursor: Cursor) -> Result<(SObj, Cursor), Stop>
     requires cursor { IsCursorOf bytes.now cursor }
     requires kind { kind_next bytes.now cursor ≡ TokenKind.LeftParen }
@@ -169,7 +169,7 @@ fn group_at(alloc: Global, bytes: &[u8], cursor: Cursor) -> Result<(SObj, Cursor
 
 /// The first projection of an atom. Its part ends with that atom.
 #[cycle(objects)]
-#[tactic(auto, using(celf_surface::specs::Surface::surface_laws, crate::proofs::Reading::first_steps, crate::proofs::ObjectFaults::first_faults))]
+#[tactic(auto, using(celf_surface::specs::Surface::surface_laws, crate::proofs::Reading::first_steps))]
 fn first_at(alloc: Global, bytes: &[u8], cursor: Cursor) -> Result<(SObj, Cursor), Stop>
     requires cursor { IsCursorOf bytes.now cursor }
     requires kind { kind_next bytes.now cursor ≡ TokenKind.Proj1 }
@@ -187,7 +187,7 @@ fn first_at(alloc: Global, bytes: &[u8], cursor: Cursor) -> Result<(SObj, Cursor
 
 /// The second projection of an atom. Its part ends with that atom.
 #[cycle(objects)]
-#[tactic(auto, using(celf_surface::specs::Surface::surface_laws, crate::proofs::Reading::second_steps, crate::proofs::ObjectFaults::second_faults))]
+#[tactic(auto, using(celf_surface::specs::Surface::surface_laws, crate::proofs::Reading::second_steps))]
 fn second_at(alloc: Global, bytes: &[u8], cursor: Cursor) -> Result<(SObj, Cursor), Stop>
     requires cursor { IsCursorOf bytes.now cursor }
     requires kind { kind_next bytes.now cursor ≡ TokenKind.Proj2 }

@@ -20,7 +20,7 @@ use std::alloc::Global;
 
 /// An expression: steps, and a tuple behind them.
 #[cycle(objects)]
-#[tactic(auto, using(celf_surface::specs::Surface::surface_laws, crate::proofs::Reading::expression_steps, crate::proofs::ObjectFaults::expression_faults))]
+#[tactic(auto, using(celf_surface::specs::Surface::surface_laws, crate::proofs::Reading::expression_steps))]
 pub(crate) fn expression_at(
     alloc: Global,
     bytes: &[u8],
@@ -60,7 +60,7 @@ fn steps_at(alloc: Global, bytes: &[u8], cursor: Cursor) -> Result<(Items<SStep>
 
 /// A step: `let {pattern} = application in`.
 #[cycle(objects)]
-#[tactic(auto, using(celf_surface::specs::Surface::surface_laws, crate::proofs::Reading::step_steps, crate::proofs::ObjectFaults::step_faults))]
+#[tactic(auto, using(celf_surface::specs::Surface::surface_laws, crate::proofs::Reading::step_steps))]
 fn step_at(alloc: Global, bytes: &[u8], cursor: Cursor) -> Result<(SStep, Cursor), Stop>
     requires cursor { IsCursorOf bytes.now cursor }
     requires kind { IsTrue (is_let_kind (kind_next bytes.now cursor)) }

@@ -35,7 +35,7 @@ pub fn object_at(alloc: Global, bytes: &[u8], cursor: Cursor) -> Result<(SObj, C
 
 /// A lambda, whose part lasts to the end of the part around it.
 #[cycle(objects)]
-#[tactic(auto, using(celf_surface::specs::Surface::surface_laws, crate::proofs::Reading::lambda_steps, crate::proofs::ObjectFaults::lambda_faults))]
+#[tactic(auto, using(celf_surface::specs::Surface::surface_laws, crate::proofs::Reading::lambda_steps))]
 fn lambda_at(alloc: Global, bytes: &[u8], cursor: Cursor) -> Result<(SObj, Cursor), Stop>
     requires cursor { IsCursorOf bytes.now cursor }
     requires kind { kind_next bytes.now cursor ≡ TokenKind.Backslash }
@@ -86,7 +86,7 @@ fn applied_object_at(alloc: Global, bytes: &[u8], cursor: Cursor) -> Result<(SOb
 
 /// An application: an atom, and the arguments that follow it.
 #[cycle(objects)]
-#[tactic(auto, using(celf_surface::specs::Surface::surface_laws, crate::proofs::Reading::application_steps, crate::proofs::ObjectFaults::application_faults))]
+#[tactic(auto, using(celf_surface::specs::Surface::surface_laws, crate::proofs::Reading::application_steps))]
 pub fn application_at(alloc: Global, bytes: &[u8], cursor: Cursor) -> Result<(SObj, Cursor), Stop>
     requires cursor { IsCursorOf bytes.now cursor }
     ensures read { IfOk result (λ r. IsApplication (state_of bytes.now cursor) (object_tree r.0) (state_of bytes.now r.1)) }

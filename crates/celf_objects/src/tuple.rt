@@ -45,7 +45,7 @@ pub(crate) fn tuple_at(
 
 /// A list of tuples in brackets.
 #[cycle(objects)]
-#[tactic(auto, using(celf_surface::specs::Surface::surface_laws, crate::proofs::Reading::tuple_list_steps, crate::proofs::ObjectFaults::tuple_list_faults))]
+#[tactic(auto, using(celf_surface::specs::Surface::surface_laws, crate::proofs::Reading::tuple_list_steps))]
 fn tuple_list_at(alloc: Global, bytes: &[u8], cursor: Cursor) -> Result<(STuple, Cursor), Stop>
     requires cursor { IsCursorOf bytes.now cursor }
     requires kind { kind_next bytes.now cursor ≡ TokenKind.LeftBracket }
@@ -62,7 +62,7 @@ fn tuple_list_at(alloc: Global, bytes: &[u8], cursor: Cursor) -> Result<(STuple,
 
 /// A persistent entry.
 #[cycle(objects)]
-#[tactic(auto, using(celf_surface::specs::Surface::surface_laws, crate::proofs::Reading::persistent_steps, crate::proofs::ObjectFaults::persistent_faults))]
+#[tactic(auto, using(celf_surface::specs::Surface::surface_laws, crate::proofs::Reading::persistent_steps))]
 fn persistent_at(alloc: Global, bytes: &[u8], cursor: Cursor) -> Result<(STuple, Cursor), Stop>
     requires cursor { IsCursorOf bytes.now cursor }
     requires kind { kind_next bytes.now cursor ≡ TokenKind.Bang }
@@ -82,7 +82,7 @@ fn persistent_at(alloc: Global, bytes: &[u8], cursor: Cursor) -> Result<(STuple,
 
 /// An affine entry.
 #[cycle(objects)]
-#[tactic(auto, using(celf_surface::specs::Surface::surface_laws, crate::proofs::Reading::affine_steps, crate::proofs::ObjectFaults::affine_faults))]
+#[tactic(auto, using(celf_surface::specs::Surface::surface_laws, crate::proofs::Reading::affine_steps))]
 fn affine_at(alloc: Global, bytes: &[u8], cursor: Cursor) -> Result<(STuple, Cursor), Stop>
     requires cursor { IsCursorOf bytes.now cursor }
     requires kind { kind_next bytes.now cursor ≡ TokenKind.AtSign }
@@ -102,7 +102,7 @@ fn affine_at(alloc: Global, bytes: &[u8], cursor: Cursor) -> Result<(STuple, Cur
 
 /// An object as a tuple.
 #[cycle(objects)]
-#[tactic(auto, using(celf_surface::specs::Surface::surface_laws, crate::proofs::Reading::bare_steps, crate::proofs::ObjectFaults::bare_faults))]
+#[tactic(auto, using(celf_surface::specs::Surface::surface_laws, crate::proofs::Reading::bare_steps))]
 fn bare_at(alloc: Global, bytes: &[u8], cursor: Cursor) -> Result<(STuple, Cursor), Stop>
     requires cursor { IsCursorOf bytes.now cursor }
     requires no_one { kind_next bytes.now cursor ≢ TokenKind.Number }

@@ -1,17 +1,11 @@
-use Rattle.std.proofs.Common.{◌≡◌, refl, ap, sym, subst, Result, Ok, Err, IsErrAnd, IfErr}
+use Rattle.std.proofs.Common.{refl, ap}
 use Rattle.celf_surface.specs.Surface.{Steps, Tuple}
 use Rattle.celf_lexer.specs.declared.token.TokenKind.TheVariants as token
-use Rattle.celf_cursor.specs.declared.stop.Stop.{Stop}
 use Rattle.celf_cursor.specs.Faults.{fault_memory}
-use Rattle.celf_cursor.proofs.Faulty.{expect-missed, close-missed, taken-missed}
+use Rattle.celf_cursor.proofs.Faulty.{passed, expect-missed, close-missed, taken-missed}
 use Rattle.celf_objects.proofs.Reading.{expression-read}
 use Rattle.celf_objects.proofs.ObjectFaults.{lambda_opening-fault, lambda_mark-fault, lambda_binder-fault, lambda_stop-fault, lambda_body-fault, head-fault, called-fault, atom_opening-fault, pair_left-fault, pair_comma-fault, pair_right-fault, pair_closing-fault, braces_inside-fault, braces_closing-fault, group_inside-fault, group_closing-fault, first-fault, second-fault, result-fault, tuple_opening-fault, tuple_inside-fault, tuple_closing-fault, persistent-fault, affine-fault, bare-fault, let-fault, let_opening-fault, let_pattern-fault, let_closing-fault, let_equals-fault, let_right-fault, let_in-fault}
 use Rattle.celf_objects.proofs.+objects.Goals as goal
-
--- a fault that a ? hands on
-passed : {T : Type 0} (P : Stop → Type 0) (r : Result T Stop) {e : Stop} → IsErrAnd r (λ y. y ≡ e) → P e → IfErr r P
-passed P (Ok x) h p = absurd h
-passed P (Err y) h p = subst P (sym h) p
 
 pub expression::expression_at-returns-clause-read : goal.expression::expression_at-returns-clause-read
 expression::expression_at-returns-clause-read t c =
