@@ -1,5 +1,5 @@
 -- Faults of a part are faults of what it is part of, and what a token that is missed comes to.
-use Rattle.std.proofs.Common.{◌≡◌, inl, inr, ℕ, List, ◌∷◌, true, false, refl, sym, ap, subst, ◌∙◌, Result, Ok, Err, IsErrAnd, IfErr}
+use Rattle.std.proofs.Common.{◌≡◌, inl, inr, ℕ, List, ◌∷◌, true, false, refl, sym, ap, subst, ◌∙◌, Result, Ok, Err, IsErrAnd, IfErr, IfOk}
 use Rattle.std.proofs.lemmas.Bool.{true≢false}
 use Rattle.celf_lexer.specs.declared.token.TokenKind.{TokenKind}
 use Rattle.celf_lexer.specs.declared.token.TokenKind.TheVariants as token
@@ -67,6 +67,11 @@ fault-deep text c j e h f r = subst (IsFaultOf text j (state_of text c)) (sym f)
 pub passed : {T E : Type 0} (P : E → Type 0) (r : Result T E) {e : E} → IsErrAnd r (λ y. y ≡ e) → P e → IfErr r P
 passed P (Ok x) h p = absurd h
 passed P (Err y) h p = subst P (sym h) p
+
+-- nothing is read where a ? hands a fault on
+pub refused : {T E : Type 0} (P : T → Type 0) (Q : E → Type 0) (r : Result T E) → IsErrAnd r Q → IfOk r P
+refused P Q (Ok x) h = absurd h
+refused P Q (Err e) h = tt
 
 -- a token that is missed
 pub expect-missed : (text : List ℕ) (c : Cursor) (kind : TokenKind) (k : List Symbol) (e : Stop) → IsCursorOf text c → Misses text kind c e → IsFaultOf text (Expect kind ∷ k) (state_of text c) e

@@ -2,7 +2,7 @@ use Rattle.std.proofs.Common.{refl, ap}
 use Rattle.celf_surface.specs.Surface.{Steps, Tuple}
 use Rattle.celf_lexer.specs.declared.token.TokenKind.TheVariants as token
 use Rattle.celf_cursor.specs.Faults.{fault_memory}
-use Rattle.celf_cursor.proofs.Faulty.{passed, expect-missed, close-missed, taken-missed}
+use Rattle.celf_cursor.proofs.Faulty.{passed, refused, expect-missed, close-missed, taken-missed}
 use Rattle.celf_objects.proofs.Reading.{expression-read}
 use Rattle.celf_objects.proofs.ObjectFaults.{lambda_opening-fault, lambda_mark-fault, lambda_binder-fault, lambda_stop-fault, lambda_body-fault, head-fault, called-fault, atom_opening-fault, pair_left-fault, pair_comma-fault, pair_right-fault, pair_closing-fault, braces_inside-fault, braces_closing-fault, group_inside-fault, group_closing-fault, first-fault, second-fault, result-fault, tuple_opening-fault, tuple_inside-fault, tuple_closing-fault, persistent-fault, affine-fault, bare-fault, let-fault, let_opening-fault, let_pattern-fault, let_closing-fault, let_equals-fault, let_right-fault, let_in-fault}
 use Rattle.celf_objects.proofs.+objects.Goals as goal
@@ -200,3 +200,546 @@ tuple::affine_at-returns-in_err-obj-clause-fault t c =
 pub tuple::bare_at-returns-in_err-obj-clause-fault : goal.tuple::bare_at-returns-in_err-obj-clause-fault
 tuple::bare_at-returns-in_err-obj-clause-fault t c =
     passed _ c.from_residual.result c.from_residual.ensures.1 (λ k. bare-fault c.requires.no_one c.requires.no_list c.requires.no_persistent c.requires.no_affine c.in_err-obj.ensures.fault)
+
+pub arguments::arguments_at-returns-in_err-mode-clause-read : goal.arguments::arguments_at-returns-in_err-mode-clause-read
+arguments::arguments_at-returns-in_err-mode-clause-read t c = refused _ _ c.from_residual.result c.from_residual.ensures.1
+
+pub arguments::arguments_at-returns-in_err-mode-clause-ends : goal.arguments::arguments_at-returns-in_err-mode-clause-ends
+arguments::arguments_at-returns-in_err-mode-clause-ends t c = refused _ _ c.from_residual.result c.from_residual.ensures.1
+
+pub arguments::arguments_at-returns-in_err-mode-clause-cursor : goal.arguments::arguments_at-returns-in_err-mode-clause-cursor
+arguments::arguments_at-returns-in_err-mode-clause-cursor t c = refused _ _ c.from_residual.result c.from_residual.ensures.1
+
+pub arguments::arguments_at-returns-in_err-mode-clause-further : goal.arguments::arguments_at-returns-in_err-mode-clause-further
+arguments::arguments_at-returns-in_err-mode-clause-further t c = refused _ _ c.from_residual.result c.from_residual.ensures.1
+
+pub arguments::arguments_at-returns-in_err-obj-clause-read : goal.arguments::arguments_at-returns-in_err-obj-clause-read
+arguments::arguments_at-returns-in_err-obj-clause-read t c = refused _ _ c.from_residual-in_err-obj.result c.from_residual-in_err-obj.ensures.1
+
+pub arguments::arguments_at-returns-in_err-obj-clause-ends : goal.arguments::arguments_at-returns-in_err-obj-clause-ends
+arguments::arguments_at-returns-in_err-obj-clause-ends t c = refused _ _ c.from_residual-in_err-obj.result c.from_residual-in_err-obj.ensures.1
+
+pub arguments::arguments_at-returns-in_err-obj-clause-cursor : goal.arguments::arguments_at-returns-in_err-obj-clause-cursor
+arguments::arguments_at-returns-in_err-obj-clause-cursor t c = refused _ _ c.from_residual-in_err-obj.result c.from_residual-in_err-obj.ensures.1
+
+pub arguments::arguments_at-returns-in_err-obj-clause-further : goal.arguments::arguments_at-returns-in_err-obj-clause-further
+arguments::arguments_at-returns-in_err-obj-clause-further t c = refused _ _ c.from_residual-in_err-obj.result c.from_residual-in_err-obj.ensures.1
+
+pub arguments::arguments_at-returns-in_err-push-clause-read : goal.arguments::arguments_at-returns-in_err-push-clause-read
+arguments::arguments_at-returns-in_err-push-clause-read t c = refused _ _ c.from_residual-in_err-push.result c.from_residual-in_err-push.ensures.1
+
+pub arguments::arguments_at-returns-in_err-push-clause-ends : goal.arguments::arguments_at-returns-in_err-push-clause-ends
+arguments::arguments_at-returns-in_err-push-clause-ends t c = refused _ _ c.from_residual-in_err-push.result c.from_residual-in_err-push.ensures.1
+
+pub arguments::arguments_at-returns-in_err-push-clause-cursor : goal.arguments::arguments_at-returns-in_err-push-clause-cursor
+arguments::arguments_at-returns-in_err-push-clause-cursor t c = refused _ _ c.from_residual-in_err-push.result c.from_residual-in_err-push.ensures.1
+
+pub arguments::arguments_at-returns-in_err-push-clause-further : goal.arguments::arguments_at-returns-in_err-push-clause-further
+arguments::arguments_at-returns-in_err-push-clause-further t c = refused _ _ c.from_residual-in_err-push.result c.from_residual-in_err-push.ensures.1
+
+pub atom::braces_at-returns-in_err-opened-clause-read : goal.atom::braces_at-returns-in_err-opened-clause-read
+atom::braces_at-returns-in_err-opened-clause-read t c = refused _ _ c.from_residual.result c.from_residual.ensures.1
+
+pub atom::braces_at-returns-in_err-opened-clause-cursor : goal.atom::braces_at-returns-in_err-opened-clause-cursor
+atom::braces_at-returns-in_err-opened-clause-cursor t c = refused _ _ c.from_residual.result c.from_residual.ensures.1
+
+pub atom::braces_at-returns-in_err-opened-clause-further : goal.atom::braces_at-returns-in_err-opened-clause-further
+atom::braces_at-returns-in_err-opened-clause-further t c = refused _ _ c.from_residual.result c.from_residual.ensures.1
+
+pub atom::braces_at-returns-in_err-expr-clause-read : goal.atom::braces_at-returns-in_err-expr-clause-read
+atom::braces_at-returns-in_err-expr-clause-read t c = refused _ _ c.from_residual-in_err-expr.result c.from_residual-in_err-expr.ensures.1
+
+pub atom::braces_at-returns-in_err-expr-clause-cursor : goal.atom::braces_at-returns-in_err-expr-clause-cursor
+atom::braces_at-returns-in_err-expr-clause-cursor t c = refused _ _ c.from_residual-in_err-expr.result c.from_residual-in_err-expr.ensures.1
+
+pub atom::braces_at-returns-in_err-expr-clause-further : goal.atom::braces_at-returns-in_err-expr-clause-further
+atom::braces_at-returns-in_err-expr-clause-further t c = refused _ _ c.from_residual-in_err-expr.result c.from_residual-in_err-expr.ensures.1
+
+pub atom::braces_at-returns-in_err-inside-clause-read : goal.atom::braces_at-returns-in_err-inside-clause-read
+atom::braces_at-returns-in_err-inside-clause-read t c = refused _ _ c.from_residual-in_err-inside.result c.from_residual-in_err-inside.ensures.1
+
+pub atom::braces_at-returns-in_err-inside-clause-cursor : goal.atom::braces_at-returns-in_err-inside-clause-cursor
+atom::braces_at-returns-in_err-inside-clause-cursor t c = refused _ _ c.from_residual-in_err-inside.result c.from_residual-in_err-inside.ensures.1
+
+pub atom::braces_at-returns-in_err-inside-clause-further : goal.atom::braces_at-returns-in_err-inside-clause-further
+atom::braces_at-returns-in_err-inside-clause-further t c = refused _ _ c.from_residual-in_err-inside.result c.from_residual-in_err-inside.ensures.1
+
+pub atom::braces_at-returns-in_err-behind-clause-read : goal.atom::braces_at-returns-in_err-behind-clause-read
+atom::braces_at-returns-in_err-behind-clause-read t c = refused _ _ c.from_residual-in_err-behind.result c.from_residual-in_err-behind.ensures.1
+
+pub atom::braces_at-returns-in_err-behind-clause-cursor : goal.atom::braces_at-returns-in_err-behind-clause-cursor
+atom::braces_at-returns-in_err-behind-clause-cursor t c = refused _ _ c.from_residual-in_err-behind.result c.from_residual-in_err-behind.ensures.1
+
+pub atom::braces_at-returns-in_err-behind-clause-further : goal.atom::braces_at-returns-in_err-behind-clause-further
+atom::braces_at-returns-in_err-behind-clause-further t c = refused _ _ c.from_residual-in_err-behind.result c.from_residual-in_err-behind.ensures.1
+
+pub atom::first_at-returns-in_err-opened-clause-read : goal.atom::first_at-returns-in_err-opened-clause-read
+atom::first_at-returns-in_err-opened-clause-read t c = refused _ _ c.from_residual.result c.from_residual.ensures.1
+
+pub atom::first_at-returns-in_err-opened-clause-cursor : goal.atom::first_at-returns-in_err-opened-clause-cursor
+atom::first_at-returns-in_err-opened-clause-cursor t c = refused _ _ c.from_residual.result c.from_residual.ensures.1
+
+pub atom::first_at-returns-in_err-opened-clause-further : goal.atom::first_at-returns-in_err-opened-clause-further
+atom::first_at-returns-in_err-opened-clause-further t c = refused _ _ c.from_residual.result c.from_residual.ensures.1
+
+pub atom::first_at-returns-in_err-body-clause-read : goal.atom::first_at-returns-in_err-body-clause-read
+atom::first_at-returns-in_err-body-clause-read t c = refused _ _ c.from_residual-in_err-body.result c.from_residual-in_err-body.ensures.1
+
+pub atom::first_at-returns-in_err-body-clause-cursor : goal.atom::first_at-returns-in_err-body-clause-cursor
+atom::first_at-returns-in_err-body-clause-cursor t c = refused _ _ c.from_residual-in_err-body.result c.from_residual-in_err-body.ensures.1
+
+pub atom::first_at-returns-in_err-body-clause-further : goal.atom::first_at-returns-in_err-body-clause-further
+atom::first_at-returns-in_err-body-clause-further t c = refused _ _ c.from_residual-in_err-body.result c.from_residual-in_err-body.ensures.1
+
+pub atom::first_at-returns-in_err-first-clause-read : goal.atom::first_at-returns-in_err-first-clause-read
+atom::first_at-returns-in_err-first-clause-read t c = refused _ _ c.from_residual-in_err-first.result c.from_residual-in_err-first.ensures.1
+
+pub atom::first_at-returns-in_err-first-clause-cursor : goal.atom::first_at-returns-in_err-first-clause-cursor
+atom::first_at-returns-in_err-first-clause-cursor t c = refused _ _ c.from_residual-in_err-first.result c.from_residual-in_err-first.ensures.1
+
+pub atom::first_at-returns-in_err-first-clause-further : goal.atom::first_at-returns-in_err-first-clause-further
+atom::first_at-returns-in_err-first-clause-further t c = refused _ _ c.from_residual-in_err-first.result c.from_residual-in_err-first.ensures.1
+
+pub atom::group_at-returns-in_err-opened-clause-read : goal.atom::group_at-returns-in_err-opened-clause-read
+atom::group_at-returns-in_err-opened-clause-read t c = refused _ _ c.from_residual.result c.from_residual.ensures.1
+
+pub atom::group_at-returns-in_err-opened-clause-cursor : goal.atom::group_at-returns-in_err-opened-clause-cursor
+atom::group_at-returns-in_err-opened-clause-cursor t c = refused _ _ c.from_residual.result c.from_residual.ensures.1
+
+pub atom::group_at-returns-in_err-opened-clause-further : goal.atom::group_at-returns-in_err-opened-clause-further
+atom::group_at-returns-in_err-opened-clause-further t c = refused _ _ c.from_residual.result c.from_residual.ensures.1
+
+pub atom::group_at-returns-in_err-inside-clause-read : goal.atom::group_at-returns-in_err-inside-clause-read
+atom::group_at-returns-in_err-inside-clause-read t c = refused _ _ c.from_residual-in_err-inside.result c.from_residual-in_err-inside.ensures.1
+
+pub atom::group_at-returns-in_err-inside-clause-cursor : goal.atom::group_at-returns-in_err-inside-clause-cursor
+atom::group_at-returns-in_err-inside-clause-cursor t c = refused _ _ c.from_residual-in_err-inside.result c.from_residual-in_err-inside.ensures.1
+
+pub atom::group_at-returns-in_err-inside-clause-further : goal.atom::group_at-returns-in_err-inside-clause-further
+atom::group_at-returns-in_err-inside-clause-further t c = refused _ _ c.from_residual-in_err-inside.result c.from_residual-in_err-inside.ensures.1
+
+pub atom::group_at-returns-in_err-behind-clause-read : goal.atom::group_at-returns-in_err-behind-clause-read
+atom::group_at-returns-in_err-behind-clause-read t c = refused _ _ c.from_residual-in_err-behind.result c.from_residual-in_err-behind.ensures.1
+
+pub atom::group_at-returns-in_err-behind-clause-cursor : goal.atom::group_at-returns-in_err-behind-clause-cursor
+atom::group_at-returns-in_err-behind-clause-cursor t c = refused _ _ c.from_residual-in_err-behind.result c.from_residual-in_err-behind.ensures.1
+
+pub atom::group_at-returns-in_err-behind-clause-further : goal.atom::group_at-returns-in_err-behind-clause-further
+atom::group_at-returns-in_err-behind-clause-further t c = refused _ _ c.from_residual-in_err-behind.result c.from_residual-in_err-behind.ensures.1
+
+pub atom::pair_at-returns-in_err-opened-clause-read : goal.atom::pair_at-returns-in_err-opened-clause-read
+atom::pair_at-returns-in_err-opened-clause-read t c = refused _ _ c.from_residual.result c.from_residual.ensures.1
+
+pub atom::pair_at-returns-in_err-opened-clause-cursor : goal.atom::pair_at-returns-in_err-opened-clause-cursor
+atom::pair_at-returns-in_err-opened-clause-cursor t c = refused _ _ c.from_residual.result c.from_residual.ensures.1
+
+pub atom::pair_at-returns-in_err-opened-clause-further : goal.atom::pair_at-returns-in_err-opened-clause-further
+atom::pair_at-returns-in_err-opened-clause-further t c = refused _ _ c.from_residual.result c.from_residual.ensures.1
+
+pub atom::pair_at-returns-in_err-left-clause-read : goal.atom::pair_at-returns-in_err-left-clause-read
+atom::pair_at-returns-in_err-left-clause-read t c = refused _ _ c.from_residual-in_err-left.result c.from_residual-in_err-left.ensures.1
+
+pub atom::pair_at-returns-in_err-left-clause-cursor : goal.atom::pair_at-returns-in_err-left-clause-cursor
+atom::pair_at-returns-in_err-left-clause-cursor t c = refused _ _ c.from_residual-in_err-left.result c.from_residual-in_err-left.ensures.1
+
+pub atom::pair_at-returns-in_err-left-clause-further : goal.atom::pair_at-returns-in_err-left-clause-further
+atom::pair_at-returns-in_err-left-clause-further t c = refused _ _ c.from_residual-in_err-left.result c.from_residual-in_err-left.ensures.1
+
+pub atom::pair_at-returns-in_err-left_half-clause-read : goal.atom::pair_at-returns-in_err-left_half-clause-read
+atom::pair_at-returns-in_err-left_half-clause-read t c = refused _ _ c.from_residual-in_err-left_half.result c.from_residual-in_err-left_half.ensures.1
+
+pub atom::pair_at-returns-in_err-left_half-clause-cursor : goal.atom::pair_at-returns-in_err-left_half-clause-cursor
+atom::pair_at-returns-in_err-left_half-clause-cursor t c = refused _ _ c.from_residual-in_err-left_half.result c.from_residual-in_err-left_half.ensures.1
+
+pub atom::pair_at-returns-in_err-left_half-clause-further : goal.atom::pair_at-returns-in_err-left_half-clause-further
+atom::pair_at-returns-in_err-left_half-clause-further t c = refused _ _ c.from_residual-in_err-left_half.result c.from_residual-in_err-left_half.ensures.1
+
+pub atom::pair_at-returns-in_err-next-clause-read : goal.atom::pair_at-returns-in_err-next-clause-read
+atom::pair_at-returns-in_err-next-clause-read t c = refused _ _ c.from_residual-in_err-next.result c.from_residual-in_err-next.ensures.1
+
+pub atom::pair_at-returns-in_err-next-clause-cursor : goal.atom::pair_at-returns-in_err-next-clause-cursor
+atom::pair_at-returns-in_err-next-clause-cursor t c = refused _ _ c.from_residual-in_err-next.result c.from_residual-in_err-next.ensures.1
+
+pub atom::pair_at-returns-in_err-next-clause-further : goal.atom::pair_at-returns-in_err-next-clause-further
+atom::pair_at-returns-in_err-next-clause-further t c = refused _ _ c.from_residual-in_err-next.result c.from_residual-in_err-next.ensures.1
+
+pub atom::pair_at-returns-in_err-right-clause-read : goal.atom::pair_at-returns-in_err-right-clause-read
+atom::pair_at-returns-in_err-right-clause-read t c = refused _ _ c.from_residual-in_err-right.result c.from_residual-in_err-right.ensures.1
+
+pub atom::pair_at-returns-in_err-right-clause-cursor : goal.atom::pair_at-returns-in_err-right-clause-cursor
+atom::pair_at-returns-in_err-right-clause-cursor t c = refused _ _ c.from_residual-in_err-right.result c.from_residual-in_err-right.ensures.1
+
+pub atom::pair_at-returns-in_err-right-clause-further : goal.atom::pair_at-returns-in_err-right-clause-further
+atom::pair_at-returns-in_err-right-clause-further t c = refused _ _ c.from_residual-in_err-right.result c.from_residual-in_err-right.ensures.1
+
+pub atom::pair_at-returns-in_err-right_half-clause-read : goal.atom::pair_at-returns-in_err-right_half-clause-read
+atom::pair_at-returns-in_err-right_half-clause-read t c = refused _ _ c.from_residual-in_err-right_half.result c.from_residual-in_err-right_half.ensures.1
+
+pub atom::pair_at-returns-in_err-right_half-clause-cursor : goal.atom::pair_at-returns-in_err-right_half-clause-cursor
+atom::pair_at-returns-in_err-right_half-clause-cursor t c = refused _ _ c.from_residual-in_err-right_half.result c.from_residual-in_err-right_half.ensures.1
+
+pub atom::pair_at-returns-in_err-right_half-clause-further : goal.atom::pair_at-returns-in_err-right_half-clause-further
+atom::pair_at-returns-in_err-right_half-clause-further t c = refused _ _ c.from_residual-in_err-right_half.result c.from_residual-in_err-right_half.ensures.1
+
+pub atom::pair_at-returns-in_err-behind-clause-read : goal.atom::pair_at-returns-in_err-behind-clause-read
+atom::pair_at-returns-in_err-behind-clause-read t c = refused _ _ c.from_residual-in_err-behind.result c.from_residual-in_err-behind.ensures.1
+
+pub atom::pair_at-returns-in_err-behind-clause-cursor : goal.atom::pair_at-returns-in_err-behind-clause-cursor
+atom::pair_at-returns-in_err-behind-clause-cursor t c = refused _ _ c.from_residual-in_err-behind.result c.from_residual-in_err-behind.ensures.1
+
+pub atom::pair_at-returns-in_err-behind-clause-further : goal.atom::pair_at-returns-in_err-behind-clause-further
+atom::pair_at-returns-in_err-behind-clause-further t c = refused _ _ c.from_residual-in_err-behind.result c.from_residual-in_err-behind.ensures.1
+
+pub atom::second_at-returns-in_err-opened-clause-read : goal.atom::second_at-returns-in_err-opened-clause-read
+atom::second_at-returns-in_err-opened-clause-read t c = refused _ _ c.from_residual.result c.from_residual.ensures.1
+
+pub atom::second_at-returns-in_err-opened-clause-cursor : goal.atom::second_at-returns-in_err-opened-clause-cursor
+atom::second_at-returns-in_err-opened-clause-cursor t c = refused _ _ c.from_residual.result c.from_residual.ensures.1
+
+pub atom::second_at-returns-in_err-opened-clause-further : goal.atom::second_at-returns-in_err-opened-clause-further
+atom::second_at-returns-in_err-opened-clause-further t c = refused _ _ c.from_residual.result c.from_residual.ensures.1
+
+pub atom::second_at-returns-in_err-body-clause-read : goal.atom::second_at-returns-in_err-body-clause-read
+atom::second_at-returns-in_err-body-clause-read t c = refused _ _ c.from_residual-in_err-body.result c.from_residual-in_err-body.ensures.1
+
+pub atom::second_at-returns-in_err-body-clause-cursor : goal.atom::second_at-returns-in_err-body-clause-cursor
+atom::second_at-returns-in_err-body-clause-cursor t c = refused _ _ c.from_residual-in_err-body.result c.from_residual-in_err-body.ensures.1
+
+pub atom::second_at-returns-in_err-body-clause-further : goal.atom::second_at-returns-in_err-body-clause-further
+atom::second_at-returns-in_err-body-clause-further t c = refused _ _ c.from_residual-in_err-body.result c.from_residual-in_err-body.ensures.1
+
+pub atom::second_at-returns-in_err-second-clause-read : goal.atom::second_at-returns-in_err-second-clause-read
+atom::second_at-returns-in_err-second-clause-read t c = refused _ _ c.from_residual-in_err-second.result c.from_residual-in_err-second.ensures.1
+
+pub atom::second_at-returns-in_err-second-clause-cursor : goal.atom::second_at-returns-in_err-second-clause-cursor
+atom::second_at-returns-in_err-second-clause-cursor t c = refused _ _ c.from_residual-in_err-second.result c.from_residual-in_err-second.ensures.1
+
+pub atom::second_at-returns-in_err-second-clause-further : goal.atom::second_at-returns-in_err-second-clause-further
+atom::second_at-returns-in_err-second-clause-further t c = refused _ _ c.from_residual-in_err-second.result c.from_residual-in_err-second.ensures.1
+
+pub expression::expression_at-returns-in_err-steps-clause-read : goal.expression::expression_at-returns-in_err-steps-clause-read
+expression::expression_at-returns-in_err-steps-clause-read t c = refused _ _ c.from_residual.result c.from_residual.ensures.1
+
+pub expression::expression_at-returns-in_err-steps-clause-cursor : goal.expression::expression_at-returns-in_err-steps-clause-cursor
+expression::expression_at-returns-in_err-steps-clause-cursor t c = refused _ _ c.from_residual.result c.from_residual.ensures.1
+
+pub expression::expression_at-returns-in_err-steps-clause-further : goal.expression::expression_at-returns-in_err-steps-clause-further
+expression::expression_at-returns-in_err-steps-clause-further t c = refused _ _ c.from_residual.result c.from_residual.ensures.1
+
+pub expression::expression_at-returns-in_err-tuple-clause-read : goal.expression::expression_at-returns-in_err-tuple-clause-read
+expression::expression_at-returns-in_err-tuple-clause-read t c = refused _ _ c.from_residual-in_err-tuple.result c.from_residual-in_err-tuple.ensures.1
+
+pub expression::expression_at-returns-in_err-tuple-clause-cursor : goal.expression::expression_at-returns-in_err-tuple-clause-cursor
+expression::expression_at-returns-in_err-tuple-clause-cursor t c = refused _ _ c.from_residual-in_err-tuple.result c.from_residual-in_err-tuple.ensures.1
+
+pub expression::expression_at-returns-in_err-tuple-clause-further : goal.expression::expression_at-returns-in_err-tuple-clause-further
+expression::expression_at-returns-in_err-tuple-clause-further t c = refused _ _ c.from_residual-in_err-tuple.result c.from_residual-in_err-tuple.ensures.1
+
+pub expression::step_at-returns-in_err-begun-clause-read : goal.expression::step_at-returns-in_err-begun-clause-read
+expression::step_at-returns-in_err-begun-clause-read t c = refused _ _ c.from_residual.result c.from_residual.ensures.1
+
+pub expression::step_at-returns-in_err-begun-clause-cursor : goal.expression::step_at-returns-in_err-begun-clause-cursor
+expression::step_at-returns-in_err-begun-clause-cursor t c = refused _ _ c.from_residual.result c.from_residual.ensures.1
+
+pub expression::step_at-returns-in_err-begun-clause-further : goal.expression::step_at-returns-in_err-begun-clause-further
+expression::step_at-returns-in_err-begun-clause-further t c = refused _ _ c.from_residual.result c.from_residual.ensures.1
+
+pub expression::step_at-returns-in_err-opened-clause-read : goal.expression::step_at-returns-in_err-opened-clause-read
+expression::step_at-returns-in_err-opened-clause-read t c = refused _ _ c.from_residual-in_err-opened.result c.from_residual-in_err-opened.ensures.1
+
+pub expression::step_at-returns-in_err-opened-clause-cursor : goal.expression::step_at-returns-in_err-opened-clause-cursor
+expression::step_at-returns-in_err-opened-clause-cursor t c = refused _ _ c.from_residual-in_err-opened.result c.from_residual-in_err-opened.ensures.1
+
+pub expression::step_at-returns-in_err-opened-clause-further : goal.expression::step_at-returns-in_err-opened-clause-further
+expression::step_at-returns-in_err-opened-clause-further t c = refused _ _ c.from_residual-in_err-opened.result c.from_residual-in_err-opened.ensures.1
+
+pub expression::step_at-returns-in_err-pattern-clause-read : goal.expression::step_at-returns-in_err-pattern-clause-read
+expression::step_at-returns-in_err-pattern-clause-read t c = refused _ _ c.from_residual-in_err-pattern.result c.from_residual-in_err-pattern.ensures.1
+
+pub expression::step_at-returns-in_err-pattern-clause-cursor : goal.expression::step_at-returns-in_err-pattern-clause-cursor
+expression::step_at-returns-in_err-pattern-clause-cursor t c = refused _ _ c.from_residual-in_err-pattern.result c.from_residual-in_err-pattern.ensures.1
+
+pub expression::step_at-returns-in_err-pattern-clause-further : goal.expression::step_at-returns-in_err-pattern-clause-further
+expression::step_at-returns-in_err-pattern-clause-further t c = refused _ _ c.from_residual-in_err-pattern.result c.from_residual-in_err-pattern.ensures.1
+
+pub expression::step_at-returns-in_err-closed-clause-read : goal.expression::step_at-returns-in_err-closed-clause-read
+expression::step_at-returns-in_err-closed-clause-read t c = refused _ _ c.from_residual-in_err-closed.result c.from_residual-in_err-closed.ensures.1
+
+pub expression::step_at-returns-in_err-closed-clause-cursor : goal.expression::step_at-returns-in_err-closed-clause-cursor
+expression::step_at-returns-in_err-closed-clause-cursor t c = refused _ _ c.from_residual-in_err-closed.result c.from_residual-in_err-closed.ensures.1
+
+pub expression::step_at-returns-in_err-closed-clause-further : goal.expression::step_at-returns-in_err-closed-clause-further
+expression::step_at-returns-in_err-closed-clause-further t c = refused _ _ c.from_residual-in_err-closed.result c.from_residual-in_err-closed.ensures.1
+
+pub expression::step_at-returns-in_err-bound-clause-read : goal.expression::step_at-returns-in_err-bound-clause-read
+expression::step_at-returns-in_err-bound-clause-read t c = refused _ _ c.from_residual-in_err-bound.result c.from_residual-in_err-bound.ensures.1
+
+pub expression::step_at-returns-in_err-bound-clause-cursor : goal.expression::step_at-returns-in_err-bound-clause-cursor
+expression::step_at-returns-in_err-bound-clause-cursor t c = refused _ _ c.from_residual-in_err-bound.result c.from_residual-in_err-bound.ensures.1
+
+pub expression::step_at-returns-in_err-bound-clause-further : goal.expression::step_at-returns-in_err-bound-clause-further
+expression::step_at-returns-in_err-bound-clause-further t c = refused _ _ c.from_residual-in_err-bound.result c.from_residual-in_err-bound.ensures.1
+
+pub expression::step_at-returns-in_err-rhs-clause-read : goal.expression::step_at-returns-in_err-rhs-clause-read
+expression::step_at-returns-in_err-rhs-clause-read t c = refused _ _ c.from_residual-in_err-rhs.result c.from_residual-in_err-rhs.ensures.1
+
+pub expression::step_at-returns-in_err-rhs-clause-cursor : goal.expression::step_at-returns-in_err-rhs-clause-cursor
+expression::step_at-returns-in_err-rhs-clause-cursor t c = refused _ _ c.from_residual-in_err-rhs.result c.from_residual-in_err-rhs.ensures.1
+
+pub expression::step_at-returns-in_err-rhs-clause-further : goal.expression::step_at-returns-in_err-rhs-clause-further
+expression::step_at-returns-in_err-rhs-clause-further t c = refused _ _ c.from_residual-in_err-rhs.result c.from_residual-in_err-rhs.ensures.1
+
+pub expression::step_at-returns-in_err-behind-clause-read : goal.expression::step_at-returns-in_err-behind-clause-read
+expression::step_at-returns-in_err-behind-clause-read t c = refused _ _ c.from_residual-in_err-behind.result c.from_residual-in_err-behind.ensures.1
+
+pub expression::step_at-returns-in_err-behind-clause-cursor : goal.expression::step_at-returns-in_err-behind-clause-cursor
+expression::step_at-returns-in_err-behind-clause-cursor t c = refused _ _ c.from_residual-in_err-behind.result c.from_residual-in_err-behind.ensures.1
+
+pub expression::step_at-returns-in_err-behind-clause-further : goal.expression::step_at-returns-in_err-behind-clause-further
+expression::step_at-returns-in_err-behind-clause-further t c = refused _ _ c.from_residual-in_err-behind.result c.from_residual-in_err-behind.ensures.1
+
+pub expression::steps_at-returns-in_err-step-clause-read : goal.expression::steps_at-returns-in_err-step-clause-read
+expression::steps_at-returns-in_err-step-clause-read t c = refused _ _ c.from_residual.result c.from_residual.ensures.1
+
+pub expression::steps_at-returns-in_err-step-clause-ends : goal.expression::steps_at-returns-in_err-step-clause-ends
+expression::steps_at-returns-in_err-step-clause-ends t c = refused _ _ c.from_residual.result c.from_residual.ensures.1
+
+pub expression::steps_at-returns-in_err-step-clause-cursor : goal.expression::steps_at-returns-in_err-step-clause-cursor
+expression::steps_at-returns-in_err-step-clause-cursor t c = refused _ _ c.from_residual.result c.from_residual.ensures.1
+
+pub expression::steps_at-returns-in_err-step-clause-further : goal.expression::steps_at-returns-in_err-step-clause-further
+expression::steps_at-returns-in_err-step-clause-further t c = refused _ _ c.from_residual.result c.from_residual.ensures.1
+
+pub expression::steps_at-returns-in_err-push-clause-read : goal.expression::steps_at-returns-in_err-push-clause-read
+expression::steps_at-returns-in_err-push-clause-read t c = refused _ _ c.from_residual-in_err-push.result c.from_residual-in_err-push.ensures.1
+
+pub expression::steps_at-returns-in_err-push-clause-ends : goal.expression::steps_at-returns-in_err-push-clause-ends
+expression::steps_at-returns-in_err-push-clause-ends t c = refused _ _ c.from_residual-in_err-push.result c.from_residual-in_err-push.ensures.1
+
+pub expression::steps_at-returns-in_err-push-clause-cursor : goal.expression::steps_at-returns-in_err-push-clause-cursor
+expression::steps_at-returns-in_err-push-clause-cursor t c = refused _ _ c.from_residual-in_err-push.result c.from_residual-in_err-push.ensures.1
+
+pub expression::steps_at-returns-in_err-push-clause-further : goal.expression::steps_at-returns-in_err-push-clause-further
+expression::steps_at-returns-in_err-push-clause-further t c = refused _ _ c.from_residual-in_err-push.result c.from_residual-in_err-push.ensures.1
+
+pub object::application_at-returns-in_err-head-clause-read : goal.object::application_at-returns-in_err-head-clause-read
+object::application_at-returns-in_err-head-clause-read t c = refused _ _ c.from_residual.result c.from_residual.ensures.1
+
+pub object::application_at-returns-in_err-head-clause-cursor : goal.object::application_at-returns-in_err-head-clause-cursor
+object::application_at-returns-in_err-head-clause-cursor t c = refused _ _ c.from_residual.result c.from_residual.ensures.1
+
+pub object::application_at-returns-in_err-head-clause-further : goal.object::application_at-returns-in_err-head-clause-further
+object::application_at-returns-in_err-head-clause-further t c = refused _ _ c.from_residual.result c.from_residual.ensures.1
+
+pub object::application_at-returns-in_err-args-clause-read : goal.object::application_at-returns-in_err-args-clause-read
+object::application_at-returns-in_err-args-clause-read t c = refused _ _ c.from_residual-in_err-args.result c.from_residual-in_err-args.ensures.1
+
+pub object::application_at-returns-in_err-args-clause-cursor : goal.object::application_at-returns-in_err-args-clause-cursor
+object::application_at-returns-in_err-args-clause-cursor t c = refused _ _ c.from_residual-in_err-args.result c.from_residual-in_err-args.ensures.1
+
+pub object::application_at-returns-in_err-args-clause-further : goal.object::application_at-returns-in_err-args-clause-further
+object::application_at-returns-in_err-args-clause-further t c = refused _ _ c.from_residual-in_err-args.result c.from_residual-in_err-args.ensures.1
+
+pub object::application_at-returns-in_err-applied-clause-read : goal.object::application_at-returns-in_err-applied-clause-read
+object::application_at-returns-in_err-applied-clause-read t c = refused _ _ c.from_residual-in_err-applied.result c.from_residual-in_err-applied.ensures.1
+
+pub object::application_at-returns-in_err-applied-clause-cursor : goal.object::application_at-returns-in_err-applied-clause-cursor
+object::application_at-returns-in_err-applied-clause-cursor t c = refused _ _ c.from_residual-in_err-applied.result c.from_residual-in_err-applied.ensures.1
+
+pub object::application_at-returns-in_err-applied-clause-further : goal.object::application_at-returns-in_err-applied-clause-further
+object::application_at-returns-in_err-applied-clause-further t c = refused _ _ c.from_residual-in_err-applied.result c.from_residual-in_err-applied.ensures.1
+
+pub object::lambda_at-returns-in_err-opened-clause-read : goal.object::lambda_at-returns-in_err-opened-clause-read
+object::lambda_at-returns-in_err-opened-clause-read t c = refused _ _ c.from_residual.result c.from_residual.ensures.1
+
+pub object::lambda_at-returns-in_err-opened-clause-cursor : goal.object::lambda_at-returns-in_err-opened-clause-cursor
+object::lambda_at-returns-in_err-opened-clause-cursor t c = refused _ _ c.from_residual.result c.from_residual.ensures.1
+
+pub object::lambda_at-returns-in_err-opened-clause-further : goal.object::lambda_at-returns-in_err-opened-clause-further
+object::lambda_at-returns-in_err-opened-clause-further t c = refused _ _ c.from_residual.result c.from_residual.ensures.1
+
+pub object::lambda_at-returns-in_err-mode-clause-read : goal.object::lambda_at-returns-in_err-mode-clause-read
+object::lambda_at-returns-in_err-mode-clause-read t c = refused _ _ c.from_residual-in_err-mode.result c.from_residual-in_err-mode.ensures.1
+
+pub object::lambda_at-returns-in_err-mode-clause-cursor : goal.object::lambda_at-returns-in_err-mode-clause-cursor
+object::lambda_at-returns-in_err-mode-clause-cursor t c = refused _ _ c.from_residual-in_err-mode.result c.from_residual-in_err-mode.ensures.1
+
+pub object::lambda_at-returns-in_err-mode-clause-further : goal.object::lambda_at-returns-in_err-mode-clause-further
+object::lambda_at-returns-in_err-mode-clause-further t c = refused _ _ c.from_residual-in_err-mode.result c.from_residual-in_err-mode.ensures.1
+
+pub object::lambda_at-returns-in_err-name-clause-read : goal.object::lambda_at-returns-in_err-name-clause-read
+object::lambda_at-returns-in_err-name-clause-read t c = refused _ _ c.from_residual-in_err-name.result c.from_residual-in_err-name.ensures.1
+
+pub object::lambda_at-returns-in_err-name-clause-cursor : goal.object::lambda_at-returns-in_err-name-clause-cursor
+object::lambda_at-returns-in_err-name-clause-cursor t c = refused _ _ c.from_residual-in_err-name.result c.from_residual-in_err-name.ensures.1
+
+pub object::lambda_at-returns-in_err-name-clause-further : goal.object::lambda_at-returns-in_err-name-clause-further
+object::lambda_at-returns-in_err-name-clause-further t c = refused _ _ c.from_residual-in_err-name.result c.from_residual-in_err-name.ensures.1
+
+pub object::lambda_at-returns-in_err-dotted-clause-read : goal.object::lambda_at-returns-in_err-dotted-clause-read
+object::lambda_at-returns-in_err-dotted-clause-read t c = refused _ _ c.from_residual-in_err-dotted.result c.from_residual-in_err-dotted.ensures.1
+
+pub object::lambda_at-returns-in_err-dotted-clause-cursor : goal.object::lambda_at-returns-in_err-dotted-clause-cursor
+object::lambda_at-returns-in_err-dotted-clause-cursor t c = refused _ _ c.from_residual-in_err-dotted.result c.from_residual-in_err-dotted.ensures.1
+
+pub object::lambda_at-returns-in_err-dotted-clause-further : goal.object::lambda_at-returns-in_err-dotted-clause-further
+object::lambda_at-returns-in_err-dotted-clause-further t c = refused _ _ c.from_residual-in_err-dotted.result c.from_residual-in_err-dotted.ensures.1
+
+pub object::lambda_at-returns-in_err-body-clause-read : goal.object::lambda_at-returns-in_err-body-clause-read
+object::lambda_at-returns-in_err-body-clause-read t c = refused _ _ c.from_residual-in_err-body.result c.from_residual-in_err-body.ensures.1
+
+pub object::lambda_at-returns-in_err-body-clause-cursor : goal.object::lambda_at-returns-in_err-body-clause-cursor
+object::lambda_at-returns-in_err-body-clause-cursor t c = refused _ _ c.from_residual-in_err-body.result c.from_residual-in_err-body.ensures.1
+
+pub object::lambda_at-returns-in_err-body-clause-further : goal.object::lambda_at-returns-in_err-body-clause-further
+object::lambda_at-returns-in_err-body-clause-further t c = refused _ _ c.from_residual-in_err-body.result c.from_residual-in_err-body.ensures.1
+
+pub object::lambda_at-returns-in_err-lambda_from-clause-read : goal.object::lambda_at-returns-in_err-lambda_from-clause-read
+object::lambda_at-returns-in_err-lambda_from-clause-read t c = refused _ _ c.from_residual-in_err-lambda_from.result c.from_residual-in_err-lambda_from.ensures.1
+
+pub object::lambda_at-returns-in_err-lambda_from-clause-cursor : goal.object::lambda_at-returns-in_err-lambda_from-clause-cursor
+object::lambda_at-returns-in_err-lambda_from-clause-cursor t c = refused _ _ c.from_residual-in_err-lambda_from.result c.from_residual-in_err-lambda_from.ensures.1
+
+pub object::lambda_at-returns-in_err-lambda_from-clause-further : goal.object::lambda_at-returns-in_err-lambda_from-clause-further
+object::lambda_at-returns-in_err-lambda_from-clause-further t c = refused _ _ c.from_residual-in_err-lambda_from.result c.from_residual-in_err-lambda_from.ensures.1
+
+pub tuple::affine_at-returns-in_err-marked-clause-read : goal.tuple::affine_at-returns-in_err-marked-clause-read
+tuple::affine_at-returns-in_err-marked-clause-read t c = refused _ _ c.from_residual.result c.from_residual.ensures.1
+
+pub tuple::affine_at-returns-in_err-marked-clause-cursor : goal.tuple::affine_at-returns-in_err-marked-clause-cursor
+tuple::affine_at-returns-in_err-marked-clause-cursor t c = refused _ _ c.from_residual.result c.from_residual.ensures.1
+
+pub tuple::affine_at-returns-in_err-marked-clause-further : goal.tuple::affine_at-returns-in_err-marked-clause-further
+tuple::affine_at-returns-in_err-marked-clause-further t c = refused _ _ c.from_residual.result c.from_residual.ensures.1
+
+pub tuple::affine_at-returns-in_err-obj-clause-read : goal.tuple::affine_at-returns-in_err-obj-clause-read
+tuple::affine_at-returns-in_err-obj-clause-read t c = refused _ _ c.from_residual-in_err-obj.result c.from_residual-in_err-obj.ensures.1
+
+pub tuple::affine_at-returns-in_err-obj-clause-cursor : goal.tuple::affine_at-returns-in_err-obj-clause-cursor
+tuple::affine_at-returns-in_err-obj-clause-cursor t c = refused _ _ c.from_residual-in_err-obj.result c.from_residual-in_err-obj.ensures.1
+
+pub tuple::affine_at-returns-in_err-obj-clause-further : goal.tuple::affine_at-returns-in_err-obj-clause-further
+tuple::affine_at-returns-in_err-obj-clause-further t c = refused _ _ c.from_residual-in_err-obj.result c.from_residual-in_err-obj.ensures.1
+
+pub tuple::bare_at-returns-in_err-obj-clause-read : goal.tuple::bare_at-returns-in_err-obj-clause-read
+tuple::bare_at-returns-in_err-obj-clause-read t c = refused _ _ c.from_residual.result c.from_residual.ensures.1
+
+pub tuple::bare_at-returns-in_err-obj-clause-cursor : goal.tuple::bare_at-returns-in_err-obj-clause-cursor
+tuple::bare_at-returns-in_err-obj-clause-cursor t c = refused _ _ c.from_residual.result c.from_residual.ensures.1
+
+pub tuple::bare_at-returns-in_err-obj-clause-further : goal.tuple::bare_at-returns-in_err-obj-clause-further
+tuple::bare_at-returns-in_err-obj-clause-further t c = refused _ _ c.from_residual.result c.from_residual.ensures.1
+
+pub tuple::persistent_at-returns-in_err-marked-clause-read : goal.tuple::persistent_at-returns-in_err-marked-clause-read
+tuple::persistent_at-returns-in_err-marked-clause-read t c = refused _ _ c.from_residual.result c.from_residual.ensures.1
+
+pub tuple::persistent_at-returns-in_err-marked-clause-cursor : goal.tuple::persistent_at-returns-in_err-marked-clause-cursor
+tuple::persistent_at-returns-in_err-marked-clause-cursor t c = refused _ _ c.from_residual.result c.from_residual.ensures.1
+
+pub tuple::persistent_at-returns-in_err-marked-clause-further : goal.tuple::persistent_at-returns-in_err-marked-clause-further
+tuple::persistent_at-returns-in_err-marked-clause-further t c = refused _ _ c.from_residual.result c.from_residual.ensures.1
+
+pub tuple::persistent_at-returns-in_err-obj-clause-read : goal.tuple::persistent_at-returns-in_err-obj-clause-read
+tuple::persistent_at-returns-in_err-obj-clause-read t c = refused _ _ c.from_residual-in_err-obj.result c.from_residual-in_err-obj.ensures.1
+
+pub tuple::persistent_at-returns-in_err-obj-clause-cursor : goal.tuple::persistent_at-returns-in_err-obj-clause-cursor
+tuple::persistent_at-returns-in_err-obj-clause-cursor t c = refused _ _ c.from_residual-in_err-obj.result c.from_residual-in_err-obj.ensures.1
+
+pub tuple::persistent_at-returns-in_err-obj-clause-further : goal.tuple::persistent_at-returns-in_err-obj-clause-further
+tuple::persistent_at-returns-in_err-obj-clause-further t c = refused _ _ c.from_residual-in_err-obj.result c.from_residual-in_err-obj.ensures.1
+
+pub tuple::tuple_at-returns-in_err-behind-in-Number-clause-read : goal.tuple::tuple_at-returns-in_err-behind-in-Number-clause-read
+tuple::tuple_at-returns-in_err-behind-in-Number-clause-read t c = refused _ _ c.from_residual.result c.from_residual.ensures.1
+
+pub tuple::tuple_at-returns-in_err-behind-in-Number-clause-cursor : goal.tuple::tuple_at-returns-in_err-behind-in-Number-clause-cursor
+tuple::tuple_at-returns-in_err-behind-in-Number-clause-cursor t c = refused _ _ c.from_residual.result c.from_residual.ensures.1
+
+pub tuple::tuple_at-returns-in_err-behind-in-Number-clause-further : goal.tuple::tuple_at-returns-in_err-behind-in-Number-clause-further
+tuple::tuple_at-returns-in_err-behind-in-Number-clause-further t c = refused _ _ c.from_residual.result c.from_residual.ensures.1
+
+pub tuple::tuple_list_at-returns-in_err-opened-clause-read : goal.tuple::tuple_list_at-returns-in_err-opened-clause-read
+tuple::tuple_list_at-returns-in_err-opened-clause-read t c = refused _ _ c.from_residual.result c.from_residual.ensures.1
+
+pub tuple::tuple_list_at-returns-in_err-opened-clause-cursor : goal.tuple::tuple_list_at-returns-in_err-opened-clause-cursor
+tuple::tuple_list_at-returns-in_err-opened-clause-cursor t c = refused _ _ c.from_residual.result c.from_residual.ensures.1
+
+pub tuple::tuple_list_at-returns-in_err-opened-clause-further : goal.tuple::tuple_list_at-returns-in_err-opened-clause-further
+tuple::tuple_list_at-returns-in_err-opened-clause-further t c = refused _ _ c.from_residual.result c.from_residual.ensures.1
+
+pub tuple::tuple_list_at-returns-in_err-tuples-clause-read : goal.tuple::tuple_list_at-returns-in_err-tuples-clause-read
+tuple::tuple_list_at-returns-in_err-tuples-clause-read t c = refused _ _ c.from_residual-in_err-tuples.result c.from_residual-in_err-tuples.ensures.1
+
+pub tuple::tuple_list_at-returns-in_err-tuples-clause-cursor : goal.tuple::tuple_list_at-returns-in_err-tuples-clause-cursor
+tuple::tuple_list_at-returns-in_err-tuples-clause-cursor t c = refused _ _ c.from_residual-in_err-tuples.result c.from_residual-in_err-tuples.ensures.1
+
+pub tuple::tuple_list_at-returns-in_err-tuples-clause-further : goal.tuple::tuple_list_at-returns-in_err-tuples-clause-further
+tuple::tuple_list_at-returns-in_err-tuples-clause-further t c = refused _ _ c.from_residual-in_err-tuples.result c.from_residual-in_err-tuples.ensures.1
+
+pub tuple::tuple_list_at-returns-in_err-behind-clause-read : goal.tuple::tuple_list_at-returns-in_err-behind-clause-read
+tuple::tuple_list_at-returns-in_err-behind-clause-read t c = refused _ _ c.from_residual-in_err-behind.result c.from_residual-in_err-behind.ensures.1
+
+pub tuple::tuple_list_at-returns-in_err-behind-clause-cursor : goal.tuple::tuple_list_at-returns-in_err-behind-clause-cursor
+tuple::tuple_list_at-returns-in_err-behind-clause-cursor t c = refused _ _ c.from_residual-in_err-behind.result c.from_residual-in_err-behind.ensures.1
+
+pub tuple::tuple_list_at-returns-in_err-behind-clause-further : goal.tuple::tuple_list_at-returns-in_err-behind-clause-further
+tuple::tuple_list_at-returns-in_err-behind-clause-further t c = refused _ _ c.from_residual-in_err-behind.result c.from_residual-in_err-behind.ensures.1
+
+pub tuple::tuples_at-returns-in_err-first-clause-read : goal.tuple::tuples_at-returns-in_err-first-clause-read
+tuple::tuples_at-returns-in_err-first-clause-read t c = refused _ _ c.from_residual.result c.from_residual.ensures.1
+
+pub tuple::tuples_at-returns-in_err-first-clause-ends : goal.tuple::tuples_at-returns-in_err-first-clause-ends
+tuple::tuples_at-returns-in_err-first-clause-ends t c = refused _ _ c.from_residual.result c.from_residual.ensures.1
+
+pub tuple::tuples_at-returns-in_err-first-clause-cursor : goal.tuple::tuples_at-returns-in_err-first-clause-cursor
+tuple::tuples_at-returns-in_err-first-clause-cursor t c = refused _ _ c.from_residual.result c.from_residual.ensures.1
+
+pub tuple::tuples_at-returns-in_err-first-clause-further : goal.tuple::tuples_at-returns-in_err-first-clause-further
+tuple::tuples_at-returns-in_err-first-clause-further t c = refused _ _ c.from_residual.result c.from_residual.ensures.1
+
+pub tuple::tuples_at-returns-in_err-push-clause-read : goal.tuple::tuples_at-returns-in_err-push-clause-read
+tuple::tuples_at-returns-in_err-push-clause-read t c = refused _ _ c.from_residual-in_err-push.result c.from_residual-in_err-push.ensures.1
+
+pub tuple::tuples_at-returns-in_err-push-clause-ends : goal.tuple::tuples_at-returns-in_err-push-clause-ends
+tuple::tuples_at-returns-in_err-push-clause-ends t c = refused _ _ c.from_residual-in_err-push.result c.from_residual-in_err-push.ensures.1
+
+pub tuple::tuples_at-returns-in_err-push-clause-cursor : goal.tuple::tuples_at-returns-in_err-push-clause-cursor
+tuple::tuples_at-returns-in_err-push-clause-cursor t c = refused _ _ c.from_residual-in_err-push.result c.from_residual-in_err-push.ensures.1
+
+pub tuple::tuples_at-returns-in_err-push-clause-further : goal.tuple::tuples_at-returns-in_err-push-clause-further
+tuple::tuples_at-returns-in_err-push-clause-further t c = refused _ _ c.from_residual-in_err-push.result c.from_residual-in_err-push.ensures.1
+
+pub tuple::tuples_at-returns-in_err-next-clause-read : goal.tuple::tuples_at-returns-in_err-next-clause-read
+tuple::tuples_at-returns-in_err-next-clause-read t c = refused _ _ c.from_residual-in_err-next.result c.from_residual-in_err-next.ensures.1
+
+pub tuple::tuples_at-returns-in_err-next-clause-ends : goal.tuple::tuples_at-returns-in_err-next-clause-ends
+tuple::tuples_at-returns-in_err-next-clause-ends t c = refused _ _ c.from_residual-in_err-next.result c.from_residual-in_err-next.ensures.1
+
+pub tuple::tuples_at-returns-in_err-next-clause-cursor : goal.tuple::tuples_at-returns-in_err-next-clause-cursor
+tuple::tuples_at-returns-in_err-next-clause-cursor t c = refused _ _ c.from_residual-in_err-next.result c.from_residual-in_err-next.ensures.1
+
+pub tuple::tuples_at-returns-in_err-next-clause-further : goal.tuple::tuples_at-returns-in_err-next-clause-further
+tuple::tuples_at-returns-in_err-next-clause-further t c = refused _ _ c.from_residual-in_err-next.result c.from_residual-in_err-next.ensures.1
+
+pub tuple::tuples_at-returns-in_err-tuple-clause-read : goal.tuple::tuples_at-returns-in_err-tuple-clause-read
+tuple::tuples_at-returns-in_err-tuple-clause-read t c = refused _ _ c.from_residual-in_err-tuple.result c.from_residual-in_err-tuple.ensures.1
+
+pub tuple::tuples_at-returns-in_err-tuple-clause-ends : goal.tuple::tuples_at-returns-in_err-tuple-clause-ends
+tuple::tuples_at-returns-in_err-tuple-clause-ends t c = refused _ _ c.from_residual-in_err-tuple.result c.from_residual-in_err-tuple.ensures.1
+
+pub tuple::tuples_at-returns-in_err-tuple-clause-cursor : goal.tuple::tuples_at-returns-in_err-tuple-clause-cursor
+tuple::tuples_at-returns-in_err-tuple-clause-cursor t c = refused _ _ c.from_residual-in_err-tuple.result c.from_residual-in_err-tuple.ensures.1
+
+pub tuple::tuples_at-returns-in_err-tuple-clause-further : goal.tuple::tuples_at-returns-in_err-tuple-clause-further
+tuple::tuples_at-returns-in_err-tuple-clause-further t c = refused _ _ c.from_residual-in_err-tuple.result c.from_residual-in_err-tuple.ensures.1
+
+pub tuple::tuples_at-returns-in_err-push-2-clause-read : goal.tuple::tuples_at-returns-in_err-push-2-clause-read
+tuple::tuples_at-returns-in_err-push-2-clause-read t c = refused _ _ c.from_residual-in_err-push-2.result c.from_residual-in_err-push-2.ensures.1
+
+pub tuple::tuples_at-returns-in_err-push-2-clause-ends : goal.tuple::tuples_at-returns-in_err-push-2-clause-ends
+tuple::tuples_at-returns-in_err-push-2-clause-ends t c = refused _ _ c.from_residual-in_err-push-2.result c.from_residual-in_err-push-2.ensures.1
+
+pub tuple::tuples_at-returns-in_err-push-2-clause-cursor : goal.tuple::tuples_at-returns-in_err-push-2-clause-cursor
+tuple::tuples_at-returns-in_err-push-2-clause-cursor t c = refused _ _ c.from_residual-in_err-push-2.result c.from_residual-in_err-push-2.ensures.1
+
+pub tuple::tuples_at-returns-in_err-push-2-clause-further : goal.tuple::tuples_at-returns-in_err-push-2-clause-further
+tuple::tuples_at-returns-in_err-push-2-clause-further t c = refused _ _ c.from_residual-in_err-push-2.result c.from_residual-in_err-push-2.ensures.1
