@@ -1,5 +1,5 @@
 -- Faults inside a type, as faults of the type.
-use Rattle.std.proofs.Common.{◌≡◌, ◌∙◌, inl, inr, subst, Result, Ok, Err, IsErrAnd, IfOk, IfErr, ℕ, List, ◌∷◌, Some, true, false, is_some, refl, sym, ap}
+use Rattle.std.proofs.Common.{◌≡◌, ◌∙◌, inl, inr, subst, ℕ, List, ◌∷◌, Some, true, false, is_some, refl, sym, ap}
 use Rattle.celf_lexer.specs.declared.token.TokenKind.{TokenKind}
 use Rattle.celf_lexer.specs.declared.token.TokenKind.TheVariants as token
 use Rattle.celf_surface.specs.declared.surface.Arrow.{Arrow}
@@ -145,15 +145,6 @@ with_sign-fault {text} {k = k} {s} {c} {e} d h n m =
 pub with_next-fault : {text : List ℕ} {a : Surface} {k : List Symbol} {s u v : State} {e : Stop}
     → IsTypeAtom s a u → Opens token.Amp u v → IsFaultOf text (With ∷ k) v e → IsFaultOf text (With ∷ k) s e
 with_next-fault {k = k} {s} d o f = fault-moved (with-atom s k ∙ type_atom-accepts d (AmpTail ∷ k) ∙ amp-more o k) (type_atom-end d ∙ opens-end o) f
-
--- a fault that a ? hands on
-pub passed : {T E : Type 0} (P : E → Type 0) (r : Result T E) {e : E} → IsErrAnd r (λ y. y ≡ e) → P e → IfErr r P
-passed P (Ok x) h p = absurd h
-passed P (Err y) h p = subst P (sym h) p
-
-pub refused : {T E : Type 0} (P : T → Type 0) (Q : E → Type 0) (r : Result T E) → IsErrAnd r Q → IfOk r P
-refused P Q (Ok x) h = absurd h
-refused P Q (Err y) h = tt
 
 pub ruleset forward_opening_faults = (forward_opening-fault)
 

@@ -1,5 +1,5 @@
 use Rattle.std.proofs.Common.{◌∙◌}
-use Rattle.celf_parser.proofs.TypeFaults.{passed, refused}
+use Rattle.celf_cursor.proofs.Faulty.{passed, refused}
 use Rattle.celf_parser.proofs.BodyFaults.{undirected-fault}
 use Rattle.celf_parser.proofs.body.body_at.Goals as goal
 

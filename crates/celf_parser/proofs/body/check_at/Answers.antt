@@ -1,9 +1,9 @@
 use Rattle.celf_grammar.specs.Grammar.{body_check}
 use Rattle.celf_lexer.specs.declared.token.TokenKind.TheVariants as token
-use Rattle.celf_cursor.proofs.Faulty.{expect-missed}
+use Rattle.celf_cursor.proofs.Faulty.{expect-missed, passed}
 use Rattle.celf_parser.proofs.BodyFaults.{formed-fault}
 use Rattle.celf_parser.proofs.Items.{unboxed-read}
-use Rattle.celf_parser.proofs.TypeFaults.{passed, stop-fault}
+use Rattle.celf_parser.proofs.TypeFaults.{stop-fault}
 use Rattle.celf_parser.proofs.body.check_at.Goals as goal
 
 pub returns-clause-read : goal.returns-clause-read

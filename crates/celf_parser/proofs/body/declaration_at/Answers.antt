@@ -1,8 +1,8 @@
 use Rattle.celf_grammar.specs.Grammar.{body_declare}
 use Rattle.celf_lexer.specs.declared.token.TokenKind.TheVariants as token
-use Rattle.celf_cursor.proofs.Faulty.{expect-missed}
+use Rattle.celf_cursor.proofs.Faulty.{expect-missed, passed}
 use Rattle.celf_parser.proofs.BodyFaults.{declared_name-fault, declared-fault, counted-fault}
-use Rattle.celf_parser.proofs.TypeFaults.{passed, stop-fault}
+use Rattle.celf_parser.proofs.TypeFaults.{stop-fault}
 use Rattle.celf_parser.proofs.body.declaration_at.Goals as goal
 
 pub returns-clause-read : goal.returns-clause-read

@@ -1,4 +1,4 @@
-use Rattle.celf_parser.proofs.TypeFaults.{passed}
+use Rattle.celf_cursor.proofs.Faulty.{passed}
 use Rattle.celf_parser.proofs.BodyFaults.{query-fault, trace-fault, equal-fault, check-fault}
 use Rattle.celf_parser.proofs.body.directive_at.Goals as goal
 

@@ -1,6 +1,6 @@
 use Rattle.celf_grammar.specs.Grammar.{body_query}
 use Rattle.celf_parser.proofs.BodyFaults.{bounded-fault}
-use Rattle.celf_parser.proofs.TypeFaults.{passed}
+use Rattle.celf_cursor.proofs.Faulty.{passed}
 use Rattle.celf_parser.proofs.body.query_at.Goals as goal
 
 pub returns-clause-read : goal.returns-clause-read

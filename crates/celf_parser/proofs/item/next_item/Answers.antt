@@ -1,7 +1,7 @@
 use Rattle.std.proofs.Common.{sym, ap, ◌∙◌}
 use Rattle.celf_lexer.specs.Tokens.{next_token}
 use Rattle.celf_parser.proofs.Items.{end-gap}
-use Rattle.celf_parser.proofs.TypeFaults.{passed, refused}
+use Rattle.celf_cursor.proofs.Faulty.{passed, refused}
 use Rattle.celf_parser.proofs.Places.{placed-fault, lost-fault}
 use Rattle.celf_parser.proofs.item.next_item.Goals as goal
 

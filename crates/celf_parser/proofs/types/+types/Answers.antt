@@ -3,8 +3,8 @@ use Rattle.std.proofs.lemmas.Result.{IfErr-weaker}
 use Rattle.celf_lexer.specs.declared.token.TokenKind.TheVariants as token
 use Rattle.celf_grammar.specs.Grammar.{type_all}
 use Rattle.celf_grammar.proofs.TypeRuns.{factor-persistent, factor-affine}
-use Rattle.celf_cursor.proofs.Faulty.{expect-missed, close-missed}
-use Rattle.celf_parser.proofs.TypeFaults.{passed, refused, product_last-fault, product_factor-fault, type_sign-fault, type_next-fault, forward_sign-fault, forward_next-fault, pi-opens, exists-opens, braces-opens, group-opens, opened-fault, bound-fault, typed-fault, stop-fault, marked-fault, with_sign-fault, with_next-fault}
+use Rattle.celf_cursor.proofs.Faulty.{expect-missed, close-missed, passed, refused}
+use Rattle.celf_parser.proofs.TypeFaults.{product_last-fault, product_factor-fault, type_sign-fault, type_next-fault, forward_sign-fault, forward_next-fault, pi-opens, exists-opens, braces-opens, group-opens, opened-fault, bound-fault, typed-fault, stop-fault, marked-fault, with_sign-fault, with_next-fault}
 use Rattle.celf_parser.proofs.types.+types.Goals as goal
 
 pub type_at-returns-clause-read : goal.type_at-returns-clause-read
