@@ -1,10 +1,10 @@
 use Rattle.std.proofs.Common.{◌≡◌, ◌+◌, ◌-◌, ◌<◌, ◌≤◌, ◌++◌, nat_lt, ◌==◌, not, length, map, take, arith, sym, ap, ◌∙◌, codes}
 use Rattle.std.proofs.lemmas.Result.{on_ok_weaker}
 use Rattle.clf_syntax.specs.declared.tree.Expr.{out-Expr}
-use Rattle.clf_syntax.specs.Plain.{plain_obj, plain_elim, plain_step, plain_entry, plain-step-modes, plain-step-rhs}
-use Rattle.clf_syntax.specs.Tree.{bare, spine_on, done, tuple_of}
+use Rattle.clf_syntax.specs.Plain.{plain_obj, plain_elim, plain_step, plain_entry, plain-Lam, plain-Pair, plain-step-modes, plain-step-rhs}
+use Rattle.clf_syntax.specs.Tree.{lam, pair, bare, spine_on, done, tuple_of}
 use Rattle.clf_sig.specs.Signature.{plain_signature}
-use Rattle.clf_printer.specs.Text.{when, is_application, is_atom, listed, pattern_text, object_text, neutral_text, tuple_text}
+use Rattle.clf_printer.specs.Text.{when, is_application, is_atom, listed, binder_text, pattern_text, object_text, neutral_text, tuple_text}
 use Rattle.clf_printer.proofs.Lists.{joined}
 use Rattle.clf_printer.proofs.Spines.{longer, is_application-eliminated, neutral-appended, elimination-appended}
 use Rattle.clf_printer.proofs.Next.{step-appended, steps-ended, entry-appended}
@@ -111,3 +111,46 @@ push_tuple-returns t c =
     (joined out (none ++ when several (codes "[")) text (joined out none (when several (codes "[")) none_written c.in_ok-push_if-2.ensures) c.in_ok-push_entries.ensures)
     e)
     c.push_if-3.ensures
+
+pub push_object-returns-in_ok-raised-in-Lam : goal.push_object-returns-in_ok-raised-in-Lam
+push_object-returns-in_ok-raised-in-Lam t c =
+    let out = c.args.out.now.items in
+    let sig = plain_signature c.args.sig.now in
+    let metas = c.args.metas.now in
+    let level = c.args.level in
+    let body = plain_obj c.get.result.now in
+    let binder = binder_text level c.in-Lam.mode in
+    let is = c.in-Lam.is in
+    let got = c.get.ensures in
+    let law = plain-Lam c.in-Lam.mode c.get.result.now in
+    let plain : plain_obj c.args.obj.now ≡ lam c.in-Lam.mode body = cc in
+    on_ok_weaker c.push_object.result
+    (λ e. joined out ((codes "\\" ++ binder) ++ codes ". ") (object_text sig metas (level + 1) body)
+    (joined out (codes "\\" ++ binder) (codes ". ") (joined out (codes "\\") binder c.in_ok-push-in-Lam.ensures.items c.in_ok-push_binder-in-Lam.ensures) c.in_ok-extend_from_slice-in-Lam.ensures.items)
+    (e ∙ ap (λ n. c.extend_from_slice.new.self.items ++ object_text sig metas n body) c.in_ok-raised-in-Lam.ensures)
+    ∙ ap (λ n. out ++ object_text sig metas level n) (sym plain))
+    c.push_object.ensures
+
+pub push_object-returns-in_ok-push_object-in-Pair-2 : goal.push_object-returns-in_ok-push_object-in-Pair-2
+push_object-returns-in_ok-push_object-in-Pair-2 t c =
+    let out = c.args.out.now.items in
+    let sig = plain_signature c.args.sig.now in
+    let metas = c.args.metas.now in
+    let level = c.args.level in
+    let left = plain_obj c.get-in-Pair.result.now in
+    let right = plain_obj c.get-in-Pair-2.result.now in
+    let first = object_text sig metas level left in
+    let second = object_text sig metas level right in
+    let is = c.in-Pair.is in
+    let got_left = c.get-in-Pair.ensures in
+    let got_right = c.get-in-Pair-2.ensures in
+    let law = plain-Pair c.get-in-Pair.result.now c.get-in-Pair-2.result.now in
+    let plain : plain_obj c.args.obj.now ≡ pair left right = cc in
+    on_ok_weaker c.push_if.result
+    (λ e. joined out (((codes "<" ++ first) ++ codes ", ") ++ second) (codes ">")
+    (joined out ((codes "<" ++ first) ++ codes ", ") second
+    (joined out (codes "<" ++ first) (codes ", ") (joined out (codes "<") first c.in_ok-push-in-Pair.ensures.items c.in_ok-push_object-in-Pair.ensures) c.in_ok-extend_from_slice-in-Pair.ensures.items)
+    c.in_ok-push_object-in-Pair-2.ensures)
+    e
+    ∙ ap (λ n. out ++ object_text sig metas level n) (sym plain))
+    c.push_if.ensures
