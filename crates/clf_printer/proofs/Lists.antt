@@ -1,5 +1,5 @@
--- A list from one place on.
-use Rattle.std.proofs.Common.{◌≡◌, ℕ, suc, ◌+◌, ◌<◌, List, ◌∷◌, ◌++◌, [], length, take, drop, get_or, drop-cons, add-one, sym, ◌∙◌, ap}
+-- A list from one place on, and lists written one behind the other.
+use Rattle.std.proofs.Common.{◌≡◌, ℕ, suc, ◌+◌, ◌<◌, List, ◌∷◌, ◌++◌, [], length, take, drop, get_or, drop-cons, append_assoc, add-one, sym, ◌∙◌, ap}
 use Rattle.std.proofs.lemmas.List.{take_more}
 
 pub dropped : {X : Type 0} (xs : List X) (i : ℕ) (x : X) → i < length xs → x ≡ get_or xs i x → drop i xs ≡ x ∷ drop (i + 1) xs
@@ -7,3 +7,7 @@ dropped xs i x h e = rw (add-one, drop-cons xs i x) (ap (λ y. y ∷ drop (suc i
 
 pub taken : {X : Type 0} (xs : List X) (i : ℕ) (x : X) → i < length xs → x ≡ get_or xs i x → take (i + 1) xs ≡ take i xs ++ x ∷ []
 taken xs i x h e = take_more xs i x h ∙ ap (λ y. take i xs ++ y ∷ []) (sym e)
+
+-- two pieces behind a text, in turn
+pub joined : (o a b : List ℕ) {p q : List ℕ} → p ≡ o ++ a → q ≡ p ++ b → q ≡ o ++ (a ++ b)
+joined o a b u v = v ∙ ap (λ l. l ++ b) u ∙ append_assoc o a b

@@ -1,11 +1,12 @@
 -- What a list of steps or entries gives from one place on.
 use Rattle.std.proofs.Common.{◌≡◌, ℕ, suc, ◌+◌, ◌-◌, ◌<◌, ◌≤◌, ◌||◌, ◌&&◌, ◌++◌, Bool, true, not, nat_lt, List, [], ◌∷◌, map, length, drop, get_or, append_assoc, length-drop, refl, sym, ap, ◌∙◌, arith, codes}
 use Rattle.std.proofs.lemmas.Grind.{common_steps}
+use Rattle.clf_syntax.specs.declared.tree.Mode.{Mode}
 use Rattle.clf_syntax.specs.declared.tree.TupleEntry.{TupleEntry}
 use Rattle.clf_syntax.specs.declared.tree.Step.{Step, out-Step}
 use Rattle.clf_syntax.specs.declared.tree.TeleEntry.{TeleEntry, out-TeleEntry}
 use Rattle.clf_syntax.specs.Tree.{Expression, done, steps_on, tuple_of}
-use Rattle.clf_syntax.specs.TypeTree.{telescope_of}
+use Rattle.clf_syntax.specs.TypeTree.{PlainType, telescope_of}
 use Rattle.clf_syntax.specs.Plain.{plain_obj, plain_neutral, plain_step, plain_entry, plain-step-modes, plain-step-rhs, plain-entry-obj}
 use Rattle.clf_syntax.specs.PlainTypes.{plain_ty, plain_tele_entry, plain-tele-entry}
 use Rattle.clf_syntax.specs.Occurs.{occurs, occurs_neutral, occurs_expression, occurs_tuple, occurs_type, occurs_telescope}
@@ -19,29 +20,43 @@ use Rattle.clf_printer.proofs.Lists.{dropped}
 
 pub occurs_tuple-next : (v i : ℕ) (t : TupleEntry) (xs : List TupleEntry) → i < length xs → t ≡ get_or xs i t
     → occurs_tuple v (tuple_of (map plain_entry (drop i xs))) ≡ occurs v (plain_obj t.obj) || occurs_tuple v (tuple_of (map plain_entry (drop (i + 1) xs)))
-occurs_tuple-next v i t xs h e = rw (dropped xs i t h e, plain-entry-obj t)
+occurs_tuple-next v i t xs h e =
+    ap (λ ts. occurs_tuple v (tuple_of (map plain_entry ts))) (dropped xs i t h e)
+    ∙ ap (λ n. occurs v n || occurs_tuple v (tuple_of (map plain_entry (drop (i + 1) xs)))) (plain-entry-obj t)
 
 pub occurs_steps-next : (v i : ℕ) (s : Step) (xs : List Step) (r : Expression) → i < length xs → s ≡ get_or xs i s
     → occurs_expression v (steps_on (map plain_step (drop i xs)) r) ≡ occurs_neutral v (plain_neutral (out-Step s).rhs) || occurs_expression (v + length s.modes) (steps_on (map plain_step (drop (i + 1) xs)) r)
-occurs_steps-next v i s xs r h e = rw (dropped xs i s h e, plain-step-rhs s, plain-step-modes s)
+occurs_steps-next v i s xs r h e =
+    let later = steps_on (map plain_step (drop (i + 1) xs)) r in
+    ap (λ ss. occurs_expression v (steps_on (map plain_step ss) r)) (dropped xs i s h e)
+    ∙ ap (λ n. occurs_neutral v n || occurs_expression (v + length (plain_step s).0) later) (plain-step-rhs s)
+    ∙ ap (λ ms. occurs_neutral v (plain_neutral (out-Step s).rhs) || occurs_expression (v + length ms) later) (plain-step-modes s)
 
 pub occurs_telescope-next : (v i : ℕ) (t : TeleEntry) (xs : List TeleEntry) → i < length xs → t ≡ get_or xs i t
     → occurs_telescope v (telescope_of (map plain_tele_entry (drop i xs))) ≡ occurs_type v (plain_ty (out-TeleEntry t).ty) || occurs_telescope (v + 1) (telescope_of (map plain_tele_entry (drop (i + 1) xs)))
-occurs_telescope-next v i t xs h e = rw (dropped xs i t h e, plain-tele-entry t)
+occurs_telescope-next v i t xs h e =
+    ap (λ ts. occurs_telescope v (telescope_of (map plain_tele_entry ts))) (dropped xs i t h e)
+    ∙ ap (λ (p : Mode × PlainType). occurs_type v p.1 || occurs_telescope (v + 1) (telescope_of (map plain_tele_entry (drop (i + 1) xs)))) (plain-tele-entry t)
 
 -- ---- metavariables
 
 pub appearing_tuple-next : (metas : List ℕ) (i : ℕ) (t : TupleEntry) (xs : List TupleEntry) → i < length xs → t ≡ get_or xs i t
     → appearing_tuple metas (tuple_of (map plain_entry (drop i xs))) ≡ appearing_tuple (appearing metas (plain_obj t.obj)) (tuple_of (map plain_entry (drop (i + 1) xs)))
-appearing_tuple-next metas i t xs h e = rw (dropped xs i t h e, plain-entry-obj t)
+appearing_tuple-next metas i t xs h e =
+    ap (λ ts. appearing_tuple metas (tuple_of (map plain_entry ts))) (dropped xs i t h e)
+    ∙ ap (λ n. appearing_tuple (appearing metas n) (tuple_of (map plain_entry (drop (i + 1) xs)))) (plain-entry-obj t)
 
 pub appearing_steps-next : (metas : List ℕ) (i : ℕ) (s : Step) (xs : List Step) (r : Expression) → i < length xs → s ≡ get_or xs i s
     → appearing_expression metas (steps_on (map plain_step (drop i xs)) r) ≡ appearing_expression (appearing_neutral metas (plain_neutral (out-Step s).rhs)) (steps_on (map plain_step (drop (i + 1) xs)) r)
-appearing_steps-next metas i s xs r h e = rw (dropped xs i s h e, plain-step-rhs s)
+appearing_steps-next metas i s xs r h e =
+    ap (λ ss. appearing_expression metas (steps_on (map plain_step ss) r)) (dropped xs i s h e)
+    ∙ ap (λ n. appearing_expression (appearing_neutral metas n) (steps_on (map plain_step (drop (i + 1) xs)) r)) (plain-step-rhs s)
 
 pub appearing_telescope-next : (metas : List ℕ) (i : ℕ) (t : TeleEntry) (xs : List TeleEntry) → i < length xs → t ≡ get_or xs i t
     → appearing_telescope metas (telescope_of (map plain_tele_entry (drop i xs))) ≡ appearing_telescope (appearing_type metas (plain_ty (out-TeleEntry t).ty)) (telescope_of (map plain_tele_entry (drop (i + 1) xs)))
-appearing_telescope-next metas i t xs h e = rw (dropped xs i t h e, plain-tele-entry t)
+appearing_telescope-next metas i t xs h e =
+    ap (λ ts. appearing_telescope metas (telescope_of (map plain_tele_entry ts))) (dropped xs i t h e)
+    ∙ ap (λ (p : Mode × PlainType). appearing_telescope (appearing_type metas p.1) (telescope_of (map plain_tele_entry (drop (i + 1) xs)))) (plain-tele-entry t)
 
 -- ---- texts
 

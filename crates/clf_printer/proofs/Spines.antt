@@ -7,7 +7,7 @@ use Rattle.clf_syntax.specs.declared.tree.Neutral.{Neutral}
 use Rattle.clf_syntax.specs.Plain.{plain_elim, plain_neutral, plain-neutral}
 use Rattle.clf_syntax.specs.Tree.{PlainNeutral, bare, app, fst, snd, Elimination, arg, first, second, eliminated, spine_on, head_of}
 use Rattle.clf_sig.specs.Entry.{PlainSignature}
-use Rattle.clf_printer.specs.Text.{when, grouped, is_application, head_text, neutral_text}
+use Rattle.clf_printer.specs.Text.{when, grouped, is_application, is_atom, argument_text, head_text, object_text, neutral_text}
 use Rattle.clf_printer.specs.Spine.{front_text, back_text, projection_text, elimination_text, is_argument}
 use Rattle.clf_printer.proofs.Lists.{taken}
 
@@ -50,14 +50,24 @@ module _ (sig : PlainSignature) (metas : List ℕ) (level : ℕ) where
   back_text-eliminated second r = refl
 
   around : (sign f h b : List ℕ) (g : Bool) → sign ++ grouped g (f ++ (h ++ b)) ≡ (sign ++ when g (codes "(") ++ f) ++ (h ++ (b ++ when g (codes ")")))
-  around sign f h b g = simp append_assoc
+  around sign f h b g =
+      let before = when g (codes "(") in
+      let behind = when g (codes ")") in
+      ap (λ l. sign ++ l) (append_assoc before (f ++ (h ++ b)) behind ∙ ap (λ l. before ++ l) (append_assoc f (h ++ b) behind ∙ ap (λ l. f ++ l) (append_assoc h b behind)))
+      ∙ sym (append_assoc sign before (f ++ (h ++ (b ++ behind))))
+      ∙ sym (append_assoc (sign ++ before) f (h ++ (b ++ behind)))
 
   -- A neutral is what stands in front of its head, the head, and what stands behind it.
   pub neutral_text-along : (r : PlainNeutral) → neutral_text sig metas level r ≡ front_text r ++ (head_text sig metas level (head_of r) ++ back_text sig metas level r)
   neutral_text-along (bare h) = sym (append-nil (head_text sig metas level h))
-  neutral_text-along (app m r n) = rw (neutral_text-along r) (simp append_assoc)
-  neutral_text-along (fst r) = rw (neutral_text-along r) (around (codes "#1 ") (front_text r) (head_text sig metas level (head_of r)) (back_text sig metas level r) (is_application r))
-  neutral_text-along (snd r) = rw (neutral_text-along r) (around (codes "#2 ") (front_text r) (head_text sig metas level (head_of r)) (back_text sig metas level r) (is_application r))
+  neutral_text-along (app m r n) =
+      let head = head_text sig metas level (head_of r) in
+      let argument = argument_text m (is_atom n) (object_text sig metas level n) in
+      ap (λ l. l ++ argument) (neutral_text-along r)
+      ∙ append_assoc (front_text r) (head ++ back_text sig metas level r) argument
+      ∙ ap (λ l. front_text r ++ l) (append_assoc head (back_text sig metas level r) argument)
+  neutral_text-along (fst r) = ap (λ l. codes "#1 " ++ grouped (is_application r) l) (neutral_text-along r) ∙ around (codes "#1 ") (front_text r) (head_text sig metas level (head_of r)) (back_text sig metas level r) (is_application r)
+  neutral_text-along (snd r) = ap (λ l. codes "#2 " ++ grouped (is_application r) l) (neutral_text-along r) ∙ around (codes "#2 ") (front_text r) (head_text sig metas level (head_of r)) (back_text sig metas level r) (is_application r)
 
   -- the pieces of a neutral, in turn
   pub neutral-appended : (n : Neutral) (spine : List Elim) (o p q r : List ℕ) → spine ≡ n.spine
@@ -72,7 +82,7 @@ module _ (sig : PlainSignature) (metas : List ℕ) (level : ℕ) where
       let b = back_text sig metas level s in
       let plain : plain_neutral n ≡ s = plain-neutral n ∙ ap (λ es. spine_on (map plain_elim es) (bare n.head)) (sym e) in
       let all : r ≡ ((o ++ f) ++ h) ++ b = w ∙ ap (λ l. l ++ b) (v ∙ ap (λ l. l ++ h) u) in
-      let regrouped : ((o ++ f) ++ h) ++ b ≡ o ++ (f ++ (h ++ b)) = simp append_assoc in
+      let regrouped : ((o ++ f) ++ h) ++ b ≡ o ++ (f ++ (h ++ b)) = append_assoc (o ++ f) h b ∙ append_assoc o f (h ++ b) in
       all
       ∙ regrouped
       ∙ ap (λ k. o ++ (f ++ (head_text sig metas level k ++ b))) (sym (head_of-spine (map plain_elim spine) (bare n.head)))

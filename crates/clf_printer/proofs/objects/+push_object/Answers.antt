@@ -1,10 +1,11 @@
-use Rattle.std.proofs.Common.{◌≡◌, ◌+◌, ◌-◌, ◌<◌, ◌≤◌, ◌++◌, length, map, take, arith, sym, ap, ◌∙◌}
+use Rattle.std.proofs.Common.{◌≡◌, ◌+◌, ◌-◌, ◌<◌, ◌≤◌, ◌++◌, nat_lt, ◌==◌, not, length, map, take, arith, sym, ap, ◌∙◌, codes}
 use Rattle.std.proofs.lemmas.Result.{on_ok_weaker}
 use Rattle.clf_syntax.specs.declared.tree.Expr.{out-Expr}
-use Rattle.clf_syntax.specs.Plain.{plain_elim, plain_entry}
-use Rattle.clf_syntax.specs.Tree.{bare, spine_on, done, tuple_of}
+use Rattle.clf_syntax.specs.Plain.{plain_obj, plain_elim, plain_step, plain_entry, plain-Lam, plain-Pair, plain-step-modes, plain-step-rhs}
+use Rattle.clf_syntax.specs.Tree.{lam, pair, bare, spine_on, done, tuple_of}
 use Rattle.clf_sig.specs.Signature.{plain_signature}
-use Rattle.clf_printer.specs.Text.{is_application, listed, tuple_text}
+use Rattle.clf_printer.specs.Text.{when, is_application, is_atom, listed, binder_text, pattern_text, object_text, neutral_text, tuple_text}
+use Rattle.clf_printer.proofs.Lists.{joined}
 use Rattle.clf_printer.proofs.Spines.{longer, is_application-eliminated, neutral-appended, elimination-appended}
 use Rattle.clf_printer.proofs.Next.{step-appended, steps-ended, entry-appended}
 use Rattle.clf_printer.proofs.objects.+push_object.Goals as goal
@@ -62,3 +63,94 @@ push_entries-loop-entry-preserved t c =
           c.loop-entry.out.items c.push_entry.new.out.items c.push_if.new.out.items lt c.entry-item.is left c.in_ok-push_entry.ensures c.in_ok-push_if.ensures
           ∙ c.loop-entry.invariant.written;
     }
+
+pub push_atom-returns : goal.push_atom-returns
+push_atom-returns t c =
+    let out = c.args.out.now.items in
+    let obj = plain_obj c.args.obj.now in
+    let text = object_text (plain_signature c.args.sig.now) c.args.metas.now c.args.level obj in
+    let wanted = ap not c.is_atom-grouped.ensures in
+    let opened = c.in_ok-push_if.ensures ∙ ap (λ b. out ++ when b (codes "(")) wanted in
+    on_ok_weaker c.push_if-2.result
+    (λ e. joined out (when (not (is_atom obj)) (codes "(") ++ text) (when (not (is_atom obj)) (codes ")"))
+    (joined out (when (not (is_atom obj)) (codes "(")) text opened c.in_ok-push_object.ensures)
+    (e ∙ ap (λ b. c.push_object.new.out.items ++ when b (codes ")")) wanted))
+    c.push_if-2.ensures
+
+pub push_step-returns : goal.push_step-returns
+push_step-returns t c =
+    let out = c.args.out.now.items in
+    let step = c.args.step.now in
+    let level = c.args.level in
+    let sig = plain_signature c.args.sig.now in
+    let metas = c.args.metas.now in
+    let pattern = pattern_text level (plain_step step).0 in
+    let neutral = neutral_text sig metas level (plain_step step).1 in
+    let pattern_written =
+    c.in_ok-push_pattern.ensures ∙ ap (λ ms. c.extend_from_slice.new.self.items ++ pattern_text level ms) (c.as_slice.ensures ∙ sym (plain-step-modes step)) in
+    let neutral_written =
+    c.in_ok-push_neutral.ensures ∙ ap (λ n. c.extend_from_slice-2.new.self.items ++ neutral_text sig metas level n) (sym (plain-step-rhs step)) in
+    on_ok_weaker c.push_if.result
+    (λ e. joined out (((codes "let {" ++ pattern) ++ codes "} = ") ++ neutral) (codes " in ")
+    (joined out ((codes "let {" ++ pattern) ++ codes "} = ") neutral
+    (joined out (codes "let {" ++ pattern) (codes "} = ") (joined out (codes "let {") pattern c.in_ok-extend_from_slice.ensures.items pattern_written) c.in_ok-extend_from_slice-2.ensures.items)
+    neutral_written)
+    e)
+    c.push_if.ensures
+
+pub push_tuple-returns : goal.push_tuple-returns
+push_tuple-returns t c =
+    let out = c.args.out.now.items in
+    let tuple = c.args.tuple.now in
+    let text = tuple_text (plain_signature c.args.sig.now) c.args.metas.now c.args.level (tuple_of (map plain_entry tuple)) in
+    let none = when (length tuple == 0) (codes "1") in
+    let several = nat_lt 1 (length tuple) in
+    let none_written = c.in_ok-push_if.ensures ∙ ap (λ b. out ++ when b (codes "1")) c.is_empty.ensures in
+    on_ok_weaker c.push_if-3.result
+    (λ e. joined out ((none ++ when several (codes "[")) ++ text) (when several (codes "]"))
+    (joined out (none ++ when several (codes "[")) text (joined out none (when several (codes "[")) none_written c.in_ok-push_if-2.ensures) c.in_ok-push_entries.ensures)
+    e)
+    c.push_if-3.ensures
+
+pub push_object-returns-in_ok-raised-in-Lam : goal.push_object-returns-in_ok-raised-in-Lam
+push_object-returns-in_ok-raised-in-Lam t c =
+    let out = c.args.out.now.items in
+    let sig = plain_signature c.args.sig.now in
+    let metas = c.args.metas.now in
+    let level = c.args.level in
+    let body = plain_obj c.get.result.now in
+    let binder = binder_text level c.in-Lam.mode in
+    let is = c.in-Lam.is in
+    let got = c.get.ensures in
+    let law = plain-Lam c.in-Lam.mode c.get.result.now in
+    let plain : plain_obj c.args.obj.now ≡ lam c.in-Lam.mode body = cc in
+    on_ok_weaker c.push_object.result
+    (λ e. joined out ((codes "\\" ++ binder) ++ codes ". ") (object_text sig metas (level + 1) body)
+    (joined out (codes "\\" ++ binder) (codes ". ") (joined out (codes "\\") binder c.in_ok-push-in-Lam.ensures.items c.in_ok-push_binder-in-Lam.ensures) c.in_ok-extend_from_slice-in-Lam.ensures.items)
+    (e ∙ ap (λ n. c.extend_from_slice.new.self.items ++ object_text sig metas n body) c.in_ok-raised-in-Lam.ensures)
+    ∙ ap (λ n. out ++ object_text sig metas level n) (sym plain))
+    c.push_object.ensures
+
+pub push_object-returns-in_ok-push_object-in-Pair-2 : goal.push_object-returns-in_ok-push_object-in-Pair-2
+push_object-returns-in_ok-push_object-in-Pair-2 t c =
+    let out = c.args.out.now.items in
+    let sig = plain_signature c.args.sig.now in
+    let metas = c.args.metas.now in
+    let level = c.args.level in
+    let left = plain_obj c.get-in-Pair.result.now in
+    let right = plain_obj c.get-in-Pair-2.result.now in
+    let first = object_text sig metas level left in
+    let second = object_text sig metas level right in
+    let is = c.in-Pair.is in
+    let got_left = c.get-in-Pair.ensures in
+    let got_right = c.get-in-Pair-2.ensures in
+    let law = plain-Pair c.get-in-Pair.result.now c.get-in-Pair-2.result.now in
+    let plain : plain_obj c.args.obj.now ≡ pair left right = cc in
+    on_ok_weaker c.push_if.result
+    (λ e. joined out (((codes "<" ++ first) ++ codes ", ") ++ second) (codes ">")
+    (joined out ((codes "<" ++ first) ++ codes ", ") second
+    (joined out (codes "<" ++ first) (codes ", ") (joined out (codes "<") first c.in_ok-push-in-Pair.ensures.items c.in_ok-push_object-in-Pair.ensures) c.in_ok-extend_from_slice-in-Pair.ensures.items)
+    c.in_ok-push_object-in-Pair-2.ensures)
+    e
+    ∙ ap (λ n. out ++ object_text sig metas level n) (sym plain))
+    c.push_if.ensures
