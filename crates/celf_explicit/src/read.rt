@@ -20,7 +20,7 @@ use sqlite_items::{Boxed, Items};
 use std::alloc::{AllocError, Global};
 
 /// The core of a type; none where a name in it has no meaning, or where it has indices or a monad. It fails only where memory runs out.
-#[tactic(auto, using(celf_sugar::specs::Plain::plain_laws, clf_syntax::specs::PlainTypes::plain_type_laws))]
+#[tactic(auto, using(crate::proofs::Forms::type_laws, crate::proofs::Forms::core_type_laws))]
 pub fn read_type(alloc: Global, sig: &Signature, ty: &PTy) -> Result<Option<Ty>, AllocError>
     ensures { IfOk result (λ t. option_map plain_ty t ≡ spec.read_type (plain_signature sig.now) (plain_type ty.now)) }
 {
@@ -38,14 +38,14 @@ pub fn read_type(alloc: Global, sig: &Signature, ty: &PTy) -> Result<Option<Ty>,
             dom,
             cod,
         } => {
-            let dom = read_type(alloc, sig, dom.get())?;
-            let cod = read_type(alloc, sig, cod.get())?;
-            function(alloc, *mode, dom, cod)
+            let dom = boxed(alloc, read_type(alloc, sig, dom.get())?)?;
+            let cod = boxed(alloc, read_type(alloc, sig, cod.get())?)?;
+            Ok(function(*mode, dom, cod))
         }
         PTyForm::With { left, right } => {
-            let left = read_type(alloc, sig, left.get())?;
-            let right = read_type(alloc, sig, right.get())?;
-            both(alloc, left, right)
+            let left = boxed(alloc, read_type(alloc, sig, left.get())?)?;
+            let right = boxed(alloc, read_type(alloc, sig, right.get())?)?;
+            Ok(both(left, right))
         }
         PTyForm::Top => Ok(Some(Ty::Top)),
         PTyForm::Monad { .. } => Ok(None),
@@ -74,42 +74,37 @@ fn family(alloc: Global, family: Option<u32>) -> Option<Ty>
     })
 }
 
-#[tactic(auto, using(clf_syntax::specs::PlainTypes::plain_type_laws))]
-fn function(
-    alloc: Global,
-    mode: Mode,
-    dom: Option<Ty>,
-    cod: Option<Ty>,
-) -> Result<Option<Ty>, AllocError>
-    ensures { IfOk result (λ t. option_map plain_ty t ≡ spec.combined (core_type.function mode) (option_map plain_ty dom) (option_map plain_ty cod)) }
+/// A tree in a box, if it is there. In its box it is dropped by a call: dropped in place, each of its forms would be a case of the function that reads on.
+fn boxed<T: Drop>(alloc: Global, tree: Option<T>) -> Result<Option<Boxed<T>>, AllocError>
+    ensures { IfOk result (λ b. b ≡ tree) }
 {
-    match (dom, cod) {
-        (Some(dom), Some(cod)) => {
-            let dom = Boxed::new(alloc, dom)?;
-            let cod = Boxed::new(alloc, cod)?;
-            Ok(Some(Ty::Fun { mode, dom, cod }))
-        }
-        (Some(_), None) | (None, _) => Ok(None),
+    match tree {
+        Some(tree) => Ok(Some(Boxed::new(alloc, tree)?)),
+        None => Ok(None),
     }
 }
 
 #[tactic(auto, using(clf_syntax::specs::PlainTypes::plain_type_laws))]
-fn both(alloc: Global, left: Option<Ty>, right: Option<Ty>) -> Result<Option<Ty>, AllocError>
-    ensures { IfOk result (λ t. option_map plain_ty t ≡ spec.combined core_type.both (option_map plain_ty left) (option_map plain_ty right)) }
+fn function(mode: Mode, dom: Option<Boxed<Ty>>, cod: Option<Boxed<Ty>>) -> Option<Ty>
+    ensures { option_map plain_ty result ≡ spec.combined (core_type.function mode) (option_map plain_ty dom) (option_map plain_ty cod) }
 {
-    match (left, right) {
-        (Some(left), Some(right)) => {
-            let left = Boxed::new(alloc, left)?;
-            let right = Boxed::new(alloc, right)?;
-            Ok(Some(Ty::With { left, right }))
-        }
-        (Some(_), None) | (None, _) => Ok(None),
-    }
+    let dom = dom?;
+    let cod = cod?;
+    Some(Ty::Fun { mode, dom, cod })
+}
+
+#[tactic(auto, using(clf_syntax::specs::PlainTypes::plain_type_laws))]
+fn both(left: Option<Boxed<Ty>>, right: Option<Boxed<Ty>>) -> Option<Ty>
+    ensures { option_map plain_ty result ≡ spec.combined core_type.both (option_map plain_ty left) (option_map plain_ty right) }
+{
+    let left = left?;
+    let right = right?;
+    Some(Ty::With { left, right })
 }
 
 /// The core of an object at a place, under these locals; none where a name in it means neither a local nor a constant, or where it is out of reach.
 #[cycle(read)]
-#[tactic(auto, using(celf_sugar::specs::Plain::plain_laws, clf_syntax::specs::Plain::plain_laws, crate::specs::ReadingLists::reading_laws))]
+#[tactic(auto, using(crate::proofs::Forms::object_laws, crate::proofs::Forms::core_object_laws, crate::specs::ReadingLists::reading_laws))]
 fn read_object<'a>(
     obj: &'a PObj,
     alloc: Global,
@@ -125,12 +120,15 @@ fn read_object<'a>(
             locals.push(name, domain(place))?;
             let body = read_object(body.get(), alloc, sig, codomain(place), locals)?;
             locals.pop();
-            lambda(alloc, marked(*mode, mode_at(place)), body)
+            let body = boxed(alloc, body)?;
+            Ok(lambda(marked(*mode, mode_at(place)), body))
         }
         PObjForm::Pair { left, right } => {
             let left = read_object(left.get(), alloc, sig, left_part(place), locals)?;
+            let left = boxed(alloc, left)?;
             let right = read_object(right.get(), alloc, sig, right_part(place), locals)?;
-            pair(alloc, left, right)
+            let right = boxed(alloc, right)?;
+            Ok(pair(left, right))
         }
         PObjForm::Unit => Ok(Some(Obj::Unit)),
         PObjForm::At { head, spine } => {
@@ -150,30 +148,20 @@ fn read_object<'a>(
 }
 
 #[tactic(auto, using(clf_syntax::specs::Plain::plain_laws))]
-fn lambda(alloc: Global, mode: Mode, body: Option<Obj>) -> Result<Option<Obj>, AllocError>
-    ensures { IfOk result (λ o. option_map plain_obj o ≡ option_map (core.lam mode) (option_map plain_obj body)) }
+fn lambda(mode: Mode, body: Option<Boxed<Obj>>) -> Option<Obj>
+    ensures { option_map plain_obj result ≡ option_map (core.lam mode) (option_map plain_obj body) }
 {
-    match body {
-        Some(body) => {
-            let body = Boxed::new(alloc, body)?;
-            Ok(Some(Obj::Lam { mode, body }))
-        }
-        None => Ok(None),
-    }
+    let body = body?;
+    Some(Obj::Lam { mode, body })
 }
 
 #[tactic(auto, using(clf_syntax::specs::Plain::plain_laws))]
-fn pair(alloc: Global, left: Option<Obj>, right: Option<Obj>) -> Result<Option<Obj>, AllocError>
-    ensures { IfOk result (λ o. option_map plain_obj o ≡ spec.combined core.pair (option_map plain_obj left) (option_map plain_obj right)) }
+fn pair(left: Option<Boxed<Obj>>, right: Option<Boxed<Obj>>) -> Option<Obj>
+    ensures { option_map plain_obj result ≡ spec.combined core.pair (option_map plain_obj left) (option_map plain_obj right) }
 {
-    match (left, right) {
-        (Some(left), Some(right)) => {
-            let left = Boxed::new(alloc, left)?;
-            let right = Boxed::new(alloc, right)?;
-            Ok(Some(Obj::Pair { left, right }))
-        }
-        (Some(_), None) | (None, _) => Ok(None),
-    }
+    let left = left?;
+    let right = right?;
+    Some(Obj::Pair { left, right })
 }
 
 /// A head with its spine.
@@ -222,7 +210,6 @@ fn constant_head<'a>(sig: &'a Signature, name: &str) -> Option<Found<'a>>
 
 /// What is done to a head of this simple type.
 #[cycle(read)]
-#[tactic(auto, using(celf_sugar::specs::Plain::plain_laws, clf_syntax::specs::Plain::plain_laws, crate::specs::ReadingLists::reading_laws))]
 fn read_spine<'a>(
     spine: &'a [PElim],
     alloc: Global,
@@ -246,7 +233,7 @@ fn read_spine<'a>(
 }
 
 #[cycle(read)]
-#[tactic(auto, using(celf_sugar::specs::Plain::plain_laws, clf_syntax::specs::Plain::plain_laws, crate::specs::ReadingLists::reading_laws))]
+#[tactic(auto, using(crate::proofs::Forms::elim_laws, crate::proofs::Forms::core_elim_laws))]
 fn read_act<'a>(
     act: &'a PElim,
     alloc: Global,
@@ -286,7 +273,8 @@ pub fn read_check(
 {
     match read_type(alloc, sig, ty)? {
         Some(ty) => {
-            let obj = read_against(alloc, sig, obj, &ty)?;
+            let ty = Boxed::new(alloc, ty)?;
+            let obj = read_against(alloc, sig, obj, ty.get())?;
             Ok(checked(obj, ty))
         }
         None => Ok(None),
@@ -302,15 +290,15 @@ fn read_against(
 ) -> Result<Option<Obj>, AllocError>
     ensures { IfOk result (λ o. option_map (spec.with_type (plain_ty ty.now)) (option_map plain_obj o) ≡ spec.read_against (plain_signature sig.now) (plain_object obj.now) (plain_ty ty.now)) }
 {
-    let simple = erase(alloc, ty)?;
+    let simple = Boxed::new(alloc, erase(alloc, ty)?)?;
     let mut locals = Locals::new(alloc);
-    read_object(obj, alloc, sig, Some(&simple), &mut locals)
+    read_object(obj, alloc, sig, Some(simple.get()), &mut locals)
 }
 
 /// An object with its type.
-fn checked(obj: Option<Obj>, ty: Ty) -> Option<(Obj, Ty)>
+fn checked(obj: Option<Obj>, ty: Boxed<Ty>) -> Option<(Obj, Ty)>
     ensures { option_map plain_check result ≡ option_map (spec.with_type (plain_ty ty)) (option_map plain_obj obj) }
 {
     let obj = obj?;
-    Some((obj, ty))
+    Some((obj, ty.into_inner()))
 }
