@@ -54,3 +54,10 @@ pub goes_along : {W X : Type 0} (tree : W → X) (names : List (List ℕ) → X 
     → (new ≡ earliest place (unknown_along names binds scope (map tree (take (i + 1) ws)))) × (later ≡ scope ++ flat_map binds (map tree (take (i + 1) ws)))
 goes_along tree names binds scope now later ws i w found more new h e v m l s =
     (s ∙ rw (v.0, m, v.1) (sym (along_more names binds tree scope ws i w h e)), l ∙ rw v.1 (sym (bound_more binds tree scope ws i w h e)))
+
+flat_next : {X : Type 0} (f : X → List (List ℕ)) (xs : List X) (i : ℕ) (x : X) → i < length xs → x ≡ get_or xs i x → flat_map f (take (i + 1) xs) ≡ flat_map f (take i xs) ++ f x
+flat_next f xs i x h e = rw (take_more xs i x h, ← e, flat_map-append f (take i xs) (x ∷ []), append-nil (f x)) refl
+
+-- The names of one part more are bound.
+pub binds_next : {X : Type 0} (f : X → List (List ℕ)) (old now later : List (List ℕ)) (xs : List X) (i : ℕ) (x : X) → i < length xs → x ≡ get_or xs i x → now ≡ old ++ flat_map f (take i xs) → later ≡ now ++ f x → later ≡ old ++ flat_map f (take (i + 1) xs)
+binds_next f old now later xs i x h e v l = l ∙ ap (λ ns. ns ++ f x) v ∙ append_assoc old (flat_map f (take i xs)) (f x) ∙ ap (λ ns. old ++ ns) (sym (flat_next f xs i x h e))

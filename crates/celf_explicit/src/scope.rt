@@ -28,8 +28,11 @@ pub struct Scope<'a> {
 
 impl<'a> Model for Scope<'a> {
     ghost use Rattle.std.specs.Prelude.{List, ℕ, map};
+    ghost use Rattle.std.specs.Coded.{coded_list, coded_ℕ};
 
     ghost Value = { List (List ℕ) };
+
+    ghost coded = { coded_list (coded_list coded_ℕ) };
 
     ghost view = { λ s. map (λ n. n.now) s.names };
 }
@@ -79,10 +82,10 @@ impl<'a> Scope<'a> {
     pub fn bind(&mut self, name: &'a Option<Name>) -> Result<(), AllocError>
         ensures { OnOk result (self.new ≡ self.old ++ bound name.now) }
     {
-        if let Some(name) = name {
-            self.names.push(name)?;
+        match name {
+            Some(name) => self.names.push(name),
+            None => Ok(()),
         }
-        Ok(())
     }
 
     /// Binds the names of a pattern.
