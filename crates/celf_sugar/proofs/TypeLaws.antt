@@ -11,11 +11,11 @@ use Rattle.celf_sugar.specs.declared.plain.PTy.{PTy, roll-PTy}
 use Rattle.celf_sugar.specs.PlainTree.{Object, family, function, both, top, monad, telescope_of}
 use Rattle.celf_sugar.specs.Plain.{plain_object, plain_entry, plain_type, type-made, type-Family, type-Fun, type-With, type-Top, type-Monad, telescope-made}
 
-pub function-made : (s : Span) (m : Mode) (n : Option (List ℕ)) (a b c d : PTy) → c ≡ a → d ≡ b → plain_type (roll-PTy (record { span = s; form = Fun m n c d })) ≡ function s m n (plain_type a) (plain_type b)
-function-made s m n a b c d p q = type-made (Fun m n c d) s ∙ type-Fun m n c d s ∙ ap (λ t. function s m n (plain_type t) (plain_type d)) p ∙ ap (λ t. function s m n (plain_type a) (plain_type t)) q
+pub function-made : (s : Span) (m : Mode) (n : Option (List ℕ)) (a b : PTy) → plain_type (roll-PTy (record { span = s; form = Fun m n a b })) ≡ function s m n (plain_type a) (plain_type b)
+function-made s m n a b = type-made (Fun m n a b) s ∙ type-Fun m n a b s
 
-pub both-made : (s : Span) (a b c d : PTy) → c ≡ a → d ≡ b → plain_type (roll-PTy (record { span = s; form = With c d })) ≡ both s (plain_type a) (plain_type b)
-both-made s a b c d p q = type-made (With c d) s ∙ type-With c d s ∙ ap (λ t. both s (plain_type t) (plain_type d)) p ∙ ap (λ t. both s (plain_type a) (plain_type t)) q
+pub both-made : (s : Span) (a b : PTy) → plain_type (roll-PTy (record { span = s; form = With a b })) ≡ both s (plain_type a) (plain_type b)
+both-made s a b = type-made (With a b) s ∙ type-With a b s
 
 pub family-made : (s at : Span) (n m : List ℕ) (d : Bool) (is : List PObj) (os : List Object) → m ≡ n → map plain_object is ≡ os → plain_type (roll-PTy (record { span = s; form = Family (record { name = m; dollar = d; span = at }) is })) ≡ family s (record { name = n; dollar = d; span = at }) os
 family-made s at n m d is os p q = type-made (Family (record { name = m; dollar = d; span = at }) is) s ∙ type-Family (record { name = m; dollar = d; span = at }) is s ∙ ap (λ (x : List ℕ). family s (record { name = x; dollar = d; span = at }) (map plain_object is)) p ∙ ap (family s (record { name = n; dollar = d; span = at })) q

@@ -14,6 +14,7 @@ use crate::plain::{PTele, Plain, PlainBody};
 use crate::types::{class, entries, plain_type_of, unbraced};
 use celf_surface::{Bound, Item, ItemBody, SObj, SType};
 use clf_syntax::Name;
+use sqlite_items::Boxed;
 use std::alloc::Global;
 
 /// The item without its sugar.
@@ -60,12 +61,15 @@ fn declaration(
     ensures clean { OnOk result (first_of (declare name.now implicit (surface ty.now)) ≡ None) }
     ensures fault { IfErr result (λ f. IsFirst f (first_of (declare name.now implicit (surface ty.now)))) }
 {
+    let name = name.copy(alloc)?;
     let class = class(alloc, ty)?;
     if let Some(fault) = declaration_fault(implicit, ty, &class) {
+        // By a call: dropped here, each form of the type would be a case of this function.
+        drop(class);
         return Err(fault);
     }
     Ok(PlainBody::Declare {
-        name: name.copy(alloc)?,
+        name,
         implicit: implicit_count(implicit),
         class,
     })
@@ -123,12 +127,14 @@ fn equal(alloc: Global, left: &SObj, right: &SObj, ty: &SType) -> Result<PlainBo
     if let Some(fault) = equal_fault(left, right, ty) {
         return Err(fault);
     }
-    let left = object(alloc, left)?;
-    let right = object(alloc, right)?;
+    // In boxes they are dropped by calls: in place, each of their forms would be a case of this function.
+    let left = Boxed::new(alloc, object(alloc, left)?)?;
+    let right = Boxed::new(alloc, object(alloc, right)?)?;
+    let ty = plain_type_of(alloc, ty)?;
     Ok(PlainBody::Equal {
-        left,
-        right,
-        ty: plain_type_of(alloc, ty)?,
+        left: left.into_inner(),
+        right: right.into_inner(),
+        ty,
     })
 }
 
@@ -142,9 +148,10 @@ fn check(alloc: Global, obj: &SObj, ty: &SType) -> Result<PlainBody, SugarFault>
     if let Some(fault) = check_fault(obj, ty) {
         return Err(fault);
     }
-    let obj = object(alloc, obj)?;
+    let obj = Boxed::new(alloc, object(alloc, obj)?)?;
+    let ty = plain_type_of(alloc, ty)?;
     Ok(PlainBody::Check {
-        obj,
-        ty: plain_type_of(alloc, ty)?,
+        obj: obj.into_inner(),
+        ty,
     })
 }

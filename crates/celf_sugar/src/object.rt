@@ -4,7 +4,6 @@ ghost use Rattle.std.specs.List.{flat_map};
 ghost use Rattle.celf_surface.specs.declared.surface.SObj.{out-SObj};
 ghost use Rattle.celf_surface.specs.Surface.{object_tree, argument_tree, step_tree, tuple_tree, expression_tree, pattern_tree};
 ghost use Rattle.celf_sugar.specs.PlainTree.{tuple_of};
-ghost use Rattle.celf_sugar.specs.declared.plain.PObjForm.{Lam, Pair};
 ghost use Rattle.celf_sugar.specs.Plain.{plain_object, plain_form, plain_elim, plain_step, plain_marked, plain_expression};
 ghost use Rattle.celf_sugar.specs.Sugar.{object as object_of, head as head_of, acts as acts_of, steps as steps_of, entries_of_tuple, binders as binders_of, mark as mark_of};
 ghost use Rattle.celf_sugar.specs.SugarLists.{act_of, plain_step_of};
@@ -34,12 +33,17 @@ fn object_form(alloc: Global, obj: &SObj) -> Result<PObjForm, AllocError>
 {
     match &obj.form {
         SObjForm::Lam { mode, name, body } => {
-            let body = object(alloc, body.get())?;
-            lam_form(alloc, *mode, name, body)
+            let body = Boxed::new(alloc, object(alloc, body.get())?)?;
+            Ok(PObjForm::Lam {
+                mode: *mode,
+                name: copy_name(alloc, name)?,
+                body,
+            })
         }
         SObjForm::Pair { left, right } => {
-            let left = object(alloc, left.get())?;
-            pair_form(alloc, left, object(alloc, right.get())?)
+            let left = Boxed::new(alloc, object(alloc, left.get())?)?;
+            let right = Boxed::new(alloc, object(alloc, right.get())?)?;
+            Ok(PObjForm::Pair { left, right })
         }
         SObjForm::Unit => Ok(PObjForm::Unit),
         SObjForm::Hole => Ok(PObjForm::Hole),
@@ -57,27 +61,6 @@ fn object_form(alloc: Global, obj: &SObj) -> Result<PObjForm, AllocError>
             })
         }
     }
-}
-
-fn lam_form(
-    alloc: Global,
-    mode: SMode,
-    name: &Option<Name>,
-    body: PObj,
-) -> Result<PObjForm, AllocError>
-    ensures { IfOk result (λ f. f ≡ Lam mode name.now body) }
-{
-    let name = copy_name(alloc, name)?;
-    let body = Boxed::new(alloc, body)?;
-    Ok(PObjForm::Lam { mode, name, body })
-}
-
-fn pair_form(alloc: Global, left: PObj, right: PObj) -> Result<PObjForm, AllocError>
-    ensures { IfOk result (λ f. f ≡ Pair left right) }
-{
-    let left = Boxed::new(alloc, left)?;
-    let right = Boxed::new(alloc, right)?;
-    Ok(PObjForm::Pair { left, right })
 }
 
 /// The head of an object; a name without bytes where it has none.

@@ -21,20 +21,20 @@ pub fn plain_type_of(alloc: Global, ty: &SType) -> Result<PTy, AllocError>
 {
     match &ty.form {
         STypeForm::Pi { name, dom, rest } => {
-            let dom = plain_type_of(alloc, dom.get())?;
+            let dom = Boxed::new(alloc, plain_type_of(alloc, dom.get())?)?;
             pi_type(alloc, rest.get(), ty.span, name, dom)
         }
         STypeForm::Arrow { arrow, left, right } => match arrow {
             Arrow::To => {
-                let dom = plain_type_of(alloc, left.get())?;
+                let dom = Boxed::new(alloc, plain_type_of(alloc, left.get())?)?;
                 arrow_type(alloc, right.get(), ty.span, Mode::Persistent, dom)
             }
             Arrow::Back => {
-                let dom = plain_type_of(alloc, right.get())?;
+                let dom = Boxed::new(alloc, plain_type_of(alloc, right.get())?)?;
                 arrow_type(alloc, left.get(), ty.span, Mode::Persistent, dom)
             }
             Arrow::Affine => {
-                let dom = plain_type_of(alloc, left.get())?;
+                let dom = Boxed::new(alloc, plain_type_of(alloc, left.get())?)?;
                 arrow_type(alloc, right.get(), ty.span, Mode::Affine, dom)
             }
             Arrow::Lolli => {
@@ -47,7 +47,7 @@ pub fn plain_type_of(alloc: Global, ty: &SType) -> Result<PTy, AllocError>
             }
         },
         STypeForm::With { left, right } => {
-            let left = plain_type_of(alloc, left.get())?;
+            let left = Boxed::new(alloc, plain_type_of(alloc, left.get())?)?;
             with_type(alloc, right.get(), ty.span, left)
         }
         STypeForm::Family {
@@ -72,12 +72,18 @@ pub fn plain_type_of(alloc: Global, ty: &SType) -> Result<PTy, AllocError>
 
 /// The function that binds a name, given its domain.
 #[cycle(types)]
-fn pi_type(alloc: Global, cod: &SType, span: Span, name: &Name, dom: PTy) -> Result<PTy, AllocError>
+fn pi_type(
+    alloc: Global,
+    cod: &SType,
+    span: Span,
+    name: &Name,
+    dom: Boxed<PTy>,
+) -> Result<PTy, AllocError>
     ensures { IfOk result (λ t. plain_type t ≡ function span Persistent (Some name.now) (plain_type dom) (reading (surface cod.now)).as_type) }
 {
-    let cod = plain_type_of(alloc, cod)?;
+    let cod = Boxed::new(alloc, plain_type_of(alloc, cod)?)?;
     let name = name.copy(alloc)?;
-    function_type(alloc, span, Mode::Persistent, Some(name), dom, cod)
+    Ok(function_type(span, Mode::Persistent, Some(name), dom, cod))
 }
 
 /// The function that binds no name, given its domain.
@@ -87,12 +93,12 @@ fn arrow_type(
     cod: &SType,
     span: Span,
     mode: Mode,
-    dom: PTy,
+    dom: Boxed<PTy>,
 ) -> Result<PTy, AllocError>
     ensures { IfOk result (λ t. plain_type t ≡ function span mode None (plain_type dom) (reading (surface cod.now)).as_type) }
 {
-    let cod = plain_type_of(alloc, cod)?;
-    function_type(alloc, span, mode, None, dom, cod)
+    let cod = Boxed::new(alloc, plain_type_of(alloc, cod)?)?;
+    Ok(function_type(span, mode, None, dom, cod))
 }
 
 /// One function for each entry of a domain, in order, and then a type.
@@ -105,17 +111,17 @@ fn lolli_type(
 ) -> Result<PTy, AllocError>
     ensures { IfOk result (λ t. plain_type t ≡ functions_of span (map plain_entry doms) (reading (surface cod.now)).as_type) }
 {
-    let cod = plain_type_of(alloc, cod)?;
+    let cod = Boxed::new(alloc, plain_type_of(alloc, cod)?)?;
     functions(alloc, span, doms, cod)
 }
 
 /// A type, given the left one of the two that it is both of.
 #[cycle(types)]
-fn with_type(alloc: Global, right: &SType, span: Span, left: PTy) -> Result<PTy, AllocError>
+fn with_type(alloc: Global, right: &SType, span: Span, left: Boxed<PTy>) -> Result<PTy, AllocError>
     ensures { IfOk result (λ t. plain_type t ≡ both span (plain_type left) (reading (surface right.now)).as_type) }
 {
-    let right = plain_type_of(alloc, right)?;
-    both_type(alloc, span, left, right)
+    let right = Boxed::new(alloc, plain_type_of(alloc, right)?)?;
+    Ok(both_type(span, left, right))
 }
 
 /// The entries of the telescope of a type: those of a synchronous type, or one linear entry.
@@ -126,6 +132,7 @@ pub fn entries(alloc: Global, ty: &SType) -> Result<Items<PEntry>, AllocError>
 {
     match &ty.form {
         STypeForm::Exists { name, dom, rest } => {
+            let name = name.copy(alloc)?;
             let dom = plain_type_of(alloc, dom.get())?;
             entries_behind(alloc, rest.get(), name, dom)
         }
@@ -156,10 +163,10 @@ pub fn entries(alloc: Global, ty: &SType) -> Result<Items<PEntry>, AllocError>
 fn entries_behind(
     alloc: Global,
     rest: &SType,
-    name: &Name,
+    name: Name,
     dom: PTy,
 ) -> Result<Items<PEntry>, AllocError>
-    ensures { IfOk result (λ es. map plain_entry es ≡ (Persistent, Some name.now, plain_type dom) ∷ (reading (surface rest.now)).as_entries) }
+    ensures { IfOk result (λ es. map plain_entry es ≡ (Persistent, Some name, plain_type dom) ∷ (reading (surface rest.now)).as_entries) }
 {
     let bound = bound_entry(alloc, name, dom)?;
     joined(bound, entries(alloc, rest)?)
@@ -194,10 +201,9 @@ fn joined(entries: Items<PEntry>, more: Items<PEntry>) -> Result<Items<PEntry>, 
 }
 
 /// One persistent entry alone, which binds a name.
-fn bound_entry(alloc: Global, name: &Name, ty: PTy) -> Result<Items<PEntry>, AllocError>
-    ensures { IfOk result (λ es. map plain_entry es ≡ (Persistent, Some name.now, plain_type ty) ∷ []) }
+fn bound_entry(alloc: Global, name: Name, ty: PTy) -> Result<Items<PEntry>, AllocError>
+    ensures { IfOk result (λ es. map plain_entry es ≡ (Persistent, Some name, plain_type ty) ∷ []) }
 {
-    let name = name.copy(alloc)?;
     one_entry(alloc, Mode::Persistent, Some(name), ty)
 }
 
@@ -217,18 +223,15 @@ fn one_entry(
 }
 
 fn function_type(
-    alloc: Global,
     span: Span,
     mode: Mode,
     name: Option<Name>,
-    dom: PTy,
-    cod: PTy,
-) -> Result<PTy, AllocError>
-    ensures { IfOk result (λ t. plain_type t ≡ function span mode name (plain_type dom) (plain_type cod)) }
+    dom: Boxed<PTy>,
+    cod: Boxed<PTy>,
+) -> PTy
+    ensures { plain_type result ≡ function span mode name (plain_type dom) (plain_type cod) }
 {
-    let dom = Boxed::new(alloc, dom)?;
-    let cod = Boxed::new(alloc, cod)?;
-    Ok(PTy {
+    PTy {
         span,
         form: PTyForm::Fun {
             mode,
@@ -236,18 +239,16 @@ fn function_type(
             dom,
             cod,
         },
-    })
+    }
 }
 
-fn both_type(alloc: Global, span: Span, left: PTy, right: PTy) -> Result<PTy, AllocError>
-    ensures { IfOk result (λ t. plain_type t ≡ both span (plain_type left) (plain_type right)) }
+fn both_type(span: Span, left: Boxed<PTy>, right: Boxed<PTy>) -> PTy
+    ensures { plain_type result ≡ both span (plain_type left) (plain_type right) }
 {
-    let left = Boxed::new(alloc, left)?;
-    let right = Boxed::new(alloc, right)?;
-    Ok(PTy {
+    PTy {
         span,
         form: PTyForm::With { left, right },
-    })
+    }
 }
 
 fn family_type(
@@ -292,7 +293,12 @@ fn top_type(span: Span) -> PTy
 }
 
 /// One function for each entry, in order, and then a type.
-fn functions(alloc: Global, span: Span, doms: Items<PEntry>, cod: PTy) -> Result<PTy, AllocError>
+fn functions(
+    alloc: Global,
+    span: Span,
+    doms: Items<PEntry>,
+    cod: Boxed<PTy>,
+) -> Result<PTy, AllocError>
     ensures { IfOk result (λ t. plain_type t ≡ functions_of span (map plain_entry doms) (plain_type cod)) }
 {
     let mut doms = doms;
@@ -300,15 +306,21 @@ fn functions(alloc: Global, span: Span, doms: Items<PEntry>, cod: PTy) -> Result
     while let Some(entry) = doms.pop() {
         cod = function_of_entry(alloc, span, entry, cod)?;
     }
-    Ok(cod)
+    Ok(cod.into_inner())
 }
 
 #[tactic(auto, using(crate::specs::Plain::entry_laws))]
-fn function_of_entry(alloc: Global, span: Span, entry: PEntry, cod: PTy) -> Result<PTy, AllocError>
+fn function_of_entry(
+    alloc: Global,
+    span: Span,
+    entry: PEntry,
+    cod: Boxed<PTy>,
+) -> Result<Boxed<PTy>, AllocError>
     ensures { IfOk result (λ t. plain_type t ≡ function span (plain_entry entry).0 (plain_entry entry).1 (plain_entry entry).2 (plain_type cod)) }
 {
     let PEntry { mode, name, ty } = entry;
-    function_type(alloc, span, mode, name, ty, cod)
+    let dom = Boxed::new(alloc, ty)?;
+    Boxed::new(alloc, function_type(span, mode, name, dom, cod))
 }
 
 fn plain_objects(alloc: Global, objs: &[SObj]) -> Result<Items<PObj>, AllocError>

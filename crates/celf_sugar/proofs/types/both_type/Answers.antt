@@ -2,4 +2,4 @@ use Rattle.celf_sugar.proofs.TypeLaws.{both-made}
 use Rattle.celf_sugar.proofs.types.both_type.Goals as goal
 
 pub returns : goal.returns
-returns c = both-made c.args.span c.args.left c.args.right _ _ c.in_ok-left.ensures c.in_ok-right.ensures
+returns c = both-made c.args.span c.args.left c.args.right
