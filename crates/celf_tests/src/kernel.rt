@@ -1,17 +1,18 @@
 //! Each call of the kernel once; tables of checks stand in `run`, over text.
-ghost use Rattle.clf_sig.specs.Signature.{plain_entry, plain_signature};
+ghost use Rattle.std.specs.Prelude.{◌≡◌};
+ghost use Rattle.clf_sig.specs.Signature.{plain_class, plain_entry, plain_signature};
 ghost use Rattle.clf_kernel.specs.Reach.{IsSimpleSignature};
 ghost use Rattle.clf_kernel.specs.Formation.{IsSimpleClass};
 
 use crate::trees::{atom, constant, family, function};
-use clf_kernel::{Cause, check_entry, check_object, infer};
+use clf_kernel::{Cause, Inferred, Refusal, check_entry, check_object, infer};
 use clf_sig::{Entry, Signature};
 use clf_syntax::{Head, Mode, Neutral, Obj, OrWide, Ty};
 use sqlite_items::Items;
 use std::alloc::Global;
 use std::process::Abort;
 use std::test::Fail;
-use use_contexts::{Ctx, Holding};
+use use_contexts::{Ctx, Holding, Left};
 
 /// The signature with one entry more.
 #[tactic(auto, using(crate::proofs::SimpleSignatures::simple_more))]
@@ -36,30 +37,68 @@ fn signature(rt: &impl Abort, alloc: Global) -> Signature
     declared(rt, sig, "z", constant(atom(alloc, 0)))
 }
 
-#[test]
-fn entries_are_checked(rt: HostRuntime) -> Result<(), Fail> {
-    let alloc = rt.alloc();
-    let sig = signature(&rt, alloc);
-    assert!(rt; check_entry(alloc, &sig, &family(alloc)).is_ok());
-    // `b -o 2`, where 2 is the constant `z`
-    let ty = function(alloc, Mode::Linear, atom(alloc, 1), atom(alloc, 2))?;
-    match check_entry(alloc, &sig, &constant(ty)) {
+/// The answer about an entry none of whose arguments is implicit.
+fn checked(alloc: Global, sig: &Signature, entry: Entry) -> Result<(), OrWide<Refusal>>
+    requires signature { IsSimpleSignature (plain_signature sig.now) }
+    requires class { IsSimpleClass (plain_class entry.class) }
+    requires implicit { entry.implicit ≡ 0 }
+{
+    let answer = check_entry(alloc, sig, &entry);
+    // By a call, as below: dropped at the end, each form of the tree would be a case of this function.
+    drop(entry);
+    answer
+}
+
+fn assert_accepted(rt: &impl Abort, answer: Result<(), OrWide<Refusal>>) {
+    let accepted = answer.is_ok();
+    drop(answer);
+    assert!(rt; accepted);
+}
+
+/// Asserts that the constant `z` is refused as the family on the right of a function.
+fn assert_unknown(rt: &impl Abort, refusal: &Refusal) {
+    assert!(rt; refusal.path.as_slice() == [1].as_slice());
+    assert!(rt;
+        matches!(
+            refusal.cause,
+            Cause::UnknownHead {
+                head: Head::Const(2)
+            }
+        )
+    );
+}
+
+fn assert_refused(rt: &impl Abort, answer: Result<(), OrWide<Refusal>>) {
+    match answer {
         Err(OrWide::Fault(refusal)) => {
-            assert!(rt; refusal.path.as_slice() == [1].as_slice());
-            assert!(rt;
-                matches!(
-                    refusal.cause,
-                    Cause::UnknownHead {
-                        head: Head::Const(2)
-                    }
-                )
-            );
+            assert_unknown(rt, &refusal);
+            drop(refusal);
         }
         Ok(_answer) => panic!(rt; "not refused"),
         Err(OrWide::NoMemory) => panic!(rt; "no memory"),
         Err(OrWide::TooFar(_wide)) => panic!(rt; "too far"),
     }
+}
+
+#[test]
+fn entries_are_checked(rt: HostRuntime) -> Result<(), Fail> {
+    let alloc = rt.alloc();
+    // `b -o 2`, where 2 is the constant `z`
+    let ty = function(alloc, Mode::Linear, atom(alloc, 1), atom(alloc, 2))?;
+    let sig = signature(&rt, alloc);
+    assert_accepted(&rt, checked(alloc, &sig, family(alloc)));
+    assert_refused(&rt, checked(alloc, &sig, constant(ty)));
     Ok(())
+}
+
+fn assert_slack(rt: &impl Abort, answer: Result<Left, OrWide<Refusal>>) {
+    match answer {
+        Ok(left) => assert!(rt; left.slack),
+        Err(fault) => {
+            drop(fault);
+            panic!(rt; "refused")
+        }
+    }
 }
 
 #[test]
@@ -71,20 +110,46 @@ fn objects_are_checked(rt: HostRuntime) {
     let holding = Holding {
         held: Items::new(alloc),
     };
-    match check_object(alloc, &sig, &ctx, &holding, &Obj::Unit, &Ty::Top) {
-        Ok(left) => assert!(rt; left.slack),
-        Err(_fault) => panic!(rt; "refused"),
+    assert_slack(
+        &rt,
+        check_object(alloc, &sig, &ctx, &holding, &Obj::Unit, &Ty::Top),
+    );
+}
+
+/// Asserts that the constant `z` has its type, and no slack.
+fn assert_found(rt: &impl Abort, found: &Inferred) {
+    assert!(rt; matches!(found.ty, Ty::Fam { family: 0, .. }));
+    assert!(rt; !found.left.slack);
+}
+
+fn assert_inferred(rt: &impl Abort, answer: Result<Inferred, OrWide<Refusal>>) {
+    match answer {
+        Ok(found) => {
+            assert_found(rt, &found);
+            drop(found);
+        }
+        Err(fault) => {
+            drop(fault);
+            panic!(rt; "refused")
+        }
     }
+}
+
+#[test]
+#[tactic(auto, using(clf_syntax::specs::Plain::plain_laws, clf_syntax::specs::PlainTypes::plain_type_laws))]
+fn types_are_inferred(rt: HostRuntime) {
+    let alloc = rt.alloc();
+    let sig = signature(&rt, alloc);
+    let ctx = Ctx::empty(alloc);
+    let holding = Holding {
+        held: Items::new(alloc),
+    };
     // `z`
     let neutral = Neutral {
         head: Head::Const(2),
         spine: Items::new(alloc),
     };
-    match infer(alloc, &sig, &ctx, &holding, &neutral) {
-        Ok(found) => {
-            assert!(rt; matches!(found.ty, Ty::Fam { family: 0, .. }));
-            assert!(rt; !found.left.slack);
-        }
-        Err(_fault) => panic!(rt; "refused"),
-    }
+    let answer = infer(alloc, &sig, &ctx, &holding, &neutral);
+    drop(neutral);
+    assert_inferred(&rt, answer);
 }

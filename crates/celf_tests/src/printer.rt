@@ -5,6 +5,7 @@ use clf_sig::{Class, Entry, Signature};
 use clf_syntax::{Head, Mode, Neutral, Obj, Ty};
 use sqlite_items::Items;
 use std::alloc::Global;
+use std::process::Abort;
 use std::test::Fail;
 
 /// The family at an index, the variable that is bound nearest.
@@ -17,24 +18,38 @@ fn family_at_variable(alloc: Global) -> Result<Ty, Fail> {
     Ok(Ty::Fam { family: 0, indices })
 }
 
-/// `a`, a family, and `x1`, a constant with an implicit argument.
-fn signature(alloc: Global) -> Result<Signature, Fail> {
-    let mut sig = Signature::new(alloc);
-    let _ = sig.add("a", family(alloc));
+/// `x1`, a constant with an implicit argument.
+fn with_implicit(alloc: Global) -> Result<Entry, Fail> {
     let rest = family_at_variable(alloc)?;
     let class = Class::Constant(function(alloc, Mode::Persistent, atom(alloc, 0), rest)?);
-    let implicit = 1;
-    let _ = sig.add("x1", Entry { implicit, class });
-    Ok(sig)
+    Ok(Entry { implicit: 1, class })
+}
+
+/// Asserts that the entry at a place is printed as this text.
+fn assert_printed(
+    rt: &impl Abort,
+    alloc: Global,
+    sig: &Signature,
+    place: u32,
+    text: &str,
+) -> Result<(), Fail> {
+    let shown = entry_text(alloc, sig, place)?;
+    assert!(rt; shown.as_slice() == text.as_bytes(), "of {text}");
+    Ok(())
+}
+
+fn assert_texts(rt: &impl Abort, alloc: Global, sig: &Signature) -> Result<(), Fail> {
+    assert_printed(rt, alloc, sig, 0, "a : type.")?;
+    assert_printed(rt, alloc, sig, 1, "x1 : [1] Pi x1: a. a !x1.")?;
+    assert_printed(rt, alloc, sig, 2, "$")
 }
 
 #[test]
 fn prints_entries(rt: HostRuntime) -> Result<(), Fail> {
     let alloc = rt.alloc();
-    let sig = signature(alloc)?;
-    for (k, text) in [(0, "a : type."), (1, "x1 : [1] Pi x1: a. a !x1."), (2, "$")] {
-        let shown = entry_text(alloc, &sig, k)?;
-        assert!(rt; shown.as_slice() == text.as_bytes(), "of {text}");
-    }
-    Ok(())
+    let constant = with_implicit(alloc)?;
+    let mut sig = Signature::new(alloc);
+    let _ = sig.add("a", family(alloc));
+    let _ = sig.add("x1", constant);
+    assert_texts(&rt, alloc, &sig)
 }

@@ -6,6 +6,8 @@ use std::alloc::Global;
 use std::process::Abort;
 use std::test::Fail;
 
+const WORDS: [&str; 2] = ["celf", "file"];
+
 fn words_of(alloc: Global, words: &[&str]) -> Result<Vec<Name>, Fail> {
     let mut names = Vec::new(alloc);
     for word in words {
@@ -14,9 +16,27 @@ fn words_of(alloc: Global, words: &[&str]) -> Result<Vec<Name>, Fail> {
     Ok(names)
 }
 
-fn answer<F: Shelf, W: Sink>(alloc: Global, shelf: &mut F, out: &mut W) -> Result<Status, Fail> {
-    let words = words_of(alloc, &["celf", "file"])?;
+fn answer<F: Shelf, W: Sink>(
+    alloc: Global,
+    words: &[&str],
+    shelf: &mut F,
+    out: &mut W,
+) -> Result<Status, Fail> {
+    let words = words_of(alloc, words)?;
     Ok(run(alloc, words.as_slice(), shelf, out))
+}
+
+/// How a run with these words over this text ends, with what it writes.
+fn answered(alloc: Global, words: &[&str], text: Vec<u8>) -> Result<(Status, SureSink), Fail> {
+    let mut shelf = SureShelf::new(alloc, text)?;
+    let mut out = SureSink::new(alloc)?;
+    let ended = answer(alloc, words, &mut shelf, &mut out)?;
+    Ok((ended, out))
+}
+
+fn assert_same(rt: &impl Abort, ended: Status, status: Status, written: &[u8], wanted: &[u8]) {
+    assert_eq!(rt; ended, status);
+    assert_eq!(rt; written, wanted);
 }
 
 /// Asserts that the pieces, which make a text, are answered by these bytes and this status.
@@ -27,11 +47,9 @@ fn assert_answer(
     printed: &[&[u8]],
     status: Status,
 ) -> Result<(), Fail> {
-    let (text, wanted) = (joined(alloc, pieces)?, joined(alloc, printed)?);
-    let mut out = SureSink::new(alloc)?;
-    let ended = answer(alloc, &mut SureShelf::new(alloc, text)?, &mut out)?;
-    assert_eq!(rt; ended, status);
-    assert_eq!(rt; out.written(), wanted.as_slice());
+    let wanted = joined(alloc, printed)?;
+    let (ended, out) = answered(alloc, &WORDS, joined(alloc, pieces)?)?;
+    assert_same(rt, ended, status, out.written(), wanted.as_slice());
     Ok(())
 }
 
@@ -97,6 +115,11 @@ fn items_are_answered_in_order(rt: HostRuntime) -> Result<(), Fail> {
         (
             "a : type. c : b -o a. d : a.",
             "a : type.\nrefused at 14: unknown name b.\n",
+            Status::Refused,
+        ),
+        (
+            "a : type. b : type. g : a -@ b. #check \\x. g x : a -o b.",
+            "a : type.\nb : type.\ng : a -@ b.\nrefused at 32: not held x1 at 1.0.0.\n",
             Status::Refused,
         ),
         (
@@ -330,6 +353,19 @@ fn limits_are_exact(rt: HostRuntime) -> Result<(), Fail> {
     Ok(())
 }
 
+/// Asserts that a run with these words ends so, and that nothing is written where the words are bad.
+fn assert_ended(
+    rt: &impl Abort,
+    alloc: Global,
+    words: &[&str],
+    status: Status,
+) -> Result<(), Fail> {
+    let (ended, out) = answered(alloc, words, b"a : type.".to_vec(alloc)?)?;
+    assert_eq!(rt; ended, status);
+    assert_eq!(rt; out.written().is_empty(), status == Status::BadWords);
+    Ok(())
+}
+
 #[test]
 fn words_are_two(rt: HostRuntime) -> Result<(), Fail> {
     let alloc = rt.alloc();
@@ -342,19 +378,49 @@ fn words_are_two(rt: HostRuntime) -> Result<(), Fail> {
         (&["", "file"], Status::Done),
     ];
     for (words, status) in rows {
-        let mut shelf = SureShelf::new(alloc, b"a : type.".to_vec(alloc)?)?;
-        let mut out = SureSink::new(alloc)?;
-        let words = words_of(alloc, words)?;
-        assert_eq!(rt; run(alloc, words.as_slice(), &mut shelf, &mut out), status);
-        assert_eq!(rt; out.written().is_empty(), status == Status::BadWords);
+        assert_ended(&rt, alloc, words, status)?;
     }
+    Ok(())
+}
+
+/// A shelf with the file, whose call of this number fails.
+fn shelf_with(alloc: Global, reading: u64) -> Result<MemShelf, Fail> {
+    let file = ShelfFile {
+        name: Name::new(alloc, "file")?,
+        bytes: b"a : type. b : type. c : a -o b. d : e.".to_vec(alloc)?,
+    };
+    Ok(MemShelf::new(alloc, vec![in alloc; file]?, vec![in alloc; reading]?)?)
+}
+
+/// Asserts how a run ends, and what it writes, where these calls of its shelf and its sink fail.
+fn assert_failing(
+    rt: &impl Abort,
+    alloc: Global,
+    reading: u64,
+    writing: u64,
+    status: Status,
+    written: &str,
+) -> Result<(), Fail> {
+    let mut shelf = shelf_with(alloc, reading)?;
+    let mut out = MemSink::new(alloc, vec![in alloc; writing]?)?;
+    let ended = answer(alloc, &WORDS, &mut shelf, &mut out)?;
+    assert_same(rt, ended, status, out.written(), written.as_bytes());
+    Ok(())
+}
+
+#[test]
+fn a_run_needs_its_file(rt: HostRuntime) -> Result<(), Fail> {
+    let alloc = rt.alloc();
+    let mut empty = MemShelf::new(alloc, Vec::new(alloc), Vec::new(alloc))?;
+    let mut out = SureSink::new(alloc)?;
+    let ended = answer(alloc, &WORDS, &mut empty, &mut out)?;
+    assert_same(&rt, ended, Status::ReadFault, out.written(), b"");
     Ok(())
 }
 
 #[test]
 fn each_call_of_shelf_and_sink_fails_in_turn(rt: HostRuntime) -> Result<(), Fail> {
     let alloc = rt.alloc();
-    let text = b"a : type. b : type. c : a -o b. d : e.";
     // One call opens the file and two read it; a call is made for each line. No call has the number 9.
     for (reading, writing, status, written) in [
         (1, 9, Status::ReadFault, ""),
@@ -376,18 +442,7 @@ fn each_call_of_shelf_and_sink_fails_in_turn(rt: HostRuntime) -> Result<(), Fail
             "a : type.\nb : type.\nc : a -o b.\nrefused at 36: unknown name e.\n",
         ),
     ] {
-        let file = ShelfFile {
-            name: Name::new(alloc, "file")?,
-            bytes: text.to_vec(alloc)?,
-        };
-        let mut shelf = MemShelf::new(alloc, vec![in alloc; file]?, vec![in alloc; reading]?)?;
-        let mut out = MemSink::new(alloc, vec![in alloc; writing]?)?;
-        assert_eq!(rt; answer(alloc, &mut shelf, &mut out)?, status);
-        assert_eq!(rt; out.written(), written.as_bytes());
+        assert_failing(&rt, alloc, reading, writing, status, written)?;
     }
-    let mut empty = MemShelf::new(alloc, Vec::new(alloc), Vec::new(alloc))?;
-    let mut out = SureSink::new(alloc)?;
-    assert_eq!(rt; answer(alloc, &mut empty, &mut out)?, Status::ReadFault);
-    assert!(rt; out.written().is_empty());
     Ok(())
 }

@@ -5,6 +5,7 @@ use celf_source::{
 };
 use clf_syntax::Name;
 use std::alloc::Global;
+use std::process::Abort;
 use std::test::Fail;
 
 fn file_of(alloc: Global, name: &str, bytes: &[u8]) -> Result<ShelfFile, Fail> {
@@ -23,6 +24,19 @@ fn shelf_with(alloc: Global, failing: u64) -> Result<MemShelf, Fail> {
     Ok(MemShelf::new(alloc, files, vec![in alloc; failing]?)?)
 }
 
+fn size_of(file: Result<Vec<u8>, ReadAllFault>) -> Result<usize, ReadAllFault> {
+    match file {
+        Ok(bytes) => Ok(bytes.len()),
+        Err(fault) => Err(fault),
+    }
+}
+
+/// The size of a file of so many bytes that is read with this limit.
+fn size_read(alloc: Global, size: usize, limit: u32) -> Result<Result<usize, ReadAllFault>, Fail> {
+    let mut shelf = SureShelf::new(alloc, vec![in alloc; 7u8; size]?)?;
+    Ok(size_of(read_all(alloc, &mut shelf, "any", limit)))
+}
+
 #[test]
 fn a_file_is_read_to_its_end_or_its_limit(rt: HostRuntime) -> Result<(), Fail> {
     let alloc = rt.alloc();
@@ -35,15 +49,13 @@ fn a_file_is_read_to_its_end_or_its_limit(rt: HostRuntime) -> Result<(), Fail> {
         (4097, 4096, false),
         (9000, 16_777_216, true),
     ] {
-        let mut shelf = SureShelf::new(alloc, vec![in alloc; 7u8; size]?)?;
-        let file = read_all(alloc, &mut shelf, "any", limit);
         let wanted = if fits {
             Ok(size)
         } else {
             Err(ReadAllFault::TooLarge)
         };
         assert_eq!(rt;
-            file.map(|bytes| bytes.len()),
+            size_read(alloc, size, limit)?,
             wanted,
             "{size} bytes at {limit}"
         );
@@ -51,33 +63,30 @@ fn a_file_is_read_to_its_end_or_its_limit(rt: HostRuntime) -> Result<(), Fail> {
     Ok(())
 }
 
+/// What is read of a file where this call of the shelf fails, and how many calls there are.
+fn read_with(alloc: Global, failing: u64) -> Result<(Result<usize, ReadAllFault>, u64), Fail> {
+    let mut shelf = shelf_with(alloc, failing)?;
+    let size = size_of(read_all(alloc, &mut shelf, "long", 5000));
+    Ok((size, shelf.calls()))
+}
+
 #[test]
 fn each_call_of_a_shelf_fails_in_turn(rt: HostRuntime) -> Result<(), Fail> {
     let alloc = rt.alloc();
     // One call opens the file, and three read 4,096 bytes, 904 bytes and the end.
-    for (failing, wanted, calls) in [
-        (1, Err(ReadAllFault::ReadFault), 1),
-        (2, Err(ReadAllFault::ReadFault), 2),
-        (3, Err(ReadAllFault::ReadFault), 3),
-        (4, Err(ReadAllFault::ReadFault), 4),
-        (5, Ok(5000), 4),
+    for (failing, wanted) in [
+        (1, (Err(ReadAllFault::ReadFault), 1)),
+        (2, (Err(ReadAllFault::ReadFault), 2)),
+        (3, (Err(ReadAllFault::ReadFault), 3)),
+        (4, (Err(ReadAllFault::ReadFault), 4)),
+        (5, (Ok(5000), 4)),
     ] {
-        let mut shelf = shelf_with(alloc, failing)?;
-        let file = read_all(alloc, &mut shelf, "long", 5000);
-        assert_eq!(rt;
-            file.map(|bytes| bytes.len()),
-            wanted,
-            "call {failing} fails"
-        );
-        assert_eq!(rt; shelf.calls(), calls, "call {failing} fails");
+        assert_eq!(rt; read_with(alloc, failing)?, wanted, "call {failing} fails");
     }
     Ok(())
 }
 
-#[test]
-fn a_shelf_has_files_by_name(rt: HostRuntime) -> Result<(), Fail> {
-    let alloc = rt.alloc();
-    let mut shelf = shelf_with(alloc, 0)?;
+fn assert_files_by_name(rt: &impl Abort, shelf: &mut MemShelf) {
     let mut buf = [0; 2];
     assert_eq!(rt; shelf.read(&mut buf), Ok(0), "nothing is open");
     assert_eq!(rt; shelf.open_file("other"), Err(Failed));
@@ -87,33 +96,47 @@ fn a_shelf_has_files_by_name(rt: HostRuntime) -> Result<(), Fail> {
     assert_eq!(rt; shelf.read(&mut buf), Ok(1));
     assert_eq!(rt; buf[0], b'c');
     assert_eq!(rt; shelf.calls(), 5);
+}
+
+#[test]
+fn a_shelf_has_files_by_name(rt: HostRuntime) -> Result<(), Fail> {
+    let mut shelf = shelf_with(rt.alloc(), 0)?;
+    assert_files_by_name(&rt, &mut shelf);
+    Ok(())
+}
+
+/// Asserts that two texts, with nothing between them, end so and are written so where this call of the sink fails.
+fn assert_written(
+    rt: &impl Abort,
+    alloc: Global,
+    failing: u64,
+    ends: (Result<(), WriteAllFault>, Result<(), WriteAllFault>),
+    written: &str,
+) -> Result<(), Fail> {
+    let mut sink = MemSink::new(alloc, vec![in alloc; failing]?)?;
+    assert_eq!(rt;
+        write_all(&mut sink, b"one "),
+        ends.0,
+        "call {failing} fails"
+    );
+    assert_eq!(rt; write_all(&mut sink, b""), Ok(()), "call {failing} fails");
+    assert_eq!(rt;
+        write_all(&mut sink, b"two"),
+        ends.1,
+        "call {failing} fails"
+    );
+    assert_eq!(rt; sink.written(), written.as_bytes(), "call {failing} fails");
+    assert_eq!(rt; sink.calls(), 2);
     Ok(())
 }
 
 #[test]
 fn each_call_of_a_sink_fails_in_turn(rt: HostRuntime) -> Result<(), Fail> {
     let alloc = rt.alloc();
-    for (failing, first, second, written) in [
-        (0, Ok(()), Ok(()), "one two"),
-        (1, Err(WriteAllFault::WriteFault), Ok(()), "two"),
-        (2, Ok(()), Err(WriteAllFault::WriteFault), "one "),
-    ] {
-        let mut sink = MemSink::new(alloc, vec![in alloc; failing]?)?;
-        assert_eq!(rt;
-            write_all(&mut sink, b"one "),
-            first,
-            "call {failing} fails"
-        );
-        assert_eq!(rt; write_all(&mut sink, b""), Ok(()), "call {failing} fails");
-        assert_eq!(rt;
-            write_all(&mut sink, b"two"),
-            second,
-            "call {failing} fails"
-        );
-        assert_eq!(rt; sink.written(), written.as_bytes(), "call {failing} fails");
-        assert_eq!(rt; sink.calls(), 2);
-    }
-    Ok(())
+    let fault = Err(WriteAllFault::WriteFault);
+    assert_written(&rt, alloc, 0, (Ok(()), Ok(())), "one two")?;
+    assert_written(&rt, alloc, 1, (fault, Ok(())), "two")?;
+    assert_written(&rt, alloc, 2, (Ok(()), fault), "one ")
 }
 
 #[test]

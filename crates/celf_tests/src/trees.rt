@@ -25,12 +25,18 @@ pub fn atom(alloc: Global, family: u32) -> Ty
 pub fn function(alloc: Global, mode: Mode, dom: Ty, cod: Ty) -> Result<Ty, AllocError>
     ensures { IfOk result (λ ty. plain_ty ty ≡ function_type mode (plain_ty dom) (plain_ty cod)) }
 {
-    let dom = Boxed::new(alloc, dom)?;
-    Ok(Ty::Fun {
-        mode,
-        dom,
-        cod: Boxed::new(alloc, cod)?,
-    })
+    match Boxed::new(alloc, dom) {
+        Ok(dom) => Ok(Ty::Fun {
+            mode,
+            dom,
+            cod: Boxed::new(alloc, cod)?,
+        }),
+        Err(error) => {
+            // By a call: dropped here, each form of the tree would be a case of this function.
+            drop(cod);
+            Err(error)
+        }
+    }
 }
 
 /// A family without arguments.
