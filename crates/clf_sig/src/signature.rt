@@ -1,5 +1,5 @@
 //! The signature.
-ghost use Rattle.std.specs.Prelude.{◌≡◌, ◌≤◌, [], ◌∷◌, ◌++◌, map, length, slice_get, option_copied, option_map, IfOk, OnOk, OnErr, IfSome, IsSome, IsTrue, ◌↔◌};
+ghost use Rattle.std.specs.Prelude.{◌≡◌, ◌≤◌, ◌<◌, [], is_some, false, ◌∷◌, ◌++◌, map, length, slice_get, option_copied, option_map, string_bytes, IfOk, OnOk, OnErr, IfSome, IsSome, IsTrue, ◌↔◌};
 ghost use Rattle.clf_syntax.specs.PlainSimple.{plain_simple};
 ghost use Rattle.clf_sig.specs.Entry.{names, IsNamed, HasDistinctNames, place_of, entry_at, class_at, simple_class, simple_types};
 ghost use Rattle.clf_sig.specs.Signature.{entries, plain_class, plain_entry, plain_signature};
@@ -7,7 +7,7 @@ ghost use Rattle.clf_sig.specs.Signature.{entries, plain_class, plain_entry, pla
 use crate::entry::{Class, Entry};
 use clf_syntax::{Simple, erase};
 use indexmap::IndexMap;
-use std::alloc::{AllocError, AllocFailed, Global};
+use std::alloc::{AllocError, Global};
 use std::marker::Model;
 
 /// The most entries that a signature has.
@@ -19,28 +19,6 @@ pub enum AddFault {
     Duplicate,
     Full,
     NoMemory,
-}
-
-impl From<AllocError> for AddFault {
-    ghost use Rattle.std.specs.Prelude.{◌≡◌};
-    ghost use Rattle.clf_sig.specs.declared.signature.AddFault.TheVariants.{NoMemory};
-
-    ghost from_gives = { λ _ e. e ≡ NoMemory };
-
-    fn from(_error: AllocError) -> AddFault {
-        AddFault::NoMemory
-    }
-}
-
-impl<T: Drop> From<AllocFailed<T>> for AddFault {
-    ghost use Rattle.std.specs.Prelude.{◌≡◌};
-    ghost use Rattle.clf_sig.specs.declared.signature.AddFault.TheVariants.{NoMemory};
-
-    ghost from_gives = { λ _ e. e ≡ NoMemory };
-
-    fn from(_failed: AllocFailed<T>) -> AddFault {
-        AddFault::NoMemory
-    }
 }
 
 /// The declarations so far, which contracts see as the list of names and entries, oldest first.
@@ -144,23 +122,62 @@ impl Signature {
         ensures unchanged { OnErr result (self.new ≡ self.old) }
     {
         if self.find(name).is_some() {
+            drop(entry);
             return Err(AddFault::Duplicate);
         }
-        let place = self.declared.len();
+        let place = self.len();
         if place >= MAX_ENTRIES {
+            drop(entry);
             return Err(AddFault::Full);
         }
-        let key = String::from_str(self.alloc, name)?;
-        let simple = simple_of(self.alloc, &entry.class)?;
-        self.simples.push(simple)?;
+        match self.put(name, entry) {
+            Ok(()) => Ok(place as u32),
+            Err(_) => Err(AddFault::NoMemory),
+        }
+    }
+
+    /// Puts an entry of a new name behind all others.
+    fn put(&mut self, name: &str, entry: Entry) -> Result<(), AllocError>
+        requires absent { is_some (place_of name.now (plain_signature self.old)) ≡ false }
+        requires room { length self.old < MAX_ENTRIES }
+        ensures added { OnOk result (self.new ≡ self.old ++ (name.now, entry) ∷ []) }
+        ensures unchanged { OnErr result (self.new ≡ self.old) }
+    {
+        let (key, simple) = match key_and_simple(self.alloc, name, &entry.class) {
+            Ok(made) => made,
+            Err(failed) => {
+                drop(entry);
+                return Err(failed);
+            }
+        };
+        if let Err(failed) = self.simples.push(simple) {
+            drop(failed);
+            drop(key);
+            drop(entry);
+            return Err(AllocError);
+        }
         match self.declared.insert(key, entry) {
-            Ok(_) => Ok(place as u32),
-            Err(_) => {
-                self.simples.pop();
-                Err(AddFault::NoMemory)
+            Ok(was) => {
+                drop(was);
+                Ok(())
+            }
+            Err(failed) => {
+                drop(failed);
+                drop(self.simples.pop());
+                Err(AllocError)
             }
         }
     }
+}
+
+/// What the signature keeps of a new entry beside itself: its name, and the simple type that stands for its class.
+fn key_and_simple(alloc: Global, name: &str, class: &Class) -> Result<(String, Simple), AllocError>
+    ensures key { IfOk result (λ made. string_bytes made.0 ≡ name.now) }
+    ensures simple { IfOk result (λ made. plain_simple made.1 ≡ simple_class (plain_class class.now)) }
+{
+    let key = String::from_str(alloc, name)?;
+    let simple = simple_of(alloc, class)?;
+    Ok((key, simple))
 }
 
 /// The simple type that stands for a class: that of a constant's type, and `Top` for a family.
