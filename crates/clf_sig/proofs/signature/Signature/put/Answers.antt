@@ -1,5 +1,5 @@
 -- The key is new, so its entry goes behind all others.
-use Rattle.std.proofs.Common.{◌≡◌, ◌++◌, ◌∷◌, [], refl, sym, ap, ◌∙◌, is_some, false, string_bytes, length, ◌+◌, arith}
+use Rattle.std.proofs.Common.{◌≡◌, ◌++◌, ◌∷◌, [], ap, ◌∙◌, is_some, false, string_bytes, length, ◌+◌, arith}
 use Rattle.std.proofs.lemmas.List.{length-append, length-map}
 use Rattle.clf_sig.specs.Entry.{place_of}
 use Rattle.clf_sig.specs.Signature.{plain_signature}
