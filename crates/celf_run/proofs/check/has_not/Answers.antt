@@ -1,4 +1,4 @@
-use Rattle.std.proofs.Common.{◌∙◌, ◌∷◌, List, ℕ, subst, append-nil}
+use Rattle.std.proofs.Common.{◌∙◌, List, ℕ, subst, append-nil}
 use Rattle.std.specs.Prelude.{IfOk}
 use Rattle.celf_run.specs.declared.answer.Answered.{Answered}
 use Rattle.celf_run.specs.Answering.{RefusedSo}

@@ -1,5 +1,4 @@
-use Rattle.std.proofs.Common.{◌≡◌, ◌∙◌, ◌∷◌, [], List, ℕ, ap, refl, subst, reverse, append-nil, Result, Ok, Err}
-use Rattle.std.specs.Prelude.{IfOk}
+use Rattle.std.proofs.Common.{◌≡◌, ◌∷◌, [], List, ℕ, ap, refl, subst, reverse, Result, Ok, Err}
 use Rattle.clf_syntax.specs.Plain.{plain_obj}
 use Rattle.clf_syntax.specs.PlainTypes.{plain_ty}
 use Rattle.clf_sig.specs.Signature.{plain_signature}
@@ -17,8 +16,6 @@ use Rattle.celf_reading.proofs.Bare.{without_indices-bare}
 use Rattle.celf_reading.proofs.WithinReach.{simple-signature}
 use Rattle.celf_reading.proofs.ChecksBack.{checks_read_back}
 use Rattle.celf_run.specs.Causes.{kernel_why}
-use Rattle.celf_run.specs.declared.answer.Answered.{Answered}
-use Rattle.celf_run.specs.Answering.{RefusedSo}
 use Rattle.celf_run.specs.Transcript.{Judged, has_none, has_type, typed}
 use Rattle.celf_run.proofs.Answering.{refusal-answers}
 use Rattle.celf_run.proofs.check.judge.Goals as goal
