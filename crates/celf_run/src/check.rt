@@ -1,21 +1,23 @@
 //! Answers to checks.
-ghost use Rattle.std.specs.Prelude.{◌≡◌, ◌<◌, ◌^◌, IfOk, OnOk, true};
+ghost use Rattle.std.specs.Prelude.{◌≡◌, ◌<◌, ◌^◌, ◌∷◌, IfOk, OnOk, true};
 ghost use Rattle.clf_syntax.specs.Plain.{plain_obj};
 ghost use Rattle.clf_syntax.specs.PlainTypes.{plain_ty};
 ghost use Rattle.clf_sig.specs.Signature.{plain_signature};
+ghost use Rattle.clf_kernel.specs.Answers.{plain_cause};
 ghost use Rattle.clf_kernel.specs.Reach.{without_monads};
 ghost use Rattle.clf_printer.specs.Depth.{scope_depth};
 ghost use Rattle.celf_sugar.specs.Plain.{plain_item, plain_object, plain_type};
 ghost use Rattle.celf_reading.specs.Bare.{IsBareSignature, IsBareType};
 ghost use Rattle.celf_reading.specs.Checks.{check_line as check_line_of};
 ghost use Rattle.celf_run.specs.Transcript.{Checked, Judged};
-ghost use Rattle.celf_run.specs.Answering.{AnswersBy};
+ghost use Rattle.celf_run.specs.Causes.{kernel_why as kernel_why_of};
+ghost use Rattle.celf_run.specs.Answering.{AnswersBy, RefusedSo};
 
 use crate::answer::{Answered, not_yet, refused, unknown_name};
 use crate::refusal::kernel_why;
 use celf_explicit::{first_unknown, read_check};
 use celf_sugar::{PObj, PTy, Plain};
-use clf_kernel::check_object;
+use clf_kernel::{Refusal, check_object};
 use clf_printer::{object_text, type_text};
 use clf_sig::Signature;
 use clf_syntax::{Obj, OrWide, Ty};
@@ -66,18 +68,42 @@ fn judge(
     let holding = Holding {
         held: Items::new(alloc),
     };
-    match check_object(alloc, sig, &ctx, &holding, obj, ty) {
-        Ok(_left) => Ok(Answered {
-            line: check_line(alloc, sig, obj, ty)?,
-            refused: false,
-        }),
-        Err(OrWide::Fault(refusal)) => {
-            let why = kernel_why(alloc, sig, &refusal)?;
-            refused(alloc, plain.span.start, why.as_slice(), b"")
+    let judged = check_object(alloc, sig, &ctx, &holding, obj, ty);
+    drop(ctx);
+    drop(holding);
+    match judged {
+        Ok(left) => {
+            drop(left);
+            Ok(Answered {
+                line: check_line(alloc, sig, obj, ty)?,
+                refused: false,
+            })
         }
+        Err(OrWide::Fault(refusal)) => {
+            let answered = has_not(alloc, sig, plain.span.start, &refusal);
+            drop(refusal);
+            answered
+        }
+        Err(OrWide::NoMemory) => Err(AllocError),
         // A list of so many binders is never there: it counts as want of memory.
-        Err(OrWide::NoMemory | OrWide::TooFar(_)) => Err(AllocError),
+        Err(OrWide::TooFar(wide)) => {
+            drop(wide);
+            Err(AllocError)
+        }
     }
+}
+
+/// The refusal of an object that has not its type.
+fn has_not(
+    alloc: Global,
+    sig: &Signature,
+    at: u32,
+    refusal: &Refusal,
+) -> Result<Answered, AllocError>
+    ensures { IfOk result (λ a. RefusedSo at (kernel_why_of (plain_signature sig.now) (1 ∷ refusal.now.path.items) (plain_cause refusal.now.cause)) a.refused a.line.items) }
+{
+    let why = kernel_why(alloc, sig, refusal)?;
+    refused(alloc, at, why.as_slice(), b"")
 }
 
 /// The line of an object and its type.

@@ -1,4 +1,4 @@
-use Rattle.std.proofs.Common.{◌≡◌, ◌∙◌, ap, sym, Some, None, option_copied, option_map}
+use Rattle.std.proofs.Common.{◌∙◌, ap, sym, option_copied, option_map}
 use Rattle.clf_syntax.specs.Plain.{plain_obj}
 use Rattle.clf_syntax.specs.PlainTypes.{plain_ty}
 use Rattle.clf_sig.specs.Signature.{plain_signature}

@@ -1,5 +1,4 @@
-use Rattle.std.proofs.Common.{◌≡◌, ◌∙◌, ◌∷◌, [], List, ℕ, ap, refl, subst, reverse, append-nil, Result, Ok, Err}
-use Rattle.std.specs.Prelude.{IfOk}
+use Rattle.std.proofs.Common.{◌≡◌, ◌∷◌, [], List, ℕ, ap, refl, subst, reverse, Result, Ok, Err}
 use Rattle.clf_syntax.specs.Plain.{plain_obj}
 use Rattle.clf_syntax.specs.PlainTypes.{plain_ty}
 use Rattle.clf_sig.specs.Signature.{plain_signature}
@@ -17,17 +16,15 @@ use Rattle.celf_reading.proofs.Bare.{without_indices-bare}
 use Rattle.celf_reading.proofs.WithinReach.{simple-signature}
 use Rattle.celf_reading.proofs.ChecksBack.{checks_read_back}
 use Rattle.celf_run.specs.Causes.{kernel_why}
-use Rattle.celf_run.specs.declared.answer.Answered.{Answered}
-use Rattle.celf_run.specs.Answering.{RefusedSo}
 use Rattle.celf_run.specs.Transcript.{Judged, has_none, has_type, typed}
 use Rattle.celf_run.proofs.Answering.{refusal-answers}
 use Rattle.celf_run.proofs.check.judge.Goals as goal
 
-pub check_object-requires-clause-signature : goal.check_object-requires-clause-signature
-check_object-requires-clause-signature c = simple-signature (plain_signature c.args.sig.now) c.requires.bare
+pub check_object-judged-requires-clause-signature : goal.check_object-judged-requires-clause-signature
+check_object-judged-requires-clause-signature c = simple-signature (plain_signature c.args.sig.now) c.requires.bare
 
-pub check_object-requires-clause-ty : goal.check_object-requires-clause-ty
-check_object-requires-clause-ty c = without_indices-bare (plain_signature c.args.sig.now) (plain_ty c.args.ty.now) c.requires.ty
+pub check_object-judged-requires-clause-ty : goal.check_object-judged-requires-clause-ty
+check_object-judged-requires-clause-ty c = without_indices-bare (plain_signature c.args.sig.now) (plain_ty c.args.ty.now) c.requires.ty
 
 -- what the kernel answers in the empty context and its holding
 answers-empty : (sig : _) (g : Context) (h : Holding) (n : _) (a : _) (r : Result Left (OrWide Refusal)) → g ≡ [] → h ≡ [] → ChecksObject sig g h n a r → ChecksObject sig [] [] n a r
@@ -40,12 +37,12 @@ refusal-empty sig g h n a f r e k i x =
     let told = answers-empty sig g h n a (Err (Fault r)) e k (subst (λ (y : OrWide Refusal). ChecksObject sig g h n a (Err y)) i x) in
     (told.0 [] (refl, tt), told.1)
 
-pub returns-in-Ok : goal.returns-in-Ok
-returns-in-Ok c =
+pub returns-in_ok-check_line-in-Ok : goal.returns-in_ok-check_line-in-Ok
+returns-in_ok-check_line-in-Ok c =
     let sig = plain_signature c.args.sig.now in
     let n = plain_obj c.args.obj.now in
     let a = plain_ty c.args.ty.now in
-    let told = answers-empty sig _ _ n a (Ok c.in-Ok._left) c.empty-ctx.ensures (ap reverse c.new.ensures) c.in-Ok.ensures.exact in
+    let told = answers-empty sig _ _ n a (Ok c.in-Ok.left) c.empty-ctx.ensures (ap reverse c.new.ensures) c.in-Ok.ensures.exact in
     let has = told.2 [] (refl, tt) (refl, tt) in
     let back = checks_read_back sig n a c.requires.bare c.requires.ty c.in_ok-check_line-in-Ok.ensures.depth has in
     record { answered = (typed n a, has_type has back, c.in_ok-check_line-in-Ok.ensures.line, refl, refl) }
@@ -59,6 +56,4 @@ returns-in-Err-Fault c =
     let start = c.args.plain.now.span.start in
     let why : List ℕ = kernel_why sig (1 ∷ r.path.items) (plain_cause r.cause) in
     let told = refusal-empty sig _ _ n a c.in-Err-Fault.field-0 r c.empty-ctx.ensures (ap reverse c.new.ensures) c.in-Err-Fault.field-0-is c.in-Err-Fault.ensures.exact in
-    let words = append-nil c.as_slice.result.now ∙ c.as_slice.ensures.value ∙ c.in_ok-why-in-Err-Fault.ensures in
-    let said = subst (λ (w : List ℕ). IfOk c.refused.result (λ (x : Answered). RefusedSo start w x.refused x.line.items)) words c.refused.ensures in
-    record { answered = refusal-answers (Judged sig start n a) sig start why c.refused.result (has_none told.0 told.1) said }
+    record { answered = refusal-answers (Judged sig start n a) sig start why c.has_not-answered.result (has_none told.0 told.1) c.has_not-answered.ensures }
