@@ -1,4 +1,3 @@
-use Rattle.std.proofs.Common.{rules}
 use Rattle.celf_grammar.specs.Grammar.{body_query}
 use Rattle.celf_parser.proofs.BodyFaults.{bounded-fault}
 use Rattle.celf_cursor.proofs.Faulty.{passed, refused}
