@@ -51,7 +51,6 @@ fn item_type_at(alloc: Global, bytes: &[u8], cursor: Cursor) -> Result<(SType, C
 }
 
 /// An object in a box. There it is dropped by a call: dropped in place, each of its forms would be a case of the function that reads on.
-#[tactic(auto, using(crate::proofs::TypeFaults::memory_faults))]
 fn boxed_object_at(
     alloc: Global,
     bytes: &[u8],
@@ -86,7 +85,6 @@ fn declaration_at(alloc: Global, bytes: &[u8], cursor: Cursor) -> Result<(ItemBo
 }
 
 /// A directive.
-#[tactic(auto, using(crate::proofs::BodyFaults::directive_faults))]
 fn directive_at(
     alloc: Global,
     bytes: &[u8],

@@ -25,7 +25,6 @@ pub fn bound_at(bytes: &[u8], cursor: Cursor) -> Result<(Bound, Cursor), Stop>
 }
 
 /// The number of implicit arguments in brackets, where a bracket comes next. They are no nested part.
-#[tactic(auto, using(celf_grammar::specs::Grammar::implicit_steps, crate::proofs::BoundFaults::implicit_faults))]
 pub fn implicit_at(bytes: &[u8], cursor: Cursor) -> Result<(Option<Bound>, Cursor), Stop>
     requires cursor { IsCursorOf bytes.now cursor }
     ensures read { IfOk result (λ r. IsImplicit (state_of bytes.now cursor) r.0 (state_of bytes.now r.1)) }

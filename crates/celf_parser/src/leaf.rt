@@ -17,7 +17,6 @@ use sqlite_items::Boxed;
 use std::alloc::Global;
 
 /// A family with its indices.
-#[tactic(auto, using(crate::proofs::Reading::family_steps, crate::proofs::LeafFaults::family_faults))]
 pub fn family_at(
     alloc: Global,
     bytes: &[u8],
@@ -39,7 +38,6 @@ pub fn family_at(
 }
 
 /// The word `type`.
-#[tactic(auto, using(crate::proofs::Reading::word_steps, crate::proofs::LeafFaults::taken_faults))]
 pub fn word_at(alloc: Global, bytes: &[u8], cursor: Cursor) -> Result<(Boxed<SType>, Cursor), Stop>
     requires cursor { IsCursorOf bytes.now cursor }
     requires kind { kind_next bytes.now cursor ≡ TokenKind.KwType }
@@ -54,7 +52,6 @@ pub fn word_at(alloc: Global, bytes: &[u8], cursor: Cursor) -> Result<(Boxed<STy
 }
 
 /// `<T>`.
-#[tactic(auto, using(crate::proofs::Reading::top_steps, crate::proofs::LeafFaults::taken_faults))]
 pub fn top_at(alloc: Global, bytes: &[u8], cursor: Cursor) -> Result<(Boxed<SType>, Cursor), Stop>
     requires cursor { IsCursorOf bytes.now cursor }
     requires kind { kind_next bytes.now cursor ≡ TokenKind.TopSign }
@@ -69,7 +66,6 @@ pub fn top_at(alloc: Global, bytes: &[u8], cursor: Cursor) -> Result<(Boxed<STyp
 }
 
 /// `1`.
-#[tactic(auto, using(crate::proofs::Reading::one_steps, crate::proofs::LeafFaults::one_faults))]
 pub fn one_at(alloc: Global, bytes: &[u8], cursor: Cursor) -> Result<(Boxed<SType>, Cursor), Stop>
     requires cursor { IsCursorOf bytes.now cursor }
     requires kind { kind_next bytes.now cursor ≡ TokenKind.Number }

@@ -40,7 +40,6 @@ pub fn type_at(alloc: Global, bytes: &[u8], cursor: Cursor) -> Result<(Boxed<STy
 
 /// A `Pi` type, or a product with perhaps an arrow and a forward type behind it.
 #[cycle(types)]
-#[tactic(auto, using(crate::proofs::Reading::forward_steps, crate::proofs::TypeFaults::forward_faults))]
 fn forward_at(alloc: Global, bytes: &[u8], cursor: Cursor) -> Result<(Boxed<SType>, Cursor), Stop>
     requires cursor { IsCursorOf bytes.now cursor }
     ensures read { IfOk result (λ r. IsForward (state_of bytes.now cursor) (surface r.0) (state_of bytes.now r.1)) }
@@ -62,7 +61,6 @@ fn forward_at(alloc: Global, bytes: &[u8], cursor: Cursor) -> Result<(Boxed<STyp
 
 /// `Pi NAME: type. type`.
 #[cycle(types)]
-#[tactic(auto, using(crate::proofs::Reading::pi_steps, crate::proofs::TypeFaults::memory_faults))]
 fn pi_at(alloc: Global, bytes: &[u8], cursor: Cursor) -> Result<(Boxed<SType>, Cursor), Stop>
     requires cursor { IsCursorOf bytes.now cursor }
     requires kind { kind_next bytes.now cursor ≡ TokenKind.KwPi }
@@ -107,7 +105,6 @@ fn sync_at(alloc: Global, bytes: &[u8], cursor: Cursor) -> Result<(Boxed<SType>,
 
 /// `Exists NAME: type. sync`.
 #[cycle(types)]
-#[tactic(auto, using(crate::proofs::Reading::exists_steps, crate::proofs::TypeFaults::memory_faults))]
 fn exists_at(alloc: Global, bytes: &[u8], cursor: Cursor) -> Result<(Boxed<SType>, Cursor), Stop>
     requires cursor { IsCursorOf bytes.now cursor }
     requires kind { kind_next bytes.now cursor ≡ TokenKind.KwExists }
@@ -143,7 +140,6 @@ fn factor_at(alloc: Global, bytes: &[u8], cursor: Cursor) -> Result<(Boxed<SType
 
 /// An additive pair or a single atom behind a mark.
 #[cycle(types)]
-#[tactic(auto, using(crate::proofs::Reading::marked_steps, crate::proofs::TypeFaults::marked_faults))]
 fn marked_at(
     alloc: Global,
     bytes: &[u8],
@@ -167,7 +163,6 @@ fn marked_at(
 
 /// An additive pair or a single atom: atom [ '&' with ].
 #[cycle(types)]
-#[tactic(auto, using(crate::proofs::Reading::with_steps, crate::proofs::TypeFaults::with_faults))]
 fn with_at(alloc: Global, bytes: &[u8], cursor: Cursor) -> Result<(Boxed<SType>, Cursor), Stop>
     requires cursor { IsCursorOf bytes.now cursor }
     ensures read { IfOk result (λ r. IsWith (state_of bytes.now cursor) (surface r.0) (state_of bytes.now r.1)) }
@@ -210,7 +205,6 @@ fn atom_at(alloc: Global, bytes: &[u8], cursor: Cursor) -> Result<(Boxed<SType>,
 
 /// A type in braces.
 #[cycle(types)]
-#[tactic(auto, using(crate::proofs::Reading::braces_steps, crate::proofs::TypeFaults::memory_faults))]
 fn braces_at(alloc: Global, bytes: &[u8], cursor: Cursor) -> Result<(Boxed<SType>, Cursor), Stop>
     requires cursor { IsCursorOf bytes.now cursor }
     requires kind { kind_next bytes.now cursor ≡ TokenKind.LeftBrace }
@@ -227,7 +221,6 @@ fn braces_at(alloc: Global, bytes: &[u8], cursor: Cursor) -> Result<(Boxed<SType
 
 /// A type between two brackets, which are a nested part.
 #[cycle(types)]
-#[tactic(auto, using(crate::proofs::Reading::enclosed_steps, crate::proofs::TypeFaults::enclosed_faults))]
 fn enclosed_at(
     alloc: Global,
     bytes: &[u8],
@@ -251,7 +244,6 @@ fn enclosed_at(
 }
 
 /// A binder of a type, up to its colon.
-#[tactic(auto, using(crate::proofs::Reading::binds_steps, crate::proofs::TypeFaults::binder_faults))]
 fn binder_at(
     alloc: Global,
     bytes: &[u8],
