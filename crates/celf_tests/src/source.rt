@@ -86,15 +86,25 @@ fn each_call_of_a_shelf_fails_in_turn(rt: HostRuntime) -> Result<(), Fail> {
     Ok(())
 }
 
-fn assert_files_by_name(rt: &impl Abort, shelf: &mut MemShelf) {
+/// Asserts that a file is opened, or is not.
+fn assert_opened(rt: &impl Abort, shelf: &mut MemShelf, name: &str, opened: Result<(), Failed>) {
+    assert_eq!(rt; shelf.open_file(name), opened);
+}
+
+/// Asserts that two bytes are asked for, and these come.
+fn assert_read(rt: &impl Abort, shelf: &mut MemShelf, bytes: &[u8]) {
     let mut buf = [0; 2];
-    assert_eq!(rt; shelf.read(&mut buf), Ok(0), "nothing is open");
-    assert_eq!(rt; shelf.open_file("other"), Err(Failed));
-    assert_eq!(rt; shelf.open_file("short"), Ok(()));
-    assert_eq!(rt; shelf.read(&mut buf), Ok(2));
-    assert_eq!(rt; buf, *b"ab");
-    assert_eq!(rt; shelf.read(&mut buf), Ok(1));
-    assert_eq!(rt; buf[0], b'c');
+    assert_eq!(rt; shelf.read(&mut buf), Ok(bytes.len()));
+    assert!(rt; buf.starts_with(bytes));
+}
+
+fn assert_files_by_name(rt: &impl Abort, shelf: &mut MemShelf) {
+    // Nothing is open.
+    assert_read(rt, shelf, b"");
+    assert_opened(rt, shelf, "other", Err(Failed));
+    assert_opened(rt, shelf, "short", Ok(()));
+    assert_read(rt, shelf, b"ab");
+    assert_read(rt, shelf, b"c");
     assert_eq!(rt; shelf.calls(), 5);
 }
 
@@ -103,6 +113,11 @@ fn a_shelf_has_files_by_name(rt: HostRuntime) -> Result<(), Fail> {
     let mut shelf = shelf_with(rt.alloc(), 0)?;
     assert_files_by_name(&rt, &mut shelf);
     Ok(())
+}
+
+/// Asserts that this text is written with this end.
+fn assert_end(rt: &impl Abort, sink: &mut MemSink, text: &[u8], end: Result<(), WriteAllFault>) {
+    assert_eq!(rt; write_all(sink, text), end);
 }
 
 /// Asserts that two texts, with nothing between them, end so and are written so where this call of the sink fails.
@@ -114,17 +129,9 @@ fn assert_written(
     written: &str,
 ) -> Result<(), Fail> {
     let mut sink = MemSink::new(alloc, vec![in alloc; failing]?)?;
-    assert_eq!(rt;
-        write_all(&mut sink, b"one "),
-        ends.0,
-        "call {failing} fails"
-    );
-    assert_eq!(rt; write_all(&mut sink, b""), Ok(()), "call {failing} fails");
-    assert_eq!(rt;
-        write_all(&mut sink, b"two"),
-        ends.1,
-        "call {failing} fails"
-    );
+    assert_end(rt, &mut sink, b"one ", ends.0);
+    assert_end(rt, &mut sink, b"", Ok(()));
+    assert_end(rt, &mut sink, b"two", ends.1);
     assert_eq!(rt; sink.written(), written.as_bytes(), "call {failing} fails");
     assert_eq!(rt; sink.calls(), 2);
     Ok(())
