@@ -14,7 +14,7 @@ use Rattle.celf_cursor.specs.declared.cursor.Cursor.{Cursor}
 use Rattle.celf_cursor.specs.declared.stop.Stop.{Stop}
 use Rattle.celf_cursor.specs.Cursor.{state_of, kind_next, IsCursorOf, unexpected, Misses, MissesOpening, MissesWord}
 use Rattle.celf_cursor.specs.Faults.{IsFaultOf}
-use Rattle.celf_cursor.proofs.Faulty.{fault-moved, fault-stops, opening-missed, taken-missed, name-missed, constant-missed}
+use Rattle.celf_cursor.proofs.Faulty.{fault-moved, fault-stops, opening-missed}
 use Rattle.celf_cursor.proofs.Ends.{opens-end, takes-end, closes-end, mark-end, binder-end, pattern-end, object-end, application-end, arguments-end, atom-end, expression-end, steps-end, tuples-end, indices-end}
 use Rattle.celf_objects.proofs.PatternFaults.{not-one-word, bracket-not}
 
@@ -214,11 +214,3 @@ bare-fault {s = s} {k} n b m a f = fault-moved (tuple-object s k (not-number s n
 pub tuples_next-fault : {text : List ℕ} {s u v : State} {ts : List TupleTree} {k : List Symbol} {e : Stop}
     → IsTuples s ts u → Takes token.Comma u v → ((j : List Symbol) → IsFaultOf text (Tuple ∷ j) v e) → IsFaultOf text (Tuple ∷ TupleTail ∷ k) s e
 tuples_next-fault {k = k} ts c f = fault-moved (tuples-accept ts k ∙ tuple_tail-more c k) (tuples-end ts ∙ takes-end c) (f _)
-
-pub ruleset name_faults = (name-missed)
-
-pub ruleset constant_faults = (constant-missed)
-
-pub ruleset leaf_faults = (taken-missed)
-
-pub ruleset index_faults = (taken-missed, index_banged-fault, index_bare-fault)

@@ -57,5 +57,3 @@ pattern_closing-fault {v = v} {k = k} o ps i f = fault-moved (pattern-opens o k 
 pub patterns_next-fault : {text : List ℕ} {s u v : State} {ps : List PatternTree} {k : List Symbol} {e : Stop}
     → IsPatterns s ps u → Takes token.Comma u v → IsFaultOf text (Pattern ∷ PatternTail ∷ k) v e → IsFaultOf text (Pattern ∷ PatternTail ∷ k) s e
 patterns_next-fault {k = k} ps c f = fault-moved (patterns-accept ps k ∙ pattern_tail-more c k) (patterns-end ps ∙ takes-end c) f
-
-pub ruleset pattern_entry_faults = (pattern_entry-fault, pattern_mark-fault)

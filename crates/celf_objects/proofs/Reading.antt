@@ -4,9 +4,9 @@ use Rattle.celf_lexer.specs.declared.token.TokenKind.TheVariants as token
 use Rattle.clf_syntax.specs.declared.tree.Mode.TheVariants.{Persistent, Affine}
 use Rattle.celf_surface.specs.declared.surface.SMode.{SMode}
 use Rattle.celf_surface.specs.declared.surface.Span.{Span}
-use Rattle.celf_surface.specs.Surface.{Pattern, pattern_one, pattern_entry, pattern_list, patterns_of, Object, lam, named, hole, unit, pair, braces, first, second, Steps, steps_of, Tuple, tuple_one, tuple_list, tuple_marked, tuple_bare, tuples_of, form-Named, form-Hole, form-Unit, pattern-Entry}
+use Rattle.celf_surface.specs.Surface.{Pattern, pattern_one, pattern_entry, pattern_list, patterns_of, Object, lam, named, hole, unit, pair, braces, first, second, Steps, steps_of, Tuple, tuple_one, tuple_list, tuple_marked, tuple_bare, tuples_of}
 use Rattle.celf_grammar.specs.State.{State, span_to, Ends, Takes, Opens, Closes, EndsPart, TakesName, TakesConstant, TakesOne}
-use Rattle.celf_grammar.specs.Grammar.{IsMark, IsBinder, IsPattern, pat_one, pat_entry, pat_list, IsPatterns, pats_first, pats_more, is_comma, is_let, begins_argument, applied, IsObject, obj_lambda, IsApplication, app_all, IsArguments, args_none, args_more, IsAtom, atom_name, atom_constant, atom_hole, atom_unit, atom_pair, atom_braces, atom_first, atom_second, IsExpression, expr_all, IsSteps, steps_none, steps_more, IsStep, step_let, IsTuple, tup_one, tup_list, tup_persistent, tup_affine, tup_bare, IsTuples, tups_first, tups_more, IsIndex, index_bare, index_banged, IsIndices, indices_none, indices_more}
+use Rattle.celf_grammar.specs.Grammar.{IsMark, IsBinder, IsPattern, pat_one, pat_entry, pat_list, IsPatterns, pats_first, pats_more, is_comma, is_let, begins_argument, applied, IsObject, obj_lambda, IsApplication, app_all, IsArguments, args_none, args_more, IsAtom, atom_name, atom_constant, atom_hole, atom_unit, atom_pair, atom_braces, atom_first, atom_second, IsExpression, expr_all, IsSteps, steps_none, steps_more, IsStep, step_let, IsTuple, tup_one, tup_list, tup_persistent, tup_affine, tup_bare, IsTuples, tups_first, tups_more, IsIndex, IsIndices, indices_none, indices_more}
 
 pub pattern_one-read : {s u : State} {p : Pattern} → TakesOne s u → p ≡ pattern_one → IsPattern s p u
 pattern_one-read {s} {u} h e = subst (λ (p : Pattern). IsPattern s p u) (sym e) (pat_one h)
@@ -121,15 +121,3 @@ indices_none-read {s} e = subst (λ (l : List Object). IsIndices s l s) (sym e) 
 
 pub indices_more-read : {s u v : State} {os ps : List Object} {o : Object} → IsIndices s os u → IsIndex u o v → ps ≡ os ++ (o ∷ []) → IsIndices s ps v
 indices_more-read {s} {v = v} h g e = subst (λ (l : List Object). IsIndices s l v) (sym e) (indices_more h g)
-
-pub ruleset pattern_entry_steps = (pattern_entry-read, pattern-Entry)
-
-pub ruleset name_steps = (name-read, form-Named)
-
-pub ruleset constant_steps = (constant-read, form-Named)
-
-pub ruleset hole_steps = (hole-read, form-Hole)
-
-pub ruleset unit_steps = (unit-read, form-Unit)
-
-pub ruleset index_steps = (index_bare, index_banged)

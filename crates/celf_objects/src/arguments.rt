@@ -42,7 +42,6 @@ pub(crate) fn arguments_at(
 }
 
 /// An index: an atom, which may have a `!`.
-#[tactic(auto, using(crate::proofs::Reading::index_steps, crate::proofs::ObjectFaults::index_faults))]
 fn index_at(alloc: Global, bytes: &[u8], cursor: Cursor) -> Result<(SObj, Cursor), Stop>
     requires cursor { IsCursorOf bytes.now cursor }
     ensures read { IfOk result (λ r. IsIndex (state_of bytes.now cursor) (object_tree r.0) (state_of bytes.now r.1)) }

@@ -42,7 +42,6 @@ pub fn atom_at(alloc: Global, bytes: &[u8], cursor: Cursor) -> Result<(SObj, Cur
 }
 
 /// A name as an atom.
-#[tactic(auto, using(crate::proofs::Reading::name_steps, crate::proofs::ObjectFaults::name_faults))]
 fn name_at(alloc: Global, bytes: &[u8], cursor: Cursor) -> Result<(SObj, Cursor), Stop>
     requires cursor { IsCursorOf bytes.now cursor }
     requires kind { IsTrue (is_name_kind (kind_next bytes.now cursor)) }
@@ -60,7 +59,6 @@ fn name_at(alloc: Global, bytes: &[u8], cursor: Cursor) -> Result<(SObj, Cursor)
 }
 
 /// A constant name as an atom.
-#[tactic(auto, using(crate::proofs::Reading::constant_steps, crate::proofs::ObjectFaults::constant_faults))]
 fn constant_at(alloc: Global, bytes: &[u8], cursor: Cursor) -> Result<(SObj, Cursor), Stop>
     requires cursor { IsCursorOf bytes.now cursor }
     requires kind { kind_next bytes.now cursor ≡ TokenKind.ConstName }
@@ -75,7 +73,6 @@ fn constant_at(alloc: Global, bytes: &[u8], cursor: Cursor) -> Result<(SObj, Cur
 }
 
 /// `_`.
-#[tactic(auto, using(crate::proofs::Reading::hole_steps, crate::proofs::ObjectFaults::leaf_faults))]
 fn hole_at(bytes: &[u8], cursor: Cursor) -> Result<(SObj, Cursor), Stop>
     requires cursor { IsCursorOf bytes.now cursor }
     requires kind { kind_next bytes.now cursor ≡ TokenKind.Hole }
@@ -92,7 +89,6 @@ fn hole_at(bytes: &[u8], cursor: Cursor) -> Result<(SObj, Cursor), Stop>
 }
 
 /// `<>`.
-#[tactic(auto, using(crate::proofs::Reading::unit_steps, crate::proofs::ObjectFaults::leaf_faults))]
 fn unit_at(bytes: &[u8], cursor: Cursor) -> Result<(SObj, Cursor), Stop>
     requires cursor { IsCursorOf bytes.now cursor }
     requires kind { kind_next bytes.now cursor ≡ TokenKind.UnitSign }

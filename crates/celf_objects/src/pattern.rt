@@ -35,7 +35,6 @@ pub fn pattern_at(alloc: Global, bytes: &[u8], cursor: Cursor) -> Result<(SPat, 
 }
 
 /// An entry of a pattern.
-#[tactic(auto, using(crate::proofs::Reading::pattern_entry_steps, crate::proofs::PatternFaults::pattern_entry_faults))]
 fn pattern_entry_at(alloc: Global, bytes: &[u8], cursor: Cursor) -> Result<(SPat, Cursor), Stop>
     requires cursor { IsCursorOf bytes.now cursor }
     requires not_one { kind_next bytes.now cursor ≢ TokenKind.Number }

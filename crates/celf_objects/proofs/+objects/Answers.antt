@@ -109,6 +109,51 @@ tuple::tuples_at-returns-in_err-push-clause-fault t c = search (tests, rules, me
 pub tuple::tuples_at-returns-in_err-tuple-clause-fault : goal.tuple::tuples_at-returns-in_err-tuple-clause-fault
 tuple::tuples_at-returns-in_err-tuple-clause-fault t c = search (tests, rules, tuples_next-fault)
 
+pub atom::atom_at-returns-in-Name : goal.atom::atom_at-returns-in-Name
+atom::atom_at-returns-in-Name t c = record { read = c.name_at.ensures.read; cursor = c.name_at.ensures.cursor; further = c.name_at.ensures.further; fault = c.name_at.ensures.fault }
+
+pub atom::atom_at-returns-in-ConstName : goal.atom::atom_at-returns-in-ConstName
+atom::atom_at-returns-in-ConstName t c = record { read = c.constant_at.ensures.read; cursor = c.constant_at.ensures.cursor; further = c.constant_at.ensures.further; fault = c.constant_at.ensures.fault }
+
+pub atom::atom_at-returns-in-Hole : goal.atom::atom_at-returns-in-Hole
+atom::atom_at-returns-in-Hole t c = record { read = c.hole_at.ensures.read; cursor = c.hole_at.ensures.cursor; further = c.hole_at.ensures.further; fault = c.hole_at.ensures.fault }
+
+pub atom::atom_at-returns-in-UnitSign : goal.atom::atom_at-returns-in-UnitSign
+atom::atom_at-returns-in-UnitSign t c = record { read = c.unit_at.ensures.read; cursor = c.unit_at.ensures.cursor; further = c.unit_at.ensures.further; fault = c.unit_at.ensures.fault }
+
+pub atom::atom_at-returns-in-Less : goal.atom::atom_at-returns-in-Less
+atom::atom_at-returns-in-Less t c = record { read = c.pair_at.ensures.read; cursor = c.pair_at.ensures.cursor; further = c.pair_at.ensures.further; fault = c.pair_at.ensures.fault }
+
+pub atom::atom_at-returns-in-LeftBrace : goal.atom::atom_at-returns-in-LeftBrace
+atom::atom_at-returns-in-LeftBrace t c = record { read = c.braces_at.ensures.read; cursor = c.braces_at.ensures.cursor; further = c.braces_at.ensures.further; fault = c.braces_at.ensures.fault }
+
+pub atom::atom_at-returns-in-LeftParen : goal.atom::atom_at-returns-in-LeftParen
+atom::atom_at-returns-in-LeftParen t c = record { read = c.group_at.ensures.read; cursor = c.group_at.ensures.cursor; further = c.group_at.ensures.further; fault = c.group_at.ensures.fault }
+
+pub atom::atom_at-returns-in-Proj1 : goal.atom::atom_at-returns-in-Proj1
+atom::atom_at-returns-in-Proj1 t c = record { read = c.first_at.ensures.read; cursor = c.first_at.ensures.cursor; further = c.first_at.ensures.further; fault = c.first_at.ensures.fault }
+
+pub atom::atom_at-returns-in-Proj2 : goal.atom::atom_at-returns-in-Proj2
+atom::atom_at-returns-in-Proj2 t c = record { read = c.second_at.ensures.read; cursor = c.second_at.ensures.cursor; further = c.second_at.ensures.further; fault = c.second_at.ensures.fault }
+
+pub object::object_at-returns-in-Backslash : goal.object::object_at-returns-in-Backslash
+object::object_at-returns-in-Backslash t c = record { read = c.lambda_at.ensures.read; cursor = c.lambda_at.ensures.cursor; further = c.lambda_at.ensures.further; fault = c.lambda_at.ensures.fault }
+
+pub object::object_at-returns-in_default : goal.object::object_at-returns-in_default
+object::object_at-returns-in_default t c = record { read = c.applied_object_at.ensures.read; cursor = c.applied_object_at.ensures.cursor; further = c.applied_object_at.ensures.further; fault = c.applied_object_at.ensures.fault }
+
+pub tuple::tuple_at-returns-in-LeftBracket : goal.tuple::tuple_at-returns-in-LeftBracket
+tuple::tuple_at-returns-in-LeftBracket t c = record { read = c.tuple_list_at.ensures.read; cursor = c.tuple_list_at.ensures.cursor; further = c.tuple_list_at.ensures.further; fault = c.tuple_list_at.ensures.fault }
+
+pub tuple::tuple_at-returns-in-Bang : goal.tuple::tuple_at-returns-in-Bang
+tuple::tuple_at-returns-in-Bang t c = record { read = c.persistent_at.ensures.read; cursor = c.persistent_at.ensures.cursor; further = c.persistent_at.ensures.further; fault = c.persistent_at.ensures.fault }
+
+pub tuple::tuple_at-returns-in-AtSign : goal.tuple::tuple_at-returns-in-AtSign
+tuple::tuple_at-returns-in-AtSign t c = record { read = c.affine_at.ensures.read; cursor = c.affine_at.ensures.cursor; further = c.affine_at.ensures.further; fault = c.affine_at.ensures.fault }
+
+pub tuple::tuple_at-returns-in_default : goal.tuple::tuple_at-returns-in_default
+tuple::tuple_at-returns-in_default t c = record { read = c.bare_at.ensures.read; cursor = c.bare_at.ensures.cursor; further = c.bare_at.ensures.further; fault = c.bare_at.ensures.fault }
+
 pub atom::pair_at-returns-in_err-next-clause-fault : goal.atom::pair_at-returns-in_err-next-clause-fault
 atom::pair_at-returns-in_err-next-clause-fault t c =
     passed _ c.from_residual-in_err-next.result c.from_residual-in_err-next.ensures.1 (λ k. pair_comma-fault c.in_ok-opened.ensures.opened c.in_ok-left.ensures.read (expect-missed _ _ token.Comma _ _ c.in_ok-left.ensures.cursor c.in_err-next.ensures.missed))
