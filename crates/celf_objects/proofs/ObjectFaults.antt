@@ -14,9 +14,9 @@ use Rattle.celf_cursor.specs.declared.cursor.Cursor.{Cursor}
 use Rattle.celf_cursor.specs.declared.stop.Stop.{Stop}
 use Rattle.celf_cursor.specs.Cursor.{state_of, kind_next, IsCursorOf, unexpected, Misses, MissesOpening, MissesWord}
 use Rattle.celf_cursor.specs.Faults.{IsFaultOf}
-use Rattle.celf_cursor.proofs.Faulty.{fault-moved, fault-stops, opening-missed, taken-missed, name-missed, constant-missed}
+use Rattle.celf_cursor.proofs.Faulty.{fault-moved, fault-stops, opening-missed}
 use Rattle.celf_cursor.proofs.Ends.{opens-end, takes-end, closes-end, mark-end, binder-end, pattern-end, object-end, application-end, arguments-end, atom-end, expression-end, steps-end, tuples-end, indices-end}
-use Rattle.celf_objects.proofs.PatternFaults.{not-one-word, memory-fault, comma-fault, bracket-not}
+use Rattle.celf_objects.proofs.PatternFaults.{not-one-word, bracket-not}
 
 pub lambda_opening-fault : (text : List ℕ) (c : Cursor) (k : List Symbol) (e : Stop)
     → IsCursorOf text c → kind_next text c ≡ token.Backslash → MissesOpening text token.Backslash c e → IsFaultOf text (Object ∷ k) (state_of text c) e
@@ -214,25 +214,3 @@ bare-fault {s = s} {k} n b m a f = fault-moved (tuple-object s k (not-number s n
 pub tuples_next-fault : {text : List ℕ} {s u v : State} {ts : List TupleTree} {k : List Symbol} {e : Stop}
     → IsTuples s ts u → Takes token.Comma u v → ((j : List Symbol) → IsFaultOf text (Tuple ∷ j) v e) → IsFaultOf text (Tuple ∷ TupleTail ∷ k) s e
 tuples_next-fault {k = k} ts c f = fault-moved (tuples-accept ts k ∙ tuple_tail-more c k) (tuples-end ts ∙ takes-end c) (f _)
-
-pub ruleset applied_faults = (applied-fault)
-
-pub ruleset arguments_faults = (memory-fault, argument_mark-fault, argument_atom-fault)
-
-pub ruleset atom_faults = (atom-fault)
-
-pub ruleset name_faults = (name-missed)
-
-pub ruleset constant_faults = (constant-missed)
-
-pub ruleset leaf_faults = (taken-missed)
-
-pub ruleset index_faults = (taken-missed, index_banged-fault, index_bare-fault)
-
-pub ruleset indices_faults = (memory-fault, indices-fault)
-
-pub ruleset steps_faults = (memory-fault, step-fault)
-
-pub ruleset tuple_faults = (tuple_one-fault)
-
-pub ruleset tuples_faults = (memory-fault, comma-fault, tuples_next-fault)

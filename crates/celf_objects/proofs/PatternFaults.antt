@@ -1,5 +1,5 @@
 -- Faults inside a pattern, as faults of the pattern.
-use Rattle.std.proofs.Common.{◌≡◌, ◌∙◌, ℕ, List, ◌∷◌, true, false, codes, refl, ap}
+use Rattle.std.proofs.Common.{◌≡◌, ◌∙◌, ℕ, List, ◌∷◌, false, codes, refl, ap}
 use Rattle.celf_lexer.specs.declared.token.TokenKind.{TokenKind}
 use Rattle.celf_lexer.specs.declared.token.TokenKind.TheVariants as token
 use Rattle.celf_surface.specs.declared.surface.SMode.{SMode}
@@ -12,21 +12,13 @@ use Rattle.celf_grammar.proofs.Accepts.{patterns-accept}
 use Rattle.celf_cursor.specs.declared.cursor.Cursor.{Cursor}
 use Rattle.celf_cursor.specs.declared.stop.Stop.{Stop}
 use Rattle.celf_cursor.specs.declared.stop.Stop.TheVariants.{NoMemory}
-use Rattle.celf_cursor.specs.Cursor.{state_of, kind_next, next_spelling, IsCursorOf, Misses, MissesOpening, MissesWord}
+use Rattle.celf_cursor.specs.Cursor.{state_of, kind_next, next_spelling, IsCursorOf, MissesOpening, MissesWord}
 use Rattle.celf_cursor.specs.Faults.{IsFaultOf, fault_memory}
-use Rattle.celf_cursor.proofs.Faulty.{fault-moved, fault-stops, opening-missed, close-missed}
+use Rattle.celf_cursor.proofs.Faulty.{fault-moved, fault-stops, opening-missed}
 use Rattle.celf_cursor.proofs.Ends.{opens-end, takes-end, mark-end, patterns-end}
 
 pub memory-fault : {text : List ℕ} {j : List Symbol} {s : State} {e : Stop} → e ≡ NoMemory → IsFaultOf text j s e
 memory-fault {text} {j} {s} h = rw h fault_memory
-
--- a comma that comes next is not missed
-pub comma-fault : (text : List ℕ) (c : Cursor) (j : List Symbol) (e : Stop) → is_comma (kind_next text c) ≡ true → Misses text token.Comma c e → IsFaultOf text j (state_of text c) e
-comma-fault text c j e h m = absurd (not_comma (kind_next text c) h m.1)
-  where
-    not_comma : (k : TokenKind) → is_comma k ≡ true → (k ≡ token.Comma → ⊥) → ⊥
-    not_comma token.Comma h n = n refl
-    not_comma _ h n = cc
 
 pub not-one-word : (text : List ℕ) (c : Cursor) (e : Stop) → kind_next text c ≡ token.Number → MissesWord text token.Number (codes "1") c e → NotOne (state_of text c)
 not-one-word text c e n m = not-one (state_of text c) (λ u h. m.1 n (ap next_spelling h.taken.first ∙ h.spelled))
@@ -65,11 +57,3 @@ pattern_closing-fault {v = v} {k = k} o ps i f = fault-moved (pattern-opens o k 
 pub patterns_next-fault : {text : List ℕ} {s u v : State} {ps : List PatternTree} {k : List Symbol} {e : Stop}
     → IsPatterns s ps u → Takes token.Comma u v → IsFaultOf text (Pattern ∷ PatternTail ∷ k) v e → IsFaultOf text (Pattern ∷ PatternTail ∷ k) s e
 patterns_next-fault {k = k} ps c f = fault-moved (patterns-accept ps k ∙ pattern_tail-more c k) (patterns-end ps ∙ takes-end c) f
-
-pub ruleset pattern_one_faults = (pattern_one-fault)
-
-pub ruleset pattern_entry_faults = (pattern_entry-fault, pattern_mark-fault)
-
-pub ruleset pattern_list_faults = (close-missed, pattern_opening-fault, pattern_inside-fault, pattern_closing-fault)
-
-pub ruleset patterns_faults = (memory-fault, comma-fault, patterns_next-fault)

@@ -1,13 +1,12 @@
 -- The productions whose trees are built from parts, with the trees given by equations.
 use Rattle.std.proofs.Common.{◌≡◌, ℕ, List, [], ◌∷◌, ◌++◌, Option, false, true, sym, subst}
-use Rattle.std.proofs.lemmas.List.{map-append}
 use Rattle.celf_lexer.specs.declared.token.TokenKind.TheVariants as token
 use Rattle.clf_syntax.specs.declared.tree.Mode.TheVariants.{Persistent, Affine}
 use Rattle.celf_surface.specs.declared.surface.SMode.{SMode}
 use Rattle.celf_surface.specs.declared.surface.Span.{Span}
 use Rattle.celf_surface.specs.Surface.{Pattern, pattern_one, pattern_entry, pattern_list, patterns_of, Object, lam, named, hole, unit, pair, braces, first, second, Steps, steps_of, Tuple, tuple_one, tuple_list, tuple_marked, tuple_bare, tuples_of}
 use Rattle.celf_grammar.specs.State.{State, span_to, Ends, Takes, Opens, Closes, EndsPart, TakesName, TakesConstant, TakesOne}
-use Rattle.celf_grammar.specs.Grammar.{IsMark, IsBinder, IsPattern, pat_one, pat_entry, pat_list, IsPatterns, pats_first, pats_more, is_comma, is_let, begins_argument, applied, IsObject, obj_lambda, obj_app, IsApplication, app_all, IsArguments, args_none, args_more, IsAtom, atom_name, atom_constant, atom_hole, atom_unit, atom_pair, atom_braces, atom_group, atom_first, atom_second, IsExpression, expr_all, IsSteps, steps_none, steps_more, IsStep, step_let, IsTuple, tup_one, tup_list, tup_persistent, tup_affine, tup_bare, IsTuples, tups_first, tups_more, IsIndex, index_bare, index_banged, IsIndices, indices_none, indices_more}
+use Rattle.celf_grammar.specs.Grammar.{IsMark, IsBinder, IsPattern, pat_one, pat_entry, pat_list, IsPatterns, pats_first, pats_more, is_comma, is_let, begins_argument, applied, IsObject, obj_lambda, IsApplication, app_all, IsArguments, args_none, args_more, IsAtom, atom_name, atom_constant, atom_hole, atom_unit, atom_pair, atom_braces, atom_first, atom_second, IsExpression, expr_all, IsSteps, steps_none, steps_more, IsStep, step_let, IsTuple, tup_one, tup_list, tup_persistent, tup_affine, tup_bare, IsTuples, tups_first, tups_more, IsIndex, IsIndices, indices_none, indices_more}
 
 pub pattern_one-read : {s u : State} {p : Pattern} → TakesOne s u → p ≡ pattern_one → IsPattern s p u
 pattern_one-read {s} {u} h e = subst (λ (p : Pattern). IsPattern s p u) (sym e) (pat_one h)
@@ -122,59 +121,3 @@ indices_none-read {s} e = subst (λ (l : List Object). IsIndices s l s) (sym e) 
 
 pub indices_more-read : {s u v : State} {os ps : List Object} {o : Object} → IsIndices s os u → IsIndex u o v → ps ≡ os ++ (o ∷ []) → IsIndices s ps v
 indices_more-read {s} {v = v} h g e = subst (λ (l : List Object). IsIndices s l v) (sym e) (indices_more h g)
-
-pub ruleset pattern_one_steps = (pattern_one-read)
-
-pub ruleset pattern_entry_steps = (pattern_entry-read)
-
-pub ruleset pattern_list_steps = (pattern_list-read)
-
-pub ruleset patterns_steps = (patterns_first-read, patterns_more-read, map-append)
-
-pub ruleset lambda_steps = (lambda-read)
-
-pub ruleset object_steps = (obj_app)
-
-pub ruleset application_steps = (application-read)
-
-pub ruleset arguments_steps = (arguments_none-read, arguments_more-read, map-append)
-
-pub ruleset name_steps = (name-read)
-
-pub ruleset constant_steps = (constant-read)
-
-pub ruleset hole_steps = (hole-read)
-
-pub ruleset unit_steps = (unit-read)
-
-pub ruleset pair_steps = (pair-read)
-
-pub ruleset braces_steps = (braces-read)
-
-pub ruleset group_steps = (atom_group)
-
-pub ruleset first_steps = (first-read)
-
-pub ruleset second_steps = (second-read)
-
-pub ruleset expression_steps = (expression-read)
-
-pub ruleset steps_steps = (steps_none-read, steps_more-read, map-append)
-
-pub ruleset step_steps = (step-read)
-
-pub ruleset tuple_one_steps = (tuple_one-read)
-
-pub ruleset tuple_list_steps = (tuple_list-read)
-
-pub ruleset persistent_steps = (persistent-read)
-
-pub ruleset affine_steps = (affine-read)
-
-pub ruleset bare_steps = (bare-read)
-
-pub ruleset tuples_steps = (tuples_first-read, tuples_more-read, map-append)
-
-pub ruleset index_steps = (index_bare, index_banged)
-
-pub ruleset indices_steps = (indices_none-read, indices_more-read, map-append)

@@ -18,7 +18,6 @@ use std::alloc::Global;
 
 /// The arguments that follow, as many as there are.
 #[cycle(objects)]
-#[tactic(auto, using(celf_surface::specs::Surface::surface_laws, crate::proofs::Reading::arguments_steps, crate::proofs::ObjectFaults::arguments_faults))]
 pub(crate) fn arguments_at(
     alloc: Global,
     bytes: &[u8],
@@ -43,7 +42,6 @@ pub(crate) fn arguments_at(
 }
 
 /// An index: an atom, which may have a `!`.
-#[tactic(auto, using(celf_surface::specs::Surface::surface_laws, crate::proofs::Reading::index_steps, crate::proofs::ObjectFaults::index_faults))]
 fn index_at(alloc: Global, bytes: &[u8], cursor: Cursor) -> Result<(SObj, Cursor), Stop>
     requires cursor { IsCursorOf bytes.now cursor }
     ensures read { IfOk result (λ r. IsIndex (state_of bytes.now cursor) (object_tree r.0) (state_of bytes.now r.1)) }
@@ -58,7 +56,6 @@ fn index_at(alloc: Global, bytes: &[u8], cursor: Cursor) -> Result<(SObj, Cursor
 }
 
 /// The indices that follow, as many as there are.
-#[tactic(auto, using(celf_surface::specs::Surface::surface_laws, crate::proofs::Reading::indices_steps, crate::proofs::ObjectFaults::indices_faults))]
 pub fn indices_at(
     alloc: Global,
     bytes: &[u8],

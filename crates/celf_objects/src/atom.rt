@@ -20,7 +20,6 @@ use std::alloc::Global;
 
 /// An atom.
 #[cycle(objects)]
-#[tactic(auto, using(celf_surface::specs::Surface::surface_laws, crate::proofs::ObjectFaults::atom_faults))]
 pub fn atom_at(alloc: Global, bytes: &[u8], cursor: Cursor) -> Result<(SObj, Cursor), Stop>
     requires cursor { IsCursorOf bytes.now cursor }
     ensures read { IfOk result (λ r. IsAtom (state_of bytes.now cursor) (object_tree r.0) (state_of bytes.now r.1)) }
@@ -43,7 +42,6 @@ pub fn atom_at(alloc: Global, bytes: &[u8], cursor: Cursor) -> Result<(SObj, Cur
 }
 
 /// A name as an atom.
-#[tactic(auto, using(celf_surface::specs::Surface::surface_laws, crate::proofs::Reading::name_steps, crate::proofs::ObjectFaults::name_faults))]
 fn name_at(alloc: Global, bytes: &[u8], cursor: Cursor) -> Result<(SObj, Cursor), Stop>
     requires cursor { IsCursorOf bytes.now cursor }
     requires kind { IsTrue (is_name_kind (kind_next bytes.now cursor)) }
@@ -61,7 +59,6 @@ fn name_at(alloc: Global, bytes: &[u8], cursor: Cursor) -> Result<(SObj, Cursor)
 }
 
 /// A constant name as an atom.
-#[tactic(auto, using(celf_surface::specs::Surface::surface_laws, crate::proofs::Reading::constant_steps, crate::proofs::ObjectFaults::constant_faults))]
 fn constant_at(alloc: Global, bytes: &[u8], cursor: Cursor) -> Result<(SObj, Cursor), Stop>
     requires cursor { IsCursorOf bytes.now cursor }
     requires kind { kind_next bytes.now cursor ≡ TokenKind.ConstName }
@@ -76,7 +73,6 @@ fn constant_at(alloc: Global, bytes: &[u8], cursor: Cursor) -> Result<(SObj, Cur
 }
 
 /// `_`.
-#[tactic(auto, using(celf_surface::specs::Surface::surface_laws, crate::proofs::Reading::hole_steps, crate::proofs::ObjectFaults::leaf_faults))]
 fn hole_at(bytes: &[u8], cursor: Cursor) -> Result<(SObj, Cursor), Stop>
     requires cursor { IsCursorOf bytes.now cursor }
     requires kind { kind_next bytes.now cursor ≡ TokenKind.Hole }
@@ -93,7 +89,6 @@ fn hole_at(bytes: &[u8], cursor: Cursor) -> Result<(SObj, Cursor), Stop>
 }
 
 /// `<>`.
-#[tactic(auto, using(celf_surface::specs::Surface::surface_laws, crate::proofs::Reading::unit_steps, crate::proofs::ObjectFaults::leaf_faults))]
 fn unit_at(bytes: &[u8], cursor: Cursor) -> Result<(SObj, Cursor), Stop>
     requires cursor { IsCursorOf bytes.now cursor }
     requires kind { kind_next bytes.now cursor ≡ TokenKind.UnitSign }
@@ -111,7 +106,6 @@ fn unit_at(bytes: &[u8], cursor: Cursor) -> Result<(SObj, Cursor), Stop>
 
 /// A pair of objects.
 #[cycle(objects)]
-#[tactic(auto, using(celf_surface::specs::Surface::surface_laws, crate::proofs::Reading::pair_steps))]
 fn pair_at(alloc: Global, bytes: &[u8], cursor: Cursor) -> Result<(SObj, Cursor), Stop>
     requires cursor { IsCursorOf bytes.now cursor }
     requires kind { kind_next bytes.now cursor ≡ TokenKind.Less }
@@ -133,7 +127,6 @@ fn pair_at(alloc: Global, bytes: &[u8], cursor: Cursor) -> Result<(SObj, Cursor)
 
 /// An expression in braces.
 #[cycle(objects)]
-#[tactic(auto, using(celf_surface::specs::Surface::surface_laws, crate::proofs::Reading::braces_steps))]
 fn braces_at(alloc: Global, bytes: &[u8], cursor: Cursor) -> Result<(SObj, Cursor), Stop>
     requires cursor { IsCursorOf bytes.now cursor }
     requires kind { kind_next bytes.now cursor ≡ TokenKind.LeftBrace }
@@ -152,7 +145,6 @@ fn braces_at(alloc: Global, bytes: &[u8], cursor: Cursor) -> Result<(SObj, Curso
 
 /// An object in parentheses, which leave no form.
 #[cycle(objects)]
-#[tactic(auto, using(celf_surface::specs::Surface::surface_laws, crate::proofs::Reading::group_steps))]
 fn group_at(alloc: Global, bytes: &[u8], cursor: Cursor) -> Result<(SObj, Cursor), Stop>
     requires cursor { IsCursorOf bytes.now cursor }
     requires kind { kind_next bytes.now cursor ≡ TokenKind.LeftParen }
@@ -163,13 +155,18 @@ fn group_at(alloc: Global, bytes: &[u8], cursor: Cursor) -> Result<(SObj, Cursor
 {
     let opened = open(bytes, cursor, TokenKind::LeftParen)?;
     let (inside, last) = object_at(alloc, bytes, opened)?;
-    let behind = close(bytes, cursor, last, TokenKind::RightParen)?;
-    Ok((inside, behind))
+    match close(bytes, cursor, last, TokenKind::RightParen) {
+        Ok(behind) => Ok((inside, behind)),
+        Err(stop) => {
+            // By a call: dropped here, each form of the object would be a case of this function.
+            drop(inside);
+            Err(stop)
+        }
+    }
 }
 
 /// The first projection of an atom. Its part ends with that atom.
 #[cycle(objects)]
-#[tactic(auto, using(celf_surface::specs::Surface::surface_laws, crate::proofs::Reading::first_steps))]
 fn first_at(alloc: Global, bytes: &[u8], cursor: Cursor) -> Result<(SObj, Cursor), Stop>
     requires cursor { IsCursorOf bytes.now cursor }
     requires kind { kind_next bytes.now cursor ≡ TokenKind.Proj1 }
@@ -187,7 +184,6 @@ fn first_at(alloc: Global, bytes: &[u8], cursor: Cursor) -> Result<(SObj, Cursor
 
 /// The second projection of an atom. Its part ends with that atom.
 #[cycle(objects)]
-#[tactic(auto, using(celf_surface::specs::Surface::surface_laws, crate::proofs::Reading::second_steps))]
 fn second_at(alloc: Global, bytes: &[u8], cursor: Cursor) -> Result<(SObj, Cursor), Stop>
     requires cursor { IsCursorOf bytes.now cursor }
     requires kind { kind_next bytes.now cursor ≡ TokenKind.Proj2 }

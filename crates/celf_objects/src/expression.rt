@@ -15,12 +15,11 @@ use crate::tuple::tuple_at;
 use celf_cursor::{Cursor, Stop, close, kind_of_next, open, take};
 use celf_lexer::TokenKind;
 use celf_surface::{SExpr, SStep};
-use sqlite_items::Items;
+use sqlite_items::{Boxed, Items};
 use std::alloc::Global;
 
 /// An expression: steps, and a tuple behind them.
 #[cycle(objects)]
-#[tactic(auto, using(celf_surface::specs::Surface::surface_laws, crate::proofs::Reading::expression_steps))]
 pub(crate) fn expression_at(
     alloc: Global,
     bytes: &[u8],
@@ -39,7 +38,6 @@ pub(crate) fn expression_at(
 
 /// The steps that follow, as many as there are.
 #[cycle(objects)]
-#[tactic(auto, using(celf_surface::specs::Surface::surface_laws, crate::proofs::Reading::steps_steps, crate::proofs::ObjectFaults::steps_faults))]
 fn steps_at(alloc: Global, bytes: &[u8], cursor: Cursor) -> Result<(Items<SStep>, Cursor), Stop>
     requires cursor { IsCursorOf bytes.now cursor }
     ensures read { IfOk result (λ r. IsSteps (state_of bytes.now cursor) (map step_tree r.0) (state_of bytes.now r.1)) }
@@ -60,7 +58,6 @@ fn steps_at(alloc: Global, bytes: &[u8], cursor: Cursor) -> Result<(Items<SStep>
 
 /// A step: `let {pattern} = application in`.
 #[cycle(objects)]
-#[tactic(auto, using(celf_surface::specs::Surface::surface_laws, crate::proofs::Reading::step_steps))]
 fn step_at(alloc: Global, bytes: &[u8], cursor: Cursor) -> Result<(SStep, Cursor), Stop>
     requires cursor { IsCursorOf bytes.now cursor }
     requires kind { IsTrue (is_let_kind (kind_next bytes.now cursor)) }
@@ -71,10 +68,20 @@ fn step_at(alloc: Global, bytes: &[u8], cursor: Cursor) -> Result<(SStep, Cursor
 {
     let begun = take(bytes, cursor, TokenKind::KwLet)?;
     let opened = open(bytes, begun, TokenKind::LeftBrace)?;
-    let (pattern, last) = pattern_at(alloc, bytes, opened)?;
+    let (found, last) = pattern_at(alloc, bytes, opened)?;
+    // In a box it is dropped by a call: in place, each form of the pattern would be a case of this function.
+    let pattern = Boxed::new(alloc, found)?;
     let closed = close(bytes, begun, last, TokenKind::RightBrace)?;
     let bound = take(bytes, closed, TokenKind::Equals)?;
     let (rhs, end) = application_at(alloc, bytes, bound)?;
-    let behind = take(bytes, end, TokenKind::KwIn)?;
-    Ok((SStep { pattern, rhs }, behind))
+    match take(bytes, end, TokenKind::KwIn) {
+        Ok(behind) => {
+            let pattern = pattern.into_inner();
+            Ok((SStep { pattern, rhs }, behind))
+        }
+        Err(stop) => {
+            drop(rhs);
+            Err(stop)
+        }
+    }
 }

@@ -17,7 +17,6 @@ use std::alloc::Global;
 
 /// A pattern: `1`, an entry or a list.
 #[cycle(patterns)]
-#[tactic(auto, using(celf_surface::specs::Surface::surface_laws, crate::proofs::Reading::pattern_one_steps, crate::proofs::PatternFaults::pattern_one_faults))]
 pub fn pattern_at(alloc: Global, bytes: &[u8], cursor: Cursor) -> Result<(SPat, Cursor), Stop>
     requires cursor { IsCursorOf bytes.now cursor }
     ensures read { IfOk result (λ r. IsPattern (state_of bytes.now cursor) (pattern_tree r.0) (state_of bytes.now r.1)) }
@@ -36,7 +35,6 @@ pub fn pattern_at(alloc: Global, bytes: &[u8], cursor: Cursor) -> Result<(SPat, 
 }
 
 /// An entry of a pattern.
-#[tactic(auto, using(celf_surface::specs::Surface::surface_laws, crate::proofs::Reading::pattern_entry_steps, crate::proofs::PatternFaults::pattern_entry_faults))]
 fn pattern_entry_at(alloc: Global, bytes: &[u8], cursor: Cursor) -> Result<(SPat, Cursor), Stop>
     requires cursor { IsCursorOf bytes.now cursor }
     requires not_one { kind_next bytes.now cursor ≢ TokenKind.Number }
@@ -53,7 +51,6 @@ fn pattern_entry_at(alloc: Global, bytes: &[u8], cursor: Cursor) -> Result<(SPat
 
 /// A list of patterns in brackets.
 #[cycle(patterns)]
-#[tactic(auto, using(celf_surface::specs::Surface::surface_laws, crate::proofs::Reading::pattern_list_steps, crate::proofs::PatternFaults::pattern_list_faults))]
 fn pattern_list_at(alloc: Global, bytes: &[u8], cursor: Cursor) -> Result<(SPat, Cursor), Stop>
     requires cursor { IsCursorOf bytes.now cursor }
     requires kind { kind_next bytes.now cursor ≡ TokenKind.LeftBracket }
@@ -70,7 +67,6 @@ fn pattern_list_at(alloc: Global, bytes: &[u8], cursor: Cursor) -> Result<(SPat,
 
 /// Patterns with commas between them.
 #[cycle(patterns)]
-#[tactic(auto, using(celf_surface::specs::Surface::surface_laws, crate::proofs::Reading::patterns_steps, crate::proofs::PatternFaults::patterns_faults))]
 fn patterns_at(alloc: Global, bytes: &[u8], cursor: Cursor) -> Result<(Items<SPat>, Cursor), Stop>
     requires cursor { IsCursorOf bytes.now cursor }
     ensures read { IfOk result (λ r. IsPatterns (state_of bytes.now cursor) (map pattern_tree r.0) (state_of bytes.now r.1)) }

@@ -19,7 +19,6 @@ use std::alloc::Global;
 
 /// A tuple: `1`, a list, an entry with a mark or an object.
 #[cycle(objects)]
-#[tactic(auto, using(celf_surface::specs::Surface::surface_laws, crate::proofs::Reading::tuple_one_steps, crate::proofs::ObjectFaults::tuple_faults))]
 pub(crate) fn tuple_at(
     alloc: Global,
     bytes: &[u8],
@@ -45,7 +44,6 @@ pub(crate) fn tuple_at(
 
 /// A list of tuples in brackets.
 #[cycle(objects)]
-#[tactic(auto, using(celf_surface::specs::Surface::surface_laws, crate::proofs::Reading::tuple_list_steps))]
 fn tuple_list_at(alloc: Global, bytes: &[u8], cursor: Cursor) -> Result<(STuple, Cursor), Stop>
     requires cursor { IsCursorOf bytes.now cursor }
     requires kind { kind_next bytes.now cursor ≡ TokenKind.LeftBracket }
@@ -62,7 +60,6 @@ fn tuple_list_at(alloc: Global, bytes: &[u8], cursor: Cursor) -> Result<(STuple,
 
 /// A persistent entry.
 #[cycle(objects)]
-#[tactic(auto, using(celf_surface::specs::Surface::surface_laws, crate::proofs::Reading::persistent_steps))]
 fn persistent_at(alloc: Global, bytes: &[u8], cursor: Cursor) -> Result<(STuple, Cursor), Stop>
     requires cursor { IsCursorOf bytes.now cursor }
     requires kind { kind_next bytes.now cursor ≡ TokenKind.Bang }
@@ -82,7 +79,6 @@ fn persistent_at(alloc: Global, bytes: &[u8], cursor: Cursor) -> Result<(STuple,
 
 /// An affine entry.
 #[cycle(objects)]
-#[tactic(auto, using(celf_surface::specs::Surface::surface_laws, crate::proofs::Reading::affine_steps))]
 fn affine_at(alloc: Global, bytes: &[u8], cursor: Cursor) -> Result<(STuple, Cursor), Stop>
     requires cursor { IsCursorOf bytes.now cursor }
     requires kind { kind_next bytes.now cursor ≡ TokenKind.AtSign }
@@ -102,7 +98,6 @@ fn affine_at(alloc: Global, bytes: &[u8], cursor: Cursor) -> Result<(STuple, Cur
 
 /// An object as a tuple.
 #[cycle(objects)]
-#[tactic(auto, using(celf_surface::specs::Surface::surface_laws, crate::proofs::Reading::bare_steps))]
 fn bare_at(alloc: Global, bytes: &[u8], cursor: Cursor) -> Result<(STuple, Cursor), Stop>
     requires cursor { IsCursorOf bytes.now cursor }
     requires no_one { kind_next bytes.now cursor ≢ TokenKind.Number }
@@ -120,7 +115,6 @@ fn bare_at(alloc: Global, bytes: &[u8], cursor: Cursor) -> Result<(STuple, Curso
 
 /// Tuples with commas between them.
 #[cycle(objects)]
-#[tactic(auto, using(celf_surface::specs::Surface::surface_laws, crate::proofs::Reading::tuples_steps, crate::proofs::ObjectFaults::tuples_faults))]
 fn tuples_at(alloc: Global, bytes: &[u8], cursor: Cursor) -> Result<(Items<STuple>, Cursor), Stop>
     requires cursor { IsCursorOf bytes.now cursor }
     ensures read { IfOk result (λ r. IsTuples (state_of bytes.now cursor) (map tuple_tree r.0) (state_of bytes.now r.1)) }

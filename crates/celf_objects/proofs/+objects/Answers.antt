@@ -1,16 +1,158 @@
-use Rattle.std.proofs.Common.{refl, ap}
-use Rattle.celf_surface.specs.Surface.{Steps, Tuple}
+use borrow.Author.Tests.{tests}
+use Rattle.std.proofs.Common.{rules, refl, ap}
+use Rattle.std.proofs.lemmas.List.{map-append}
+use Rattle.celf_surface.specs.Surface.{Steps, Tuple, argument-of, step-of, tuple-One, tuple-List, tuple-Marked, tuple-Bare}
 use Rattle.celf_lexer.specs.declared.token.TokenKind.TheVariants as token
 use Rattle.celf_cursor.specs.Faults.{fault_memory}
 use Rattle.celf_cursor.proofs.Faulty.{passed, refused, expect-missed, close-missed, taken-missed}
-use Rattle.celf_objects.proofs.Reading.{expression-read}
-use Rattle.celf_objects.proofs.ObjectFaults.{lambda_opening-fault, lambda_mark-fault, lambda_binder-fault, lambda_stop-fault, lambda_body-fault, head-fault, called-fault, atom_opening-fault, pair_left-fault, pair_comma-fault, pair_right-fault, pair_closing-fault, braces_inside-fault, braces_closing-fault, group_inside-fault, group_closing-fault, first-fault, second-fault, result-fault, tuple_opening-fault, tuple_inside-fault, tuple_closing-fault, persistent-fault, affine-fault, bare-fault, let-fault, let_opening-fault, let_pattern-fault, let_closing-fault, let_equals-fault, let_right-fault, let_in-fault}
+use Rattle.celf_grammar.specs.Grammar.{obj_app, atom_group}
+use Rattle.celf_objects.proofs.PatternFaults.{memory-fault}
+use Rattle.celf_objects.proofs.Reading.{expression-read, lambda-read, application-read, arguments_none-read, arguments_more-read, pair-read, braces-read, first-read, second-read, steps_none-read, steps_more-read, step-read, tuple_one-read, tuple_list-read, persistent-read, affine-read, bare-read, tuples_first-read, tuples_more-read}
+use Rattle.celf_objects.proofs.ObjectFaults.{argument_mark-fault, argument_atom-fault, atom-fault, step-fault, applied-fault, tuple_one-fault, tuples_next-fault, lambda_opening-fault, lambda_mark-fault, lambda_binder-fault, lambda_stop-fault, lambda_body-fault, head-fault, called-fault, atom_opening-fault, pair_left-fault, pair_comma-fault, pair_right-fault, pair_closing-fault, braces_inside-fault, braces_closing-fault, group_inside-fault, group_closing-fault, first-fault, second-fault, result-fault, tuple_opening-fault, tuple_inside-fault, tuple_closing-fault, persistent-fault, affine-fault, bare-fault, let-fault, let_opening-fault, let_pattern-fault, let_closing-fault, let_equals-fault, let_right-fault, let_in-fault}
 use Rattle.celf_objects.proofs.+objects.Goals as goal
 
 pub expression::expression_at-returns-clause-read : goal.expression::expression_at-returns-clause-read
 expression::expression_at-returns-clause-read t c =
     expression-read c.in_ok-steps.ensures.read c.in_ok-steps.ensures.ends c.in_ok-tuple.ensures.read
     (ap (λ (e : Steps × Tuple). e.0) c.expression.ensures) (ap (λ (e : Steps × Tuple). e.1) c.expression.ensures)
+
+pub arguments::arguments_at-loop-alloc-init : goal.arguments::arguments_at-loop-alloc-init
+arguments::arguments_at-loop-alloc-init t c = search (tests, rules, arguments_none-read)
+
+pub arguments::arguments_at-loop-alloc-preserved : goal.arguments::arguments_at-loop-alloc-preserved
+arguments::arguments_at-loop-alloc-preserved t c = search (tests, rules, arguments_more-read, map-append, argument-of)
+
+pub arguments::arguments_at-returns-in_err-mode-clause-fault : goal.arguments::arguments_at-returns-in_err-mode-clause-fault
+arguments::arguments_at-returns-in_err-mode-clause-fault t c = search (tests, rules, argument_mark-fault)
+
+pub arguments::arguments_at-returns-in_err-obj-clause-fault : goal.arguments::arguments_at-returns-in_err-obj-clause-fault
+arguments::arguments_at-returns-in_err-obj-clause-fault t c = search (tests, rules, argument_atom-fault)
+
+pub arguments::arguments_at-returns-in_err-push-clause-fault : goal.arguments::arguments_at-returns-in_err-push-clause-fault
+arguments::arguments_at-returns-in_err-push-clause-fault t c = search (tests, rules, memory-fault)
+
+pub atom::atom_at-returns-in_default : goal.atom::atom_at-returns-in_default
+atom::atom_at-returns-in_default t c = search (tests, rules, atom-fault)
+
+pub atom::braces_at-returns-clause-read : goal.atom::braces_at-returns-clause-read
+atom::braces_at-returns-clause-read t c = search (tests, rules, braces-read)
+
+pub atom::first_at-returns-clause-read : goal.atom::first_at-returns-clause-read
+atom::first_at-returns-clause-read t c = search (tests, rules, first-read)
+
+pub atom::group_at-returns-in-Ok-clause-read : goal.atom::group_at-returns-in-Ok-clause-read
+atom::group_at-returns-in-Ok-clause-read t c = atom_group c.in_ok-opened.ensures.opened c.in_ok-inside.ensures.read c.in-Ok.ensures.closed
+
+pub atom::pair_at-returns-clause-read : goal.atom::pair_at-returns-clause-read
+atom::pair_at-returns-clause-read t c = search (tests, rules, pair-read)
+
+pub atom::second_at-returns-clause-read : goal.atom::second_at-returns-clause-read
+atom::second_at-returns-clause-read t c = search (tests, rules, second-read)
+
+pub expression::step_at-returns-in-Ok-clause-read : goal.expression::step_at-returns-in-Ok-clause-read
+expression::step_at-returns-in-Ok-clause-read t c = search (tests, rules, step-read, step-of)
+
+pub expression::steps_at-loop-alloc-init : goal.expression::steps_at-loop-alloc-init
+expression::steps_at-loop-alloc-init t c = search (tests, rules, steps_none-read)
+
+pub expression::steps_at-loop-alloc-preserved : goal.expression::steps_at-loop-alloc-preserved
+expression::steps_at-loop-alloc-preserved t c = search (tests, rules, steps_more-read, map-append)
+
+pub expression::steps_at-returns-in_err-push-clause-fault : goal.expression::steps_at-returns-in_err-push-clause-fault
+expression::steps_at-returns-in_err-push-clause-fault t c = search (tests, rules, memory-fault)
+
+pub expression::steps_at-returns-in_err-step-clause-fault : goal.expression::steps_at-returns-in_err-step-clause-fault
+expression::steps_at-returns-in_err-step-clause-fault t c = search (tests, rules, step-fault)
+
+pub object::application_at-returns-in_ok-applied-in-Ok-clause-read : goal.object::application_at-returns-in_ok-applied-in-Ok-clause-read
+object::application_at-returns-in_ok-applied-in-Ok-clause-read t c = application-read c.in_ok-head.ensures.read c.in-Ok.ensures.read c.in-Ok.ensures.ends c.span_from-span.ensures c.in_ok-applied-in-Ok.ensures
+
+pub object::applied_object_at-returns-clause-fault : goal.object::applied_object_at-returns-clause-fault
+object::applied_object_at-returns-clause-fault t c = search (tests, rules, applied-fault)
+
+pub object::applied_object_at-returns-clause-read : goal.object::applied_object_at-returns-clause-read
+object::applied_object_at-returns-clause-read t c = search (tests, rules, obj_app)
+
+pub object::lambda_at-returns-clause-read : goal.object::lambda_at-returns-clause-read
+object::lambda_at-returns-clause-read t c = search (tests, rules, lambda-read)
+
+pub tuple::affine_at-returns-clause-read : goal.tuple::affine_at-returns-clause-read
+tuple::affine_at-returns-clause-read t c = search (tests, rules, affine-read, tuple-Marked)
+
+pub tuple::bare_at-returns-clause-read : goal.tuple::bare_at-returns-clause-read
+tuple::bare_at-returns-clause-read t c = search (tests, rules, bare-read, tuple-Bare)
+
+pub tuple::persistent_at-returns-clause-read : goal.tuple::persistent_at-returns-clause-read
+tuple::persistent_at-returns-clause-read t c = search (tests, rules, persistent-read, tuple-Marked)
+
+pub tuple::tuple_at-returns-in_err-behind-in-Number-clause-fault : goal.tuple::tuple_at-returns-in_err-behind-in-Number-clause-fault
+tuple::tuple_at-returns-in_err-behind-in-Number-clause-fault t c = search (tests, rules, tuple_one-fault)
+
+pub tuple::tuple_at-returns-in_ok-behind-in-Number-clause-read : goal.tuple::tuple_at-returns-in_ok-behind-in-Number-clause-read
+tuple::tuple_at-returns-in_ok-behind-in-Number-clause-read t c = search (tests, rules, tuple_one-read, tuple-One)
+
+pub tuple::tuple_list_at-returns-clause-read : goal.tuple::tuple_list_at-returns-clause-read
+tuple::tuple_list_at-returns-clause-read t c = search (tests, rules, tuple_list-read, tuple-List)
+
+pub tuple::tuples_at-loop-alloc-init : goal.tuple::tuples_at-loop-alloc-init
+tuple::tuples_at-loop-alloc-init t c = search (tests, rules, tuples_first-read, map-append)
+
+pub tuple::tuples_at-loop-alloc-preserved : goal.tuple::tuples_at-loop-alloc-preserved
+tuple::tuples_at-loop-alloc-preserved t c = search (tests, rules, tuples_more-read, map-append)
+
+pub tuple::tuples_at-returns-in_err-push-2-clause-fault : goal.tuple::tuples_at-returns-in_err-push-2-clause-fault
+tuple::tuples_at-returns-in_err-push-2-clause-fault t c = search (tests, rules, memory-fault)
+
+pub tuple::tuples_at-returns-in_err-push-clause-fault : goal.tuple::tuples_at-returns-in_err-push-clause-fault
+tuple::tuples_at-returns-in_err-push-clause-fault t c = search (tests, rules, memory-fault)
+
+pub tuple::tuples_at-returns-in_err-tuple-clause-fault : goal.tuple::tuples_at-returns-in_err-tuple-clause-fault
+tuple::tuples_at-returns-in_err-tuple-clause-fault t c = search (tests, rules, tuples_next-fault)
+
+pub atom::atom_at-returns-in-Name : goal.atom::atom_at-returns-in-Name
+atom::atom_at-returns-in-Name t c = record { read = c.name_at.ensures.read; cursor = c.name_at.ensures.cursor; further = c.name_at.ensures.further; fault = c.name_at.ensures.fault }
+
+pub atom::atom_at-returns-in-ConstName : goal.atom::atom_at-returns-in-ConstName
+atom::atom_at-returns-in-ConstName t c = record { read = c.constant_at.ensures.read; cursor = c.constant_at.ensures.cursor; further = c.constant_at.ensures.further; fault = c.constant_at.ensures.fault }
+
+pub atom::atom_at-returns-in-Hole : goal.atom::atom_at-returns-in-Hole
+atom::atom_at-returns-in-Hole t c = record { read = c.hole_at.ensures.read; cursor = c.hole_at.ensures.cursor; further = c.hole_at.ensures.further; fault = c.hole_at.ensures.fault }
+
+pub atom::atom_at-returns-in-UnitSign : goal.atom::atom_at-returns-in-UnitSign
+atom::atom_at-returns-in-UnitSign t c = record { read = c.unit_at.ensures.read; cursor = c.unit_at.ensures.cursor; further = c.unit_at.ensures.further; fault = c.unit_at.ensures.fault }
+
+pub atom::atom_at-returns-in-Less : goal.atom::atom_at-returns-in-Less
+atom::atom_at-returns-in-Less t c = record { read = c.pair_at.ensures.read; cursor = c.pair_at.ensures.cursor; further = c.pair_at.ensures.further; fault = c.pair_at.ensures.fault }
+
+pub atom::atom_at-returns-in-LeftBrace : goal.atom::atom_at-returns-in-LeftBrace
+atom::atom_at-returns-in-LeftBrace t c = record { read = c.braces_at.ensures.read; cursor = c.braces_at.ensures.cursor; further = c.braces_at.ensures.further; fault = c.braces_at.ensures.fault }
+
+pub atom::atom_at-returns-in-LeftParen : goal.atom::atom_at-returns-in-LeftParen
+atom::atom_at-returns-in-LeftParen t c = record { read = c.group_at.ensures.read; cursor = c.group_at.ensures.cursor; further = c.group_at.ensures.further; fault = c.group_at.ensures.fault }
+
+pub atom::atom_at-returns-in-Proj1 : goal.atom::atom_at-returns-in-Proj1
+atom::atom_at-returns-in-Proj1 t c = record { read = c.first_at.ensures.read; cursor = c.first_at.ensures.cursor; further = c.first_at.ensures.further; fault = c.first_at.ensures.fault }
+
+pub atom::atom_at-returns-in-Proj2 : goal.atom::atom_at-returns-in-Proj2
+atom::atom_at-returns-in-Proj2 t c = record { read = c.second_at.ensures.read; cursor = c.second_at.ensures.cursor; further = c.second_at.ensures.further; fault = c.second_at.ensures.fault }
+
+pub object::object_at-returns-in-Backslash : goal.object::object_at-returns-in-Backslash
+object::object_at-returns-in-Backslash t c = record { read = c.lambda_at.ensures.read; cursor = c.lambda_at.ensures.cursor; further = c.lambda_at.ensures.further; fault = c.lambda_at.ensures.fault }
+
+pub object::object_at-returns-in_default : goal.object::object_at-returns-in_default
+object::object_at-returns-in_default t c = record { read = c.applied_object_at.ensures.read; cursor = c.applied_object_at.ensures.cursor; further = c.applied_object_at.ensures.further; fault = c.applied_object_at.ensures.fault }
+
+pub tuple::tuple_at-returns-in-LeftBracket : goal.tuple::tuple_at-returns-in-LeftBracket
+tuple::tuple_at-returns-in-LeftBracket t c = record { read = c.tuple_list_at.ensures.read; cursor = c.tuple_list_at.ensures.cursor; further = c.tuple_list_at.ensures.further; fault = c.tuple_list_at.ensures.fault }
+
+pub tuple::tuple_at-returns-in-Bang : goal.tuple::tuple_at-returns-in-Bang
+tuple::tuple_at-returns-in-Bang t c = record { read = c.persistent_at.ensures.read; cursor = c.persistent_at.ensures.cursor; further = c.persistent_at.ensures.further; fault = c.persistent_at.ensures.fault }
+
+pub tuple::tuple_at-returns-in-AtSign : goal.tuple::tuple_at-returns-in-AtSign
+tuple::tuple_at-returns-in-AtSign t c = record { read = c.affine_at.ensures.read; cursor = c.affine_at.ensures.cursor; further = c.affine_at.ensures.further; fault = c.affine_at.ensures.fault }
+
+pub tuple::tuple_at-returns-in_default : goal.tuple::tuple_at-returns-in_default
+tuple::tuple_at-returns-in_default t c = record { read = c.bare_at.ensures.read; cursor = c.bare_at.ensures.cursor; further = c.bare_at.ensures.further; fault = c.bare_at.ensures.fault }
 
 pub atom::pair_at-returns-in_err-next-clause-fault : goal.atom::pair_at-returns-in_err-next-clause-fault
 atom::pair_at-returns-in_err-next-clause-fault t c =
@@ -25,29 +167,29 @@ atom::pair_at-returns-in_err-behind-clause-fault t c =
     passed _ c.from_residual-in_err-behind.result c.from_residual-in_err-behind.ensures.1 (λ k. pair_closing-fault c.in_ok-opened.ensures.opened c.in_ok-left.ensures.read c.in_ok-next.ensures.taken c.in_ok-right.ensures.read
     (close-missed _ _ token.Greater _ _ _ c.in_ok-right.ensures.cursor c.in_err-behind.ensures.missed))
 
-pub atom::group_at-returns-in_err-behind-clause-fault : goal.atom::group_at-returns-in_err-behind-clause-fault
-atom::group_at-returns-in_err-behind-clause-fault t c =
-    passed _ c.from_residual-in_err-behind.result c.from_residual-in_err-behind.ensures.1 (λ k. group_closing-fault c.in_ok-opened.ensures.opened c.in_ok-inside.ensures.read (close-missed _ _ token.RightParen _ _ _ c.in_ok-inside.ensures.cursor c.in_err-behind.ensures.missed))
+pub atom::group_at-returns-in-Err-clause-fault : goal.atom::group_at-returns-in-Err-clause-fault
+atom::group_at-returns-in-Err-clause-fault t c k =
+    group_closing-fault c.in_ok-opened.ensures.opened c.in_ok-inside.ensures.read (close-missed _ _ token.RightParen _ _ _ c.in_ok-inside.ensures.cursor c.in-Err.ensures.missed)
 
 pub expression::step_at-returns-in_err-closed-clause-fault : goal.expression::step_at-returns-in_err-closed-clause-fault
 expression::step_at-returns-in_err-closed-clause-fault t c =
-    passed _ c.from_residual-in_err-closed.result c.from_residual-in_err-closed.ensures.1 (λ k. let_closing-fault c.in_ok-begun.ensures.taken c.in_ok-opened.ensures.opened c.in_ok-pattern.ensures.read
-    (λ j. close-missed _ _ token.RightBrace _ j _ c.in_ok-pattern.ensures.cursor c.in_err-closed.ensures.missed))
+    passed _ c.from_residual-in_err-closed.result c.from_residual-in_err-closed.ensures.1 (λ k. let_closing-fault c.in_ok-begun.ensures.taken c.in_ok-opened.ensures.opened c.in_ok-found.ensures.read
+    (λ j. close-missed _ _ token.RightBrace _ j _ c.in_ok-found.ensures.cursor c.in_err-closed.ensures.missed))
 
 pub expression::step_at-returns-in_err-bound-clause-fault : goal.expression::step_at-returns-in_err-bound-clause-fault
 expression::step_at-returns-in_err-bound-clause-fault t c =
-    passed _ c.from_residual-in_err-bound.result c.from_residual-in_err-bound.ensures.1 (λ k. let_equals-fault c.in_ok-begun.ensures.taken c.in_ok-opened.ensures.opened c.in_ok-pattern.ensures.read c.in_ok-closed.ensures.closed
+    passed _ c.from_residual-in_err-bound.result c.from_residual-in_err-bound.ensures.1 (λ k. let_equals-fault c.in_ok-begun.ensures.taken c.in_ok-opened.ensures.opened c.in_ok-found.ensures.read c.in_ok-closed.ensures.closed
     (λ j. expect-missed _ _ token.Equals j _ c.in_ok-closed.ensures.cursor c.in_err-bound.ensures.missed))
 
 pub expression::step_at-returns-in_err-rhs-clause-fault : goal.expression::step_at-returns-in_err-rhs-clause-fault
 expression::step_at-returns-in_err-rhs-clause-fault t c =
-    passed _ c.from_residual-in_err-rhs.result c.from_residual-in_err-rhs.ensures.1 (λ k. let_right-fault c.in_ok-begun.ensures.taken c.in_ok-opened.ensures.opened c.in_ok-pattern.ensures.read c.in_ok-closed.ensures.closed c.in_ok-bound.ensures.taken
+    passed _ c.from_residual-in_err-rhs.result c.from_residual-in_err-rhs.ensures.1 (λ k. let_right-fault c.in_ok-begun.ensures.taken c.in_ok-opened.ensures.opened c.in_ok-found.ensures.read c.in_ok-closed.ensures.closed c.in_ok-bound.ensures.taken
     c.in_err-rhs.ensures.fault)
 
-pub expression::step_at-returns-in_err-behind-clause-fault : goal.expression::step_at-returns-in_err-behind-clause-fault
-expression::step_at-returns-in_err-behind-clause-fault t c =
-    passed _ c.from_residual-in_err-behind.result c.from_residual-in_err-behind.ensures.1 (λ k. let_in-fault c.in_ok-begun.ensures.taken c.in_ok-opened.ensures.opened c.in_ok-pattern.ensures.read c.in_ok-closed.ensures.closed c.in_ok-bound.ensures.taken c.in_ok-rhs.ensures.read
-    (λ j. expect-missed _ _ token.KwIn j _ c.in_ok-rhs.ensures.cursor c.in_err-behind.ensures.missed))
+pub expression::step_at-returns-in-Err-clause-fault : goal.expression::step_at-returns-in-Err-clause-fault
+expression::step_at-returns-in-Err-clause-fault t c k =
+    let_in-fault c.in_ok-begun.ensures.taken c.in_ok-opened.ensures.opened c.in_ok-found.ensures.read c.in_ok-closed.ensures.closed c.in_ok-bound.ensures.taken c.in_ok-rhs.ensures.read
+    (λ j. expect-missed _ _ token.KwIn j _ c.in_ok-rhs.ensures.cursor c.in-Err.ensures.missed)
 
 pub object::lambda_at-returns-in_err-opened-clause-fault : goal.object::lambda_at-returns-in_err-opened-clause-fault
 object::lambda_at-returns-in_err-opened-clause-fault t c =
@@ -69,21 +211,20 @@ pub object::lambda_at-returns-in_err-body-clause-fault : goal.object::lambda_at-
 object::lambda_at-returns-in_err-body-clause-fault t c =
     passed _ c.from_residual-in_err-body.result c.from_residual-in_err-body.ensures.1 (λ k. lambda_body-fault c.in_ok-opened.ensures.opened c.in_ok-mode.ensures.read c.in_ok-name.ensures.read c.in_ok-dotted.ensures.taken c.in_err-body.ensures.fault)
 
-pub object::lambda_at-returns-in_err-lambda_from-clause-fault : goal.object::lambda_at-returns-in_err-lambda_from-clause-fault
-object::lambda_at-returns-in_err-lambda_from-clause-fault t c =
-    passed _ c.from_residual-in_err-lambda_from.result c.from_residual-in_err-lambda_from.ensures.1 (λ k. fault_memory)
+pub object::lambda_at-returns-in_err-lambda-clause-fault : goal.object::lambda_at-returns-in_err-lambda-clause-fault
+object::lambda_at-returns-in_err-lambda-clause-fault t c =
+    passed _ c.from_residual-in_err-lambda.result c.from_residual-in_err-lambda.ensures.1 (λ k. fault_memory)
 
 pub object::application_at-returns-in_err-head-clause-fault : goal.object::application_at-returns-in_err-head-clause-fault
 object::application_at-returns-in_err-head-clause-fault t c =
     passed _ c.from_residual.result c.from_residual.ensures.1 (λ k. head-fault c.in_err-head.ensures.fault)
 
-pub object::application_at-returns-in_err-args-clause-fault : goal.object::application_at-returns-in_err-args-clause-fault
-object::application_at-returns-in_err-args-clause-fault t c =
-    passed _ c.from_residual-in_err-args.result c.from_residual-in_err-args.ensures.1 (λ k. called-fault c.in_ok-head.ensures.read c.in_err-args.ensures.fault)
+pub object::application_at-returns-in-Err-clause-fault : goal.object::application_at-returns-in-Err-clause-fault
+object::application_at-returns-in-Err-clause-fault t c k = called-fault c.in_ok-head.ensures.read c.in-Err.ensures.fault
 
-pub object::application_at-returns-in_err-applied-clause-fault : goal.object::application_at-returns-in_err-applied-clause-fault
-object::application_at-returns-in_err-applied-clause-fault t c =
-    passed _ c.from_residual-in_err-applied.result c.from_residual-in_err-applied.ensures.1 (λ k. fault_memory)
+pub object::application_at-returns-in_err-applied-in-Ok-clause-fault : goal.object::application_at-returns-in_err-applied-in-Ok-clause-fault
+object::application_at-returns-in_err-applied-in-Ok-clause-fault t c =
+    passed _ c.from_residual-in_err-applied-in-Ok.result c.from_residual-in_err-applied-in-Ok.ensures.1 (λ k. fault_memory)
 
 pub atom::pair_at-returns-in_err-opened-clause-fault : goal.atom::pair_at-returns-in_err-opened-clause-fault
 atom::pair_at-returns-in_err-opened-clause-fault t c =
@@ -165,9 +306,13 @@ pub expression::step_at-returns-in_err-opened-clause-fault : goal.expression::st
 expression::step_at-returns-in_err-opened-clause-fault t c =
     passed _ c.from_residual-in_err-opened.result c.from_residual-in_err-opened.ensures.1 (λ k. let_opening-fault _ _ _ k _ c.in_ok-begun.ensures.cursor c.in_ok-begun.ensures.taken c.in_err-opened.ensures.missed)
 
+pub expression::step_at-returns-in_err-found-clause-fault : goal.expression::step_at-returns-in_err-found-clause-fault
+expression::step_at-returns-in_err-found-clause-fault t c =
+    passed _ c.from_residual-in_err-found.result c.from_residual-in_err-found.ensures.1 (λ k. let_pattern-fault c.in_ok-begun.ensures.taken c.in_ok-opened.ensures.opened c.in_err-found.ensures.fault)
+
 pub expression::step_at-returns-in_err-pattern-clause-fault : goal.expression::step_at-returns-in_err-pattern-clause-fault
 expression::step_at-returns-in_err-pattern-clause-fault t c =
-    passed _ c.from_residual-in_err-pattern.result c.from_residual-in_err-pattern.ensures.1 (λ k. let_pattern-fault c.in_ok-begun.ensures.taken c.in_ok-opened.ensures.opened c.in_err-pattern.ensures.fault)
+    passed _ c.from_residual-in_err-pattern.result c.from_residual-in_err-pattern.ensures.1 (λ k. fault_memory)
 
 pub tuple::tuple_list_at-returns-in_err-opened-clause-fault : goal.tuple::tuple_list_at-returns-in_err-opened-clause-fault
 tuple::tuple_list_at-returns-in_err-opened-clause-fault t c =
@@ -318,15 +463,6 @@ atom::group_at-returns-in_err-inside-clause-cursor t c = refused _ _ c.from_resi
 pub atom::group_at-returns-in_err-inside-clause-further : goal.atom::group_at-returns-in_err-inside-clause-further
 atom::group_at-returns-in_err-inside-clause-further t c = refused _ _ c.from_residual-in_err-inside.result c.from_residual-in_err-inside.ensures.1
 
-pub atom::group_at-returns-in_err-behind-clause-read : goal.atom::group_at-returns-in_err-behind-clause-read
-atom::group_at-returns-in_err-behind-clause-read t c = refused _ _ c.from_residual-in_err-behind.result c.from_residual-in_err-behind.ensures.1
-
-pub atom::group_at-returns-in_err-behind-clause-cursor : goal.atom::group_at-returns-in_err-behind-clause-cursor
-atom::group_at-returns-in_err-behind-clause-cursor t c = refused _ _ c.from_residual-in_err-behind.result c.from_residual-in_err-behind.ensures.1
-
-pub atom::group_at-returns-in_err-behind-clause-further : goal.atom::group_at-returns-in_err-behind-clause-further
-atom::group_at-returns-in_err-behind-clause-further t c = refused _ _ c.from_residual-in_err-behind.result c.from_residual-in_err-behind.ensures.1
-
 pub atom::pair_at-returns-in_err-opened-clause-read : goal.atom::pair_at-returns-in_err-opened-clause-read
 atom::pair_at-returns-in_err-opened-clause-read t c = refused _ _ c.from_residual.result c.from_residual.ensures.1
 
@@ -453,11 +589,20 @@ expression::step_at-returns-in_err-opened-clause-cursor t c = refused _ _ c.from
 pub expression::step_at-returns-in_err-opened-clause-further : goal.expression::step_at-returns-in_err-opened-clause-further
 expression::step_at-returns-in_err-opened-clause-further t c = refused _ _ c.from_residual-in_err-opened.result c.from_residual-in_err-opened.ensures.1
 
+pub expression::step_at-returns-in_err-found-clause-read : goal.expression::step_at-returns-in_err-found-clause-read
+expression::step_at-returns-in_err-found-clause-read t c = refused _ _ c.from_residual-in_err-found.result c.from_residual-in_err-found.ensures.1
+
 pub expression::step_at-returns-in_err-pattern-clause-read : goal.expression::step_at-returns-in_err-pattern-clause-read
 expression::step_at-returns-in_err-pattern-clause-read t c = refused _ _ c.from_residual-in_err-pattern.result c.from_residual-in_err-pattern.ensures.1
 
+pub expression::step_at-returns-in_err-found-clause-cursor : goal.expression::step_at-returns-in_err-found-clause-cursor
+expression::step_at-returns-in_err-found-clause-cursor t c = refused _ _ c.from_residual-in_err-found.result c.from_residual-in_err-found.ensures.1
+
 pub expression::step_at-returns-in_err-pattern-clause-cursor : goal.expression::step_at-returns-in_err-pattern-clause-cursor
 expression::step_at-returns-in_err-pattern-clause-cursor t c = refused _ _ c.from_residual-in_err-pattern.result c.from_residual-in_err-pattern.ensures.1
+
+pub expression::step_at-returns-in_err-found-clause-further : goal.expression::step_at-returns-in_err-found-clause-further
+expression::step_at-returns-in_err-found-clause-further t c = refused _ _ c.from_residual-in_err-found.result c.from_residual-in_err-found.ensures.1
 
 pub expression::step_at-returns-in_err-pattern-clause-further : goal.expression::step_at-returns-in_err-pattern-clause-further
 expression::step_at-returns-in_err-pattern-clause-further t c = refused _ _ c.from_residual-in_err-pattern.result c.from_residual-in_err-pattern.ensures.1
@@ -488,15 +633,6 @@ expression::step_at-returns-in_err-rhs-clause-cursor t c = refused _ _ c.from_re
 
 pub expression::step_at-returns-in_err-rhs-clause-further : goal.expression::step_at-returns-in_err-rhs-clause-further
 expression::step_at-returns-in_err-rhs-clause-further t c = refused _ _ c.from_residual-in_err-rhs.result c.from_residual-in_err-rhs.ensures.1
-
-pub expression::step_at-returns-in_err-behind-clause-read : goal.expression::step_at-returns-in_err-behind-clause-read
-expression::step_at-returns-in_err-behind-clause-read t c = refused _ _ c.from_residual-in_err-behind.result c.from_residual-in_err-behind.ensures.1
-
-pub expression::step_at-returns-in_err-behind-clause-cursor : goal.expression::step_at-returns-in_err-behind-clause-cursor
-expression::step_at-returns-in_err-behind-clause-cursor t c = refused _ _ c.from_residual-in_err-behind.result c.from_residual-in_err-behind.ensures.1
-
-pub expression::step_at-returns-in_err-behind-clause-further : goal.expression::step_at-returns-in_err-behind-clause-further
-expression::step_at-returns-in_err-behind-clause-further t c = refused _ _ c.from_residual-in_err-behind.result c.from_residual-in_err-behind.ensures.1
 
 pub expression::steps_at-returns-in_err-step-clause-read : goal.expression::steps_at-returns-in_err-step-clause-read
 expression::steps_at-returns-in_err-step-clause-read t c = refused _ _ c.from_residual.result c.from_residual.ensures.1
@@ -531,23 +667,14 @@ object::application_at-returns-in_err-head-clause-cursor t c = refused _ _ c.fro
 pub object::application_at-returns-in_err-head-clause-further : goal.object::application_at-returns-in_err-head-clause-further
 object::application_at-returns-in_err-head-clause-further t c = refused _ _ c.from_residual.result c.from_residual.ensures.1
 
-pub object::application_at-returns-in_err-args-clause-read : goal.object::application_at-returns-in_err-args-clause-read
-object::application_at-returns-in_err-args-clause-read t c = refused _ _ c.from_residual-in_err-args.result c.from_residual-in_err-args.ensures.1
+pub object::application_at-returns-in_err-applied-in-Ok-clause-read : goal.object::application_at-returns-in_err-applied-in-Ok-clause-read
+object::application_at-returns-in_err-applied-in-Ok-clause-read t c = refused _ _ c.from_residual-in_err-applied-in-Ok.result c.from_residual-in_err-applied-in-Ok.ensures.1
 
-pub object::application_at-returns-in_err-args-clause-cursor : goal.object::application_at-returns-in_err-args-clause-cursor
-object::application_at-returns-in_err-args-clause-cursor t c = refused _ _ c.from_residual-in_err-args.result c.from_residual-in_err-args.ensures.1
+pub object::application_at-returns-in_err-applied-in-Ok-clause-cursor : goal.object::application_at-returns-in_err-applied-in-Ok-clause-cursor
+object::application_at-returns-in_err-applied-in-Ok-clause-cursor t c = refused _ _ c.from_residual-in_err-applied-in-Ok.result c.from_residual-in_err-applied-in-Ok.ensures.1
 
-pub object::application_at-returns-in_err-args-clause-further : goal.object::application_at-returns-in_err-args-clause-further
-object::application_at-returns-in_err-args-clause-further t c = refused _ _ c.from_residual-in_err-args.result c.from_residual-in_err-args.ensures.1
-
-pub object::application_at-returns-in_err-applied-clause-read : goal.object::application_at-returns-in_err-applied-clause-read
-object::application_at-returns-in_err-applied-clause-read t c = refused _ _ c.from_residual-in_err-applied.result c.from_residual-in_err-applied.ensures.1
-
-pub object::application_at-returns-in_err-applied-clause-cursor : goal.object::application_at-returns-in_err-applied-clause-cursor
-object::application_at-returns-in_err-applied-clause-cursor t c = refused _ _ c.from_residual-in_err-applied.result c.from_residual-in_err-applied.ensures.1
-
-pub object::application_at-returns-in_err-applied-clause-further : goal.object::application_at-returns-in_err-applied-clause-further
-object::application_at-returns-in_err-applied-clause-further t c = refused _ _ c.from_residual-in_err-applied.result c.from_residual-in_err-applied.ensures.1
+pub object::application_at-returns-in_err-applied-in-Ok-clause-further : goal.object::application_at-returns-in_err-applied-in-Ok-clause-further
+object::application_at-returns-in_err-applied-in-Ok-clause-further t c = refused _ _ c.from_residual-in_err-applied-in-Ok.result c.from_residual-in_err-applied-in-Ok.ensures.1
 
 pub object::lambda_at-returns-in_err-opened-clause-read : goal.object::lambda_at-returns-in_err-opened-clause-read
 object::lambda_at-returns-in_err-opened-clause-read t c = refused _ _ c.from_residual.result c.from_residual.ensures.1
@@ -594,14 +721,14 @@ object::lambda_at-returns-in_err-body-clause-cursor t c = refused _ _ c.from_res
 pub object::lambda_at-returns-in_err-body-clause-further : goal.object::lambda_at-returns-in_err-body-clause-further
 object::lambda_at-returns-in_err-body-clause-further t c = refused _ _ c.from_residual-in_err-body.result c.from_residual-in_err-body.ensures.1
 
-pub object::lambda_at-returns-in_err-lambda_from-clause-read : goal.object::lambda_at-returns-in_err-lambda_from-clause-read
-object::lambda_at-returns-in_err-lambda_from-clause-read t c = refused _ _ c.from_residual-in_err-lambda_from.result c.from_residual-in_err-lambda_from.ensures.1
+pub object::lambda_at-returns-in_err-lambda-clause-read : goal.object::lambda_at-returns-in_err-lambda-clause-read
+object::lambda_at-returns-in_err-lambda-clause-read t c = refused _ _ c.from_residual-in_err-lambda.result c.from_residual-in_err-lambda.ensures.1
 
-pub object::lambda_at-returns-in_err-lambda_from-clause-cursor : goal.object::lambda_at-returns-in_err-lambda_from-clause-cursor
-object::lambda_at-returns-in_err-lambda_from-clause-cursor t c = refused _ _ c.from_residual-in_err-lambda_from.result c.from_residual-in_err-lambda_from.ensures.1
+pub object::lambda_at-returns-in_err-lambda-clause-cursor : goal.object::lambda_at-returns-in_err-lambda-clause-cursor
+object::lambda_at-returns-in_err-lambda-clause-cursor t c = refused _ _ c.from_residual-in_err-lambda.result c.from_residual-in_err-lambda.ensures.1
 
-pub object::lambda_at-returns-in_err-lambda_from-clause-further : goal.object::lambda_at-returns-in_err-lambda_from-clause-further
-object::lambda_at-returns-in_err-lambda_from-clause-further t c = refused _ _ c.from_residual-in_err-lambda_from.result c.from_residual-in_err-lambda_from.ensures.1
+pub object::lambda_at-returns-in_err-lambda-clause-further : goal.object::lambda_at-returns-in_err-lambda-clause-further
+object::lambda_at-returns-in_err-lambda-clause-further t c = refused _ _ c.from_residual-in_err-lambda.result c.from_residual-in_err-lambda.ensures.1
 
 pub tuple::affine_at-returns-in_err-marked-clause-read : goal.tuple::affine_at-returns-in_err-marked-clause-read
 tuple::affine_at-returns-in_err-marked-clause-read t c = refused _ _ c.from_residual.result c.from_residual.ensures.1
