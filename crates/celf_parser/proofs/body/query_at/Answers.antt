@@ -35,4 +35,3 @@ returns-in_err-ty c =
     let r = c.from_residual-in_err-ty.result in
     let e = c.from_residual-in_err-ty.ensures.1 in
     record { read = refused _ _ r e; name = refused _ _ r e; cursor = refused _ _ r e; further = refused _ _ r e; fault = passed _ r e (λ k. bounded-fault c.in_ok-d.ensures.read (bounded-fault c.in_ok-e.ensures.read (bounded-fault c.in_ok-l.ensures.read (bounded-fault c.in_ok-a.ensures.read (c.in_err-ty.ensures.fault _))))) }
-

@@ -31,15 +31,25 @@ pub pi_at-returns-in_err-stop : goal.pi_at-returns-in_err-stop
 pi_at-returns-in_err-stop t c =
     let r = c.from_residual-in_err-stop.result in
     let e = c.from_residual-in_err-stop.ensures.1 in
-    record { read = refused _ _ r e; cursor = refused _ _ r e; further = refused _ _ r e; fault = passed _ r e (λ k. bound-fault (pi-opens _ k c.requires.kind) c.in_ok-name.ensures.read
-    (typed-fault c.in_ok-dom.ensures.read (expect-missed _ _ token.Stop _ _ c.in_ok-dom.ensures.cursor c.in_err-stop.ensures.missed))) }
+    record {
+      read = refused _ _ r e;
+      cursor = refused _ _ r e;
+      further = refused _ _ r e;
+      fault = passed _ r e (λ k. bound-fault (pi-opens _ k c.requires.kind) c.in_ok-name.ensures.read
+          (typed-fault c.in_ok-dom.ensures.read (expect-missed _ _ token.Stop _ _ c.in_ok-dom.ensures.cursor c.in_err-stop.ensures.missed)));
+    }
 
 pub pi_at-returns-in_err-rest : goal.pi_at-returns-in_err-rest
 pi_at-returns-in_err-rest t c =
     let r = c.from_residual-in_err-rest.result in
     let e = c.from_residual-in_err-rest.ensures.1 in
-    record { read = refused _ _ r e; cursor = refused _ _ r e; further = refused _ _ r e; fault = passed _ r e (λ k. bound-fault (pi-opens _ k c.requires.kind) c.in_ok-name.ensures.read
-    (typed-fault c.in_ok-dom.ensures.read (stop-fault c.in_ok-stop.ensures.taken (c.in_err-rest.ensures.fault k)))) }
+    record {
+      read = refused _ _ r e;
+      cursor = refused _ _ r e;
+      further = refused _ _ r e;
+      fault = passed _ r e (λ k. bound-fault (pi-opens _ k c.requires.kind) c.in_ok-name.ensures.read
+          (typed-fault c.in_ok-dom.ensures.read (stop-fault c.in_ok-stop.ensures.taken (c.in_err-rest.ensures.fault k))));
+    }
 
 pub exists_at-returns-in_err-name : goal.exists_at-returns-in_err-name
 exists_at-returns-in_err-name t c =
@@ -57,15 +67,25 @@ pub exists_at-returns-in_err-stop : goal.exists_at-returns-in_err-stop
 exists_at-returns-in_err-stop t c =
     let r = c.from_residual-in_err-stop.result in
     let e = c.from_residual-in_err-stop.ensures.1 in
-    record { read = refused _ _ r e; cursor = refused _ _ r e; further = refused _ _ r e; fault = passed _ r e (λ k. bound-fault (exists-opens _ k c.requires.kind) c.in_ok-name.ensures.read
-    (typed-fault c.in_ok-dom.ensures.read (expect-missed _ _ token.Stop _ _ c.in_ok-dom.ensures.cursor c.in_err-stop.ensures.missed))) }
+    record {
+      read = refused _ _ r e;
+      cursor = refused _ _ r e;
+      further = refused _ _ r e;
+      fault = passed _ r e (λ k. bound-fault (exists-opens _ k c.requires.kind) c.in_ok-name.ensures.read
+          (typed-fault c.in_ok-dom.ensures.read (expect-missed _ _ token.Stop _ _ c.in_ok-dom.ensures.cursor c.in_err-stop.ensures.missed)));
+    }
 
 pub exists_at-returns-in_err-rest : goal.exists_at-returns-in_err-rest
 exists_at-returns-in_err-rest t c =
     let r = c.from_residual-in_err-rest.result in
     let e = c.from_residual-in_err-rest.ensures.1 in
-    record { read = refused _ _ r e; cursor = refused _ _ r e; further = refused _ _ r e; fault = passed _ r e (λ k. bound-fault (exists-opens _ k c.requires.kind) c.in_ok-name.ensures.read
-    (typed-fault c.in_ok-dom.ensures.read (stop-fault c.in_ok-stop.ensures.taken (c.in_err-rest.ensures.fault k)))) }
+    record {
+      read = refused _ _ r e;
+      cursor = refused _ _ r e;
+      further = refused _ _ r e;
+      fault = passed _ r e (λ k. bound-fault (exists-opens _ k c.requires.kind) c.in_ok-name.ensures.read
+          (typed-fault c.in_ok-dom.ensures.read (stop-fault c.in_ok-stop.ensures.taken (c.in_err-rest.ensures.fault k))));
+    }
 
 pub marked_at-returns-in_err-body : goal.marked_at-returns-in_err-body
 marked_at-returns-in_err-body t c =
@@ -101,8 +121,13 @@ pub enclosed_at-returns-in_err-end : goal.enclosed_at-returns-in_err-end
 enclosed_at-returns-in_err-end t c =
     let r = c.from_residual-in_err-end.result in
     let e = c.from_residual-in_err-end.ensures.1 in
-    record { read = refused _ _ r e; cursor = refused _ _ r e; further = refused _ _ r e; fault = passed _ r e (λ j k o. opened-fault o c.in_ok-inside.ensures.opened
-    (typed-fault c.in_ok-ty.ensures.read (close-missed _ _ _ _ k _ c.in_ok-ty.ensures.cursor c.in_err-end.ensures.missed))) }
+    record {
+      read = refused _ _ r e;
+      cursor = refused _ _ r e;
+      further = refused _ _ r e;
+      fault = passed _ r e (λ j k o. opened-fault o c.in_ok-inside.ensures.opened
+          (typed-fault c.in_ok-ty.ensures.read (close-missed _ _ _ _ k _ c.in_ok-ty.ensures.cursor c.in_err-end.ensures.missed)));
+    }
 
 pub atom_at-returns-in-LeftParen-clause-fault : goal.atom_at-returns-in-LeftParen-clause-fault
 atom_at-returns-in-LeftParen-clause-fault t c =
