@@ -304,7 +304,6 @@ fn unknown_in_one_entry<'a>(
 }
 
 /// The first name of an item that has no meaning at its place. It fails only where memory runs out.
-#[tactic(auto, using(celf_sugar::proofs::EarliestLaws::earliest_laws))]
 pub fn first_unknown<'a>(
     alloc: Global,
     sig: &Signature,
@@ -328,17 +327,42 @@ pub fn first_unknown<'a>(
         } => unknown_in_type(ty, sig, &mut scope),
         PlainBody::Trace { n: _, tele } => unknown_in_telescope(tele, sig, &mut scope),
         PlainBody::Equal { left, right, ty } => {
-            let first = unknown_in_object(left, sig, &mut scope)?;
-            let other = unknown_in_object(right, sig, &mut scope)?;
-            let last = unknown_in_type(ty, sig, &mut scope)?;
-            Ok(sooner(first, sooner(other, last)))
+            unknown_in_equation(left, right, ty, sig, &mut scope)
         }
-        PlainBody::Check { obj, ty } => {
-            let first = unknown_in_object(obj, sig, &mut scope)?;
-            let other = unknown_in_type(ty, sig, &mut scope)?;
-            Ok(sooner(first, other))
-        }
+        PlainBody::Check { obj, ty } => unknown_in_check(obj, ty, sig, &mut scope),
     }
+}
+
+/// The first one in two objects and their type.
+#[tactic(auto, using(celf_sugar::proofs::EarliestLaws::earliest_laws))]
+fn unknown_in_equation<'a>(
+    left: &'a PObj,
+    right: &'a PObj,
+    ty: &'a PTy,
+    sig: &Signature,
+    scope: &mut Scope<'a>,
+) -> Result<Option<&'a PName>, AllocError>
+    ensures { IfOk result (λ n. option_copied n ≡ earliest spec.place (spec.unknown_in_object (plain_signature sig.now) scope.old (plain_object left.now)
+        ++ (spec.unknown_in_object (plain_signature sig.now) scope.old (plain_object right.now) ++ spec.unknown_in_type (plain_signature sig.now) scope.old (plain_type ty.now)))) }
+{
+    let first = unknown_in_object(left, sig, scope)?;
+    let other = unknown_in_check(right, ty, sig, scope)?;
+    Ok(sooner(first, other))
+}
+
+/// The first one in an object and its type.
+#[tactic(auto, using(celf_sugar::proofs::EarliestLaws::earliest_laws))]
+fn unknown_in_check<'a>(
+    obj: &'a PObj,
+    ty: &'a PTy,
+    sig: &Signature,
+    scope: &mut Scope<'a>,
+) -> Result<Option<&'a PName>, AllocError>
+    ensures { IfOk result (λ n. option_copied n ≡ earliest spec.place (spec.unknown_in_object (plain_signature sig.now) scope.old (plain_object obj.now) ++ spec.unknown_in_type (plain_signature sig.now) scope.old (plain_type ty.now))) }
+{
+    let first = unknown_in_object(obj, sig, scope)?;
+    let other = unknown_in_type(ty, sig, scope)?;
+    Ok(sooner(first, other))
 }
 
 /// The first one in what a declaration declares.
