@@ -97,8 +97,7 @@ pub fn stays(place: Option<&Simple>) -> bool
     ensures { result ≡ spec.stays (option_map plain_simple (option_copied place.entry)) }
 {
     match place {
-        None => true,
-        Some(Simple::Atom(_)) => true,
+        Some(Simple::Atom(_)) | None => true,
         Some(Simple::Fun { .. } | Simple::With { .. } | Simple::Top | Simple::Monad { .. }) => {
             false
         }
