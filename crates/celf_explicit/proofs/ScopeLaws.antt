@@ -27,7 +27,7 @@ any_here tree p ws i w h e q = any-map tree p ws ∙ list_any_at (λ x. p (tree 
 pub kept_alone : {W X : Type 0} (tree : W → X) (n : ℕ) (left ws : List W) → length left ≡ n → take n left ≡ take n ws → map tree left ≡ take n (map tree ws)
 kept_alone tree n left ws h e = sym (take-map tree n ws ∙ ap (map tree) (sym e) ∙ ap (λ k. map tree (take k left)) (sym h) ∙ ap (map tree) (take-length left))
 
-pub ruleset scope_laws = (take-append_seam, append_assoc)
+pub ruleset scope_laws = (take-append_seam)
 
 module _ {W X : Type 0} (names : List (List ℕ) → X → List PName) (binds : X → List (List ℕ)) (tree : W → X) where
   along-last : (scope : List (List ℕ)) (xs : List X) (x : X) → unknown_along names binds scope (xs ++ x ∷ []) ≡ unknown_along names binds scope xs ++ names (scope ++ flat_map binds xs) x

@@ -236,7 +236,7 @@ fn read_spine<'a>(
 }
 
 #[cycle(read)]
-#[tactic(auto, using(crate::proofs::Forms::elim_laws, crate::proofs::Forms::core_elim_laws))]
+#[tactic(auto, using(celf_sugar::specs::Plain::elim_laws, crate::proofs::Forms::core_elim_laws))]
 fn read_act<'a>(
     act: &'a PElim,
     alloc: Global,
