@@ -2,20 +2,14 @@
 use Rattle.clf_syntax.specs.Plain as core
 use Rattle.clf_syntax.specs.PlainTypes as core_type
 use Rattle.celf_sugar.specs.Plain as written
+use Rattle.celf_sugar.proofs.EarliestLaws.{earliest-append}
+use Rattle.celf_explicit.specs.UnknownLists.{spine-listed, telescope-listed}
 
 pub ruleset object_laws = (written.object-of, written.form-Lam, written.form-Pair, written.form-Unit, written.form-Mon, written.form-At, written.form-Hole)
 
-pub ruleset elim_laws = (written.elim-Arg, written.elim-First, written.elim-Second)
-
 pub ruleset expression_laws = (written.expression-of)
 
-pub ruleset marked_laws = (written.marked-of)
-
-pub ruleset step_laws = (written.step-of)
-
 pub ruleset type_laws = (written.type-of, written.type-Family, written.type-Fun, written.type-With, written.type-Top, written.type-Monad)
-
-pub ruleset entry_laws = (written.entry-of)
 
 pub ruleset telescope_laws = (written.telescope-of)
 
@@ -25,3 +19,11 @@ pub ruleset core_object_laws = (core.plain-Unit)
 pub ruleset core_elim_laws = (core.plain-First, core.plain-Second)
 
 pub ruleset core_type_laws = (core_type.plain-Top)
+
+-- the first name of two parts
+pub ruleset joined_laws = (earliest-append)
+
+-- the parts of one list
+pub ruleset spine_laws = (spine-listed)
+
+pub ruleset telescope_list_laws = (telescope-listed)

@@ -1,11 +1,11 @@
 -- Lists of parts each of which binds names in the later ones.
 use Rattle.std.specs.Prelude.{ℕ, ◌+◌, ◌≡◌, ◌<◌, Bool, true, false, ◌||◌, List, [], ◌∷◌, ◌++◌, map, length, take, get_or, Option, refl}
 use Rattle.std.specs.List.{flat_map, list_any}
-use Rattle.std.proofs.Common.{ap, sym, ◌∙◌, append-nil, append_assoc}
-use Rattle.std.proofs.Math.Seq.{take-append_seam, take-length}
+use Rattle.std.proofs.Common.{◌≤◌, ap, sym, ◌∙◌, append-nil, append_assoc}
+use Rattle.std.proofs.Math.Seq.{take-append_seam}
 use Rattle.std.proofs.lemmas.List.Folds.{list_any-append, list_any_at}
 use Rattle.std.proofs.lemmas.Grind.{flat_map-append}
-use Rattle.std.proofs.lemmas.List.{take_more, map-append, take-map}
+use Rattle.std.proofs.lemmas.List.{take_more, take_all, map-append, take-map}
 use Rattle.celf_sugar.specs.declared.plain.PName.{PName}
 use Rattle.celf_sugar.specs.Earliest.{sooner, earliest}
 use Rattle.celf_sugar.proofs.EarliestLaws.{earliest-append, one_more}
@@ -24,10 +24,10 @@ pub any_here : {W X : Type 0} (tree : W → X) (p : X → Bool) (ws : List W) (i
 any_here tree p ws i w h e q = any-map tree p ws ∙ list_any_at (λ x. p (tree x)) ws i w h (rw (← e) q)
 
 -- the names that are left are the oldest ones
-pub kept_alone : {W X : Type 0} (tree : W → X) (n : ℕ) (left ws : List W) → length left ≡ n → take n left ≡ take n ws → map tree left ≡ take n (map tree ws)
-kept_alone tree n left ws h e = sym (take-map tree n ws ∙ ap (map tree) (sym e) ∙ ap (λ k. map tree (take k left)) (sym h) ∙ ap (map tree) (take-length left))
+pub kept_alone : {W X : Type 0} (tree : W → X) (n : ℕ) (left ws : List W) → length left ≤ n → take n left ≡ take n ws → map tree left ≡ take n (map tree ws)
+kept_alone tree n left ws h e = sym (take-map tree n ws ∙ ap (map tree) (sym e) ∙ ap (map tree) (take_all n left h))
 
-pub ruleset scope_laws = (take-append_seam, append_assoc)
+pub ruleset scope_laws = (take-append_seam)
 
 module _ {W X : Type 0} (names : List (List ℕ) → X → List PName) (binds : X → List (List ℕ)) (tree : W → X) where
   along-last : (scope : List (List ℕ)) (xs : List X) (x : X) → unknown_along names binds scope (xs ++ x ∷ []) ≡ unknown_along names binds scope xs ++ names (scope ++ flat_map binds xs) x

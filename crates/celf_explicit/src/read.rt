@@ -1,5 +1,5 @@
 //! The reading of types and objects.
-ghost use Rattle.std.specs.Prelude.{◌≡◌, [], map, IfOk, OnOk, option_copied, option_map};
+ghost use Rattle.std.specs.Prelude.{◌≡◌, [], map, IfOk, OnOk, Ok, option_copied, option_map};
 ghost use Rattle.clf_syntax.specs.Plain.{plain_obj, plain_elim, plain_neutral};
 ghost use Rattle.clf_syntax.specs.PlainTypes.{plain_ty};
 ghost use Rattle.clf_syntax.specs.Tree as core;
@@ -38,13 +38,13 @@ pub fn read_type(alloc: Global, sig: &Signature, ty: &PTy) -> Result<Option<Ty>,
             dom,
             cod,
         } => {
-            let dom = boxed(alloc, read_type(alloc, sig, dom.get())?)?;
-            let cod = boxed(alloc, read_type(alloc, sig, cod.get())?)?;
+            let dom = boxed(alloc, read_type(alloc, sig, dom.get()))?;
+            let cod = boxed(alloc, read_type(alloc, sig, cod.get()))?;
             Ok(function(*mode, dom, cod))
         }
         PTyForm::With { left, right } => {
-            let left = boxed(alloc, read_type(alloc, sig, left.get())?)?;
-            let right = boxed(alloc, read_type(alloc, sig, right.get())?)?;
+            let left = boxed(alloc, read_type(alloc, sig, left.get()))?;
+            let right = boxed(alloc, read_type(alloc, sig, right.get()))?;
             Ok(both(left, right))
         }
         PTyForm::Top => Ok(Some(Ty::Top)),
@@ -74,11 +74,14 @@ fn family(alloc: Global, family: Option<u32>) -> Option<Ty>
     })
 }
 
-/// A tree in a box, if it is there. In its box it is dropped by a call: dropped in place, each of its forms would be a case of the function that reads on.
-fn boxed<T: Drop>(alloc: Global, tree: Option<T>) -> Result<Option<Boxed<T>>, AllocError>
-    ensures { IfOk result (λ b. b ≡ tree) }
+/// What has been read, in a box. In its box a tree is dropped by a call: dropped in place, each of its forms would be a case of the function that reads on.
+fn boxed<T: Drop>(
+    alloc: Global,
+    read: Result<Option<T>, AllocError>,
+) -> Result<Option<Boxed<T>>, AllocError>
+    ensures { IfOk result (λ b. read ≡ Ok b) }
 {
-    match tree {
+    match read? {
         Some(tree) => Ok(Some(Boxed::new(alloc, tree)?)),
         None => Ok(None),
     }
@@ -118,15 +121,15 @@ fn read_object<'a>(
     match &obj.form {
         PObjForm::Lam { mode, name, body } => {
             locals.push(name, domain(place))?;
-            let body = read_object(body.get(), alloc, sig, codomain(place), locals)?;
+            let body = read_object(body.get(), alloc, sig, codomain(place), locals);
             locals.pop();
             let body = boxed(alloc, body)?;
             Ok(lambda(marked(*mode, mode_at(place)), body))
         }
         PObjForm::Pair { left, right } => {
-            let left = read_object(left.get(), alloc, sig, left_part(place), locals)?;
+            let left = read_object(left.get(), alloc, sig, left_part(place), locals);
             let left = boxed(alloc, left)?;
-            let right = read_object(right.get(), alloc, sig, right_part(place), locals)?;
+            let right = read_object(right.get(), alloc, sig, right_part(place), locals);
             let right = boxed(alloc, right)?;
             Ok(pair(left, right))
         }
@@ -233,7 +236,7 @@ fn read_spine<'a>(
 }
 
 #[cycle(read)]
-#[tactic(auto, using(crate::proofs::Forms::elim_laws, crate::proofs::Forms::core_elim_laws))]
+#[tactic(auto, using(celf_sugar::specs::Plain::elim_laws, crate::proofs::Forms::core_elim_laws))]
 fn read_act<'a>(
     act: &'a PElim,
     alloc: Global,

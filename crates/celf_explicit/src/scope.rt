@@ -1,5 +1,5 @@
 //! The names that are bound around a part of an item.
-ghost use Rattle.std.specs.Prelude.{◌≡◌, ◌≤◌, ◌++◌, [], length, take, OnOk};
+ghost use Rattle.std.specs.Prelude.{◌≡◌, ◌++◌, [], length, take, OnOk};
 ghost use Rattle.clf_sig.specs.Signature.{plain_signature};
 ghost use Rattle.clf_syntax.specs.Word.{same_bytes};
 ghost use Rattle.celf_explicit.specs.Names.{is_bound, is_known as is_known_in};
@@ -98,9 +98,8 @@ impl<'a> Scope<'a> {
         Ok(())
     }
 
-    /// Keeps the oldest ones alone, of this number.
+    /// Keeps the oldest ones alone, of this number at most.
     pub fn keep(&mut self, count: usize)
-        requires { count ≤ length self.old }
         ensures { self.new ≡ take count self.old }
     {
         while self.names.len() > count {

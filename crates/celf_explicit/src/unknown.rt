@@ -19,7 +19,7 @@ use std::alloc::{AllocError, Global};
 
 /// The first name in an object that has no meaning, where these names are bound around it.
 #[cycle(objects)]
-#[tactic(auto, using(crate::proofs::Forms::object_laws, celf_sugar::proofs::EarliestLaws::earliest_laws, crate::specs::UnknownLists::listed_laws, crate::proofs::ScopeLaws::scope_laws))]
+#[tactic(auto, using(crate::proofs::Forms::object_laws, crate::proofs::Forms::joined_laws, crate::proofs::Forms::spine_laws, crate::proofs::ScopeLaws::scope_laws))]
 fn unknown_in_object<'a>(
     obj: &'a PObj,
     sig: &Signature,
@@ -72,7 +72,6 @@ fn unknown_head<'a>(head: &'a PName, sig: &Signature, scope: &Scope<'a>) -> Opti
 }
 
 #[cycle(objects)]
-#[tactic(auto, using(celf_sugar::proofs::EarliestLaws::earliest_laws))]
 fn unknown_in_spine<'a>(
     spine: &'a [PElim],
     sig: &Signature,
@@ -89,7 +88,7 @@ fn unknown_in_spine<'a>(
 }
 
 #[cycle(objects)]
-#[tactic(auto, using(crate::proofs::Forms::elim_laws, celf_sugar::proofs::EarliestLaws::earliest_laws))]
+#[tactic(auto, using(celf_sugar::specs::Plain::elim_laws))]
 fn unknown_in_act<'a>(
     act: &'a PElim,
     sig: &Signature,
@@ -106,7 +105,7 @@ fn unknown_in_act<'a>(
 
 /// The first one in an expression, whose steps stay bound.
 #[cycle(objects)]
-#[tactic(auto, using(crate::proofs::Forms::expression_laws, celf_sugar::proofs::EarliestLaws::earliest_laws, crate::specs::UnknownLists::listed_laws, crate::proofs::ScopeLaws::scope_laws))]
+#[tactic(auto, using(crate::proofs::Forms::expression_laws, crate::proofs::Forms::joined_laws, crate::specs::UnknownLists::listed_laws))]
 fn unknown_in_expression<'a>(
     expr: &'a PExpr,
     sig: &Signature,
@@ -123,7 +122,6 @@ fn unknown_in_expression<'a>(
 
 /// The first one in steps, which stay bound.
 #[cycle(objects)]
-#[tactic(auto, using(celf_sugar::proofs::EarliestLaws::earliest_laws, crate::proofs::ScopeLaws::scope_laws))]
 fn unknown_in_steps<'a>(
     steps: &'a [PStep],
     sig: &Signature,
@@ -141,7 +139,7 @@ fn unknown_in_steps<'a>(
 
 /// The first one in a step, which stays bound.
 #[cycle(objects)]
-#[tactic(auto, using(crate::proofs::Forms::step_laws, celf_sugar::proofs::EarliestLaws::earliest_laws, crate::specs::UnknownLists::listed_laws, crate::proofs::ScopeLaws::scope_laws))]
+#[tactic(auto, using(celf_sugar::specs::Plain::step_laws, crate::proofs::Forms::joined_laws, crate::proofs::Forms::spine_laws))]
 fn unknown_in_one_step<'a>(
     step: &'a PStep,
     sig: &Signature,
@@ -157,7 +155,6 @@ fn unknown_in_one_step<'a>(
 }
 
 #[cycle(objects)]
-#[tactic(auto, using(celf_sugar::proofs::EarliestLaws::earliest_laws))]
 fn unknown_in_tuple<'a>(
     tuple: &'a [PMarked],
     sig: &Signature,
@@ -174,7 +171,7 @@ fn unknown_in_tuple<'a>(
 }
 
 #[cycle(objects)]
-#[tactic(auto, using(crate::proofs::Forms::marked_laws))]
+#[tactic(auto, using(celf_sugar::specs::Plain::marked_laws))]
 fn unknown_in_tuple_entry<'a>(
     entry: &'a PMarked,
     sig: &Signature,
@@ -188,7 +185,7 @@ fn unknown_in_tuple_entry<'a>(
 
 /// The first name in a type that has no meaning, where these names are bound around it.
 #[cycle(types)]
-#[tactic(auto, using(crate::proofs::Forms::type_laws, celf_sugar::proofs::EarliestLaws::earliest_laws, crate::proofs::ScopeLaws::scope_laws))]
+#[tactic(auto, using(crate::proofs::Forms::type_laws, crate::proofs::Forms::joined_laws, crate::proofs::ScopeLaws::scope_laws))]
 fn unknown_in_type<'a>(
     ty: &'a PTy,
     sig: &Signature,
@@ -237,7 +234,6 @@ fn unknown_family<'a>(head: &'a PName, sig: &Signature) -> Option<&'a PName>
     }
 }
 
-#[tactic(auto, using(celf_sugar::proofs::EarliestLaws::earliest_laws))]
 fn unknown_in_indices<'a>(
     indices: &'a [PObj],
     sig: &Signature,
@@ -254,7 +250,7 @@ fn unknown_in_indices<'a>(
 }
 
 #[cycle(types)]
-#[tactic(auto, using(crate::proofs::Forms::telescope_laws, celf_sugar::proofs::EarliestLaws::earliest_laws, crate::specs::UnknownLists::listed_laws, crate::proofs::ScopeLaws::scope_laws))]
+#[tactic(auto, using(crate::proofs::Forms::telescope_laws, crate::proofs::Forms::telescope_list_laws, crate::proofs::ScopeLaws::scope_laws))]
 fn unknown_in_telescope<'a>(
     tele: &'a PTele,
     sig: &Signature,
@@ -271,7 +267,6 @@ fn unknown_in_telescope<'a>(
 
 /// The first one in entries, which stay bound.
 #[cycle(types)]
-#[tactic(auto, using(celf_sugar::proofs::EarliestLaws::earliest_laws, crate::proofs::ScopeLaws::scope_laws))]
 fn unknown_in_entries<'a>(
     entries: &'a [PEntry],
     sig: &Signature,
@@ -289,7 +284,7 @@ fn unknown_in_entries<'a>(
 
 /// The first one in an entry, which stays bound.
 #[cycle(types)]
-#[tactic(auto, using(crate::proofs::Forms::entry_laws, crate::proofs::ScopeLaws::scope_laws))]
+#[tactic(auto, using(celf_sugar::specs::Plain::entry_laws))]
 fn unknown_in_one_entry<'a>(
     entry: &'a PEntry,
     sig: &Signature,
@@ -304,7 +299,6 @@ fn unknown_in_one_entry<'a>(
 }
 
 /// The first name of an item that has no meaning at its place. It fails only where memory runs out.
-#[tactic(auto, using(celf_sugar::proofs::EarliestLaws::earliest_laws))]
 pub fn first_unknown<'a>(
     alloc: Global,
     sig: &Signature,
@@ -328,17 +322,42 @@ pub fn first_unknown<'a>(
         } => unknown_in_type(ty, sig, &mut scope),
         PlainBody::Trace { n: _, tele } => unknown_in_telescope(tele, sig, &mut scope),
         PlainBody::Equal { left, right, ty } => {
-            let first = unknown_in_object(left, sig, &mut scope)?;
-            let other = unknown_in_object(right, sig, &mut scope)?;
-            let last = unknown_in_type(ty, sig, &mut scope)?;
-            Ok(sooner(first, sooner(other, last)))
+            unknown_in_equation(left, right, ty, sig, &mut scope)
         }
-        PlainBody::Check { obj, ty } => {
-            let first = unknown_in_object(obj, sig, &mut scope)?;
-            let other = unknown_in_type(ty, sig, &mut scope)?;
-            Ok(sooner(first, other))
-        }
+        PlainBody::Check { obj, ty } => unknown_in_check(obj, ty, sig, &mut scope),
     }
+}
+
+/// The first one in two objects and their type.
+#[tactic(auto, using(crate::proofs::Forms::joined_laws))]
+fn unknown_in_equation<'a>(
+    left: &'a PObj,
+    right: &'a PObj,
+    ty: &'a PTy,
+    sig: &Signature,
+    scope: &mut Scope<'a>,
+) -> Result<Option<&'a PName>, AllocError>
+    ensures { IfOk result (λ n. option_copied n ≡ earliest spec.place (spec.unknown_in_object (plain_signature sig.now) scope.old (plain_object left.now)
+        ++ (spec.unknown_in_object (plain_signature sig.now) scope.old (plain_object right.now) ++ spec.unknown_in_type (plain_signature sig.now) scope.old (plain_type ty.now)))) }
+{
+    let first = unknown_in_object(left, sig, scope)?;
+    let other = unknown_in_check(right, ty, sig, scope)?;
+    Ok(sooner(first, other))
+}
+
+/// The first one in an object and its type.
+#[tactic(auto, using(crate::proofs::Forms::joined_laws))]
+fn unknown_in_check<'a>(
+    obj: &'a PObj,
+    ty: &'a PTy,
+    sig: &Signature,
+    scope: &mut Scope<'a>,
+) -> Result<Option<&'a PName>, AllocError>
+    ensures { IfOk result (λ n. option_copied n ≡ earliest spec.place (spec.unknown_in_object (plain_signature sig.now) scope.old (plain_object obj.now) ++ spec.unknown_in_type (plain_signature sig.now) scope.old (plain_type ty.now))) }
+{
+    let first = unknown_in_object(obj, sig, scope)?;
+    let other = unknown_in_type(ty, sig, scope)?;
+    Ok(sooner(first, other))
 }
 
 /// The first one in what a declaration declares.

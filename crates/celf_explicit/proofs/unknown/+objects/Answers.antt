@@ -1,5 +1,6 @@
 use Rattle.std.proofs.Common.{arith}
 use Rattle.std.specs.Prelude.{option_copied}
+use Rattle.std.proofs.lemmas.List.{take_all}
 use Rattle.clf_sig.specs.Signature.{plain_signature}
 use Rattle.celf_sugar.specs.Plain.{plain_elim, plain_step, plain_marked}
 use Rattle.celf_explicit.specs.Unknown.{unknown_in_act}
@@ -24,3 +25,15 @@ unknown_in_tuple-loop-entry-preserved t c =
     goes_on plain_marked (unknown_in_marked (plain_signature c.args.sig.now)) c.args.scope.now c.loop-entry.scope c.unknown_in_tuple_entry.new.scope c.args.tuple.now c.loop-entry.entry-index c.entry-item.result
     (option_copied c.loop-entry.found) (option_copied c.in_ok-unknown_in_tuple_entry.field-0) (option_copied c.sooner-found.result) (omega arith) c.entry-item.is
     c.loop-entry.invariant c.in_ok-unknown_in_tuple_entry.ensures.first c.in_ok-unknown_in_tuple_entry.ensures.kept c.sooner-found.ensures
+
+pub unknown_in_spine-returns-clause-first : goal.unknown_in_spine-returns-clause-first
+unknown_in_spine-returns-clause-first t c = rw (take_all c.loop-act.act-index c.args.spine.now c.loop-act-test.false) at c.loop-act.invariant.0
+
+pub unknown_in_steps-returns-clause-first : goal.unknown_in_steps-returns-clause-first
+unknown_in_steps-returns-clause-first t c = rw (take_all c.loop-step.step-index c.args.steps.now c.loop-step-test.false) at c.loop-step.invariant.0
+
+pub unknown_in_steps-returns-clause-bound : goal.unknown_in_steps-returns-clause-bound
+unknown_in_steps-returns-clause-bound t c = rw (take_all c.loop-step.step-index c.args.steps.now c.loop-step-test.false) at c.loop-step.invariant.1
+
+pub unknown_in_tuple-returns-clause-first : goal.unknown_in_tuple-returns-clause-first
+unknown_in_tuple-returns-clause-first t c = rw (take_all c.loop-entry.entry-index c.args.tuple.now c.loop-entry-test.false) at c.loop-entry.invariant.0

@@ -3,4 +3,4 @@ use Rattle.celf_explicit.proofs.ScopeLaws.{kept_alone}
 use Rattle.celf_explicit.proofs.scope.Scope.keep.Goals as goal
 
 pub returns : goal.returns
-returns c = kept_alone (λ n. n.now) c.args.count c.loop-self.self-inside.names c.self.inside.names (omega arith) c.loop-self.invariant.1 ∙ ap (take c.args.count) c.self.view_is
+returns c = kept_alone (λ n. n.now) c.args.count c.loop-self.self-inside.names c.self.inside.names (omega arith) c.loop-self.invariant ∙ ap (take c.args.count) c.self.view_is
