@@ -6,7 +6,7 @@ ghost use Rattle.clf_syntax.specs.PlainTypes.{plain_ty};
 ghost use Rattle.clf_sig.specs.Signature.{plain_signature};
 ghost use Rattle.use_contexts.specs.Context.{modes};
 ghost use Rattle.use_contexts.specs.Marks.{context, marks};
-ghost use Rattle.use_contexts.specs.Rows.{newest_difference};
+ghost use Rattle.use_contexts.specs.Rows.{newest_difference, allowed};
 ghost use Rattle.clf_kernel.specs.Refusal.{and_then, at_part};
 ghost use Rattle.clf_kernel.specs.Checking.{closed_scope, lambda_left, joined_left, atomic_left, argument_left, checked, inferred};
 ghost use Rattle.clf_kernel.specs.Spine.{argument_used, elimination_left, spine_left};
@@ -398,12 +398,33 @@ fn check_affine(
     ensures marked { IfOk result (λ left. length (marks left.row) ≡ length (context ctx.old)) }
     ensures kept { OnOk result (ctx.new ≡ ctx.old) }
 {
-    let start = without_linear(alloc, ctx, &left.row)?;
-    let used = check_part(alloc, place, obj, ty, sig, ctx, start)?;
+    let used = check_without_linear(alloc, obj, ty, place, &left.row, sig, ctx)?;
     Ok(Left {
         row: linear_of(alloc, ctx, &left.row, &used.row)?,
         slack: left.slack,
     })
+}
+
+/// What an argument leaves of a row without its linear entries.
+#[cycle(check)]
+#[tactic(auto, using(crate::proofs::Stops::stop_laws))]
+fn check_without_linear(
+    alloc: Global,
+    obj: &Obj,
+    ty: &Ty,
+    place: usize,
+    row: &Holding,
+    sig: &Signature,
+    ctx: &mut Ctx,
+) -> Result<Left, Stop>
+    requires marked { length (marks row.now) ≡ length (context ctx.old) }
+    requires numbered { length (context ctx.old) < 2 ^ 32 }
+    ensures outcome { Gives plain_left (at_part place (checked (plain_signature sig.now) (context ctx.old) (allowed Affine (modes (context ctx.old)) (marks row.now)) (plain_obj obj.now) (plain_ty ty.now))) result }
+    ensures marked { IfOk result (λ left. length (marks left.row) ≡ length (context ctx.old)) }
+    ensures kept { OnOk result (ctx.new ≡ ctx.old) }
+{
+    let start = without_linear(alloc, ctx, row)?;
+    check_part(alloc, place, obj, ty, sig, ctx, start)
 }
 
 /// What a linear argument leaves of what its function left is left.
