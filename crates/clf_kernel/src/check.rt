@@ -14,9 +14,7 @@ ghost use Rattle.clf_kernel.specs.Answers.{plain_left, plain_inferred};
 ghost use Rattle.clf_kernel.specs.Stops.{Gives};
 
 use crate::head::infer_head;
-use crate::refusal::{
-    Cause, Inferred, Stop, from_part, not_function, not_pair, refuse, refuse_at,
-};
+use crate::refusal::{Cause, Inferred, Stop, from_part, not_function, not_pair, refuse, refuse_at};
 use crate::rows::{linear_of, persistent_alone, without_linear};
 use crate::scope::{close_scope, enter, leave};
 use crate::steps::{check_atomic, check_unit, first_part, is_same, join, second_part};
