@@ -1,17 +1,20 @@
 //! The check of objects, and the types of neutrals, over one context that grows under lambdas.
 ghost use Rattle.std.specs.Prelude.{◌≡◌, ◌∷◌, ◌<◌, ◌^◌, true, map, IfOk, OnOk, length};
+ghost use Rattle.clf_syntax.specs.declared.tree.Mode.TheVariants.{Persistent, Affine, Linear};
 ghost use Rattle.clf_syntax.specs.Plain.{plain_obj, plain_elim, plain_neutral};
 ghost use Rattle.clf_syntax.specs.PlainTypes.{plain_ty};
 ghost use Rattle.clf_sig.specs.Signature.{plain_signature};
+ghost use Rattle.use_contexts.specs.Context.{modes};
 ghost use Rattle.use_contexts.specs.Marks.{context, marks};
+ghost use Rattle.use_contexts.specs.Rows.{newest_difference, allowed};
 ghost use Rattle.clf_kernel.specs.Refusal.{and_then, at_part};
-ghost use Rattle.clf_kernel.specs.Checking.{closed_scope, lambda_left, argument_left, checked, inferred};
+ghost use Rattle.clf_kernel.specs.Checking.{closed_scope, lambda_left, joined_left, atomic_left, argument_left, checked, inferred};
 ghost use Rattle.clf_kernel.specs.Spine.{argument_used, elimination_left, spine_left};
 ghost use Rattle.clf_kernel.specs.Answers.{plain_left, plain_inferred};
 ghost use Rattle.clf_kernel.specs.Stops.{Gives};
 
 use crate::head::infer_head;
-use crate::refusal::{Cause, Inferred, Stop, from_part, refuse, refuse_at};
+use crate::refusal::{Cause, Inferred, Stop, from_part, not_function, not_pair, refuse, refuse_at};
 use crate::rows::{linear_of, persistent_alone, without_linear};
 use crate::scope::{close_scope, enter, leave};
 use crate::steps::{check_atomic, check_unit, first_part, is_same, join, second_part};
@@ -44,27 +47,82 @@ pub fn check(
                 left: first,
                 right: second,
             } => {
-                let copy = row.copy(alloc)?;
-                let one = check_part(alloc, 0, left.get(), first.get(), sig, ctx, copy)?;
-                let other = check_part(alloc, 1, right.get(), second.get(), sig, ctx, row)?;
-                join(alloc, ctx, one, other)
+                let one = check_left(alloc, left.get(), first.get(), sig, ctx, &row)?;
+                check_right(alloc, right.get(), second.get(), sig, ctx, row, one)
             }
             Ty::Fam { .. } | Ty::Fun { .. } | Ty::Top | Ty::Monad { .. } => {
-                Err(refuse(
-                    alloc,
-                    Cause::NotPair {
-                        found: ty.copy(alloc)?,
-                    },
-                ))
+                Err(not_pair(alloc, ty))
             }
         },
         Obj::Unit => check_unit(alloc, ty, row),
         Obj::Mon { .. } | Obj::Hole => Err(refuse(alloc, Cause::NotClosed)),
-        Obj::At { neutral } => {
-            let found = infer_neutral(alloc, neutral, sig, ctx, row)?;
-            check_atomic(alloc, ty, found)
-        }
+        Obj::At { neutral } => check_neutral(alloc, neutral, ty, sig, ctx, row),
     }
+}
+
+/// The check of a neutral, which stands at the family that it has.
+#[cycle(check)]
+#[tactic(auto, using(crate::proofs::Stops::stop_laws))]
+fn check_neutral(
+    alloc: Global,
+    neutral: &Neutral,
+    ty: &Ty,
+    sig: &Signature,
+    ctx: &mut Ctx,
+    row: Holding,
+) -> Result<Left, Stop>
+    requires marked { length (marks row) ≡ length (context ctx.old) }
+    requires numbered { length (context ctx.old) < 2 ^ 32 }
+    ensures outcome { Gives plain_left (and_then (inferred (plain_signature sig.now) (context ctx.old) (marks row) (plain_neutral neutral.now)) (atomic_left (plain_ty ty.now))) result }
+    ensures marked { IfOk result (λ left. length (marks left.row) ≡ length (context ctx.old)) }
+    ensures kept { OnOk result (ctx.new ≡ ctx.old) }
+{
+    let found = infer_neutral(alloc, neutral, sig, ctx, row)?;
+    check_atomic(alloc, ty, found)
+}
+
+/// What the left part of a pair leaves of a row from which the right part starts too.
+#[cycle(check)]
+#[tactic(auto, using(crate::proofs::Stops::stop_laws))]
+fn check_left(
+    alloc: Global,
+    obj: &Obj,
+    ty: &Ty,
+    sig: &Signature,
+    ctx: &mut Ctx,
+    row: &Holding,
+) -> Result<Left, Stop>
+    requires marked { length (marks row.now) ≡ length (context ctx.old) }
+    requires numbered { length (context ctx.old) < 2 ^ 32 }
+    ensures outcome { Gives plain_left (at_part 0 (checked (plain_signature sig.now) (context ctx.old) (marks row.now) (plain_obj obj.now) (plain_ty ty.now))) result }
+    ensures marked { IfOk result (λ left. length (marks left.row) ≡ length (context ctx.old)) }
+    ensures kept { OnOk result (ctx.new ≡ ctx.old) }
+{
+    let copy = row.copy(alloc)?;
+    check_part(alloc, 0, obj, ty, sig, ctx, copy)
+}
+
+/// What both parts of a pair leave, after what the left one leaves.
+#[cycle(check)]
+#[tactic(auto, using(crate::proofs::Stops::stop_laws))]
+fn check_right(
+    alloc: Global,
+    obj: &Obj,
+    ty: &Ty,
+    sig: &Signature,
+    ctx: &mut Ctx,
+    row: Holding,
+    first: Left,
+) -> Result<Left, Stop>
+    requires marked { length (marks row) ≡ length (context ctx.old) }
+    requires numbered { length (context ctx.old) < 2 ^ 32 }
+    requires first_marked { length (marks first.row) ≡ length (context ctx.old) }
+    ensures outcome { Gives plain_left (and_then (at_part 1 (checked (plain_signature sig.now) (context ctx.old) (marks row) (plain_obj obj.now) (plain_ty ty.now))) (λ y. joined_left (context ctx.old) (plain_left first) y (newest_difference (modes (context ctx.old)) (marks first.row) first.slack y.0 y.1))) result }
+    ensures marked { IfOk result (λ left. length (marks left.row) ≡ length (context ctx.old)) }
+    ensures kept { OnOk result (ctx.new ≡ ctx.old) }
+{
+    let second = check_part(alloc, 1, obj, ty, sig, ctx, row)?;
+    join(alloc, ctx, first, second)
 }
 
 /// The check of the part with this number: a refusal is at the part.
@@ -125,12 +183,7 @@ fn check_lambda(
             check_body(alloc, mode, body, dom.get(), cod.get(), sig, ctx, row)
         }
         Ty::Fam { .. } | Ty::With { .. } | Ty::Top | Ty::Monad { .. } => {
-            Err(refuse(
-                alloc,
-                Cause::NotFunction {
-                    found: ty.copy(alloc)?,
-                },
-            ))
+            Err(not_function(alloc, ty))
         }
     }
 }
@@ -295,27 +348,104 @@ fn check_argument(
     ensures marked { IfOk result (λ left. length (marks left.row) ≡ length (context ctx.old)) }
     ensures kept { OnOk result (ctx.new ≡ ctx.old) }
 {
-    let Left { row, slack } = left;
     match mode {
-        Mode::Persistent => {
-            let start = persistent_alone(alloc, ctx)?;
-            check_part(alloc, place, obj, ty, sig, ctx, start)?;
-            Ok(Left { row, slack })
-        }
-        Mode::Affine => {
-            let start = without_linear(alloc, ctx, &row)?;
-            let used = check_part(alloc, place, obj, ty, sig, ctx, start)?;
-            Ok(Left {
-                row: linear_of(alloc, ctx, &row, &used.row)?,
-                slack,
-            })
-        }
-        Mode::Linear => {
-            let used = check_part(alloc, place, obj, ty, sig, ctx, row)?;
-            Ok(Left {
-                row: used.row,
-                slack: slack || used.slack,
-            })
-        }
+        Mode::Persistent => check_persistent(alloc, obj, ty, place, left, sig, ctx),
+        Mode::Affine => check_affine(alloc, obj, ty, place, left, sig, ctx),
+        Mode::Linear => check_linear(alloc, obj, ty, place, left, sig, ctx),
     }
+}
+
+/// A persistent argument uses persistent variables alone, so all is left.
+#[cycle(check)]
+#[tactic(auto, using(crate::proofs::Stops::stop_laws))]
+fn check_persistent(
+    alloc: Global,
+    obj: &Obj,
+    ty: &Ty,
+    place: usize,
+    left: Left,
+    sig: &Signature,
+    ctx: &mut Ctx,
+) -> Result<Left, Stop>
+    requires marked { length (marks left.row) ≡ length (context ctx.old) }
+    requires numbered { length (context ctx.old) < 2 ^ 32 }
+    ensures outcome { Gives plain_left (argument_used Persistent (context ctx.old) place (plain_left left) (λ row. checked (plain_signature sig.now) (context ctx.old) row (plain_obj obj.now) (plain_ty ty.now))) result }
+    ensures marked { IfOk result (λ left. length (marks left.row) ≡ length (context ctx.old)) }
+    ensures kept { OnOk result (ctx.new ≡ ctx.old) }
+{
+    let start = persistent_alone(alloc, ctx)?;
+    check_part(alloc, place, obj, ty, sig, ctx, start)?;
+    Ok(left)
+}
+
+/// An affine argument uses no linear variable, so all of those are left.
+#[cycle(check)]
+#[tactic(auto, using(crate::proofs::Stops::stop_laws))]
+fn check_affine(
+    alloc: Global,
+    obj: &Obj,
+    ty: &Ty,
+    place: usize,
+    left: Left,
+    sig: &Signature,
+    ctx: &mut Ctx,
+) -> Result<Left, Stop>
+    requires marked { length (marks left.row) ≡ length (context ctx.old) }
+    requires numbered { length (context ctx.old) < 2 ^ 32 }
+    ensures outcome { Gives plain_left (argument_used Affine (context ctx.old) place (plain_left left) (λ row. checked (plain_signature sig.now) (context ctx.old) row (plain_obj obj.now) (plain_ty ty.now))) result }
+    ensures marked { IfOk result (λ left. length (marks left.row) ≡ length (context ctx.old)) }
+    ensures kept { OnOk result (ctx.new ≡ ctx.old) }
+{
+    let used = check_without_linear(alloc, obj, ty, place, &left.row, sig, ctx)?;
+    Ok(Left {
+        row: linear_of(alloc, ctx, &left.row, &used.row)?,
+        slack: left.slack,
+    })
+}
+
+/// What an argument leaves of a row without its linear entries.
+#[cycle(check)]
+#[tactic(auto, using(crate::proofs::Stops::stop_laws))]
+fn check_without_linear(
+    alloc: Global,
+    obj: &Obj,
+    ty: &Ty,
+    place: usize,
+    row: &Holding,
+    sig: &Signature,
+    ctx: &mut Ctx,
+) -> Result<Left, Stop>
+    requires marked { length (marks row.now) ≡ length (context ctx.old) }
+    requires numbered { length (context ctx.old) < 2 ^ 32 }
+    ensures outcome { Gives plain_left (at_part place (checked (plain_signature sig.now) (context ctx.old) (allowed Affine (modes (context ctx.old)) (marks row.now)) (plain_obj obj.now) (plain_ty ty.now))) result }
+    ensures marked { IfOk result (λ left. length (marks left.row) ≡ length (context ctx.old)) }
+    ensures kept { OnOk result (ctx.new ≡ ctx.old) }
+{
+    let start = without_linear(alloc, ctx, row)?;
+    check_part(alloc, place, obj, ty, sig, ctx, start)
+}
+
+/// What a linear argument leaves of what its function left is left.
+#[cycle(check)]
+#[tactic(auto, using(crate::proofs::Stops::stop_laws))]
+fn check_linear(
+    alloc: Global,
+    obj: &Obj,
+    ty: &Ty,
+    place: usize,
+    left: Left,
+    sig: &Signature,
+    ctx: &mut Ctx,
+) -> Result<Left, Stop>
+    requires marked { length (marks left.row) ≡ length (context ctx.old) }
+    requires numbered { length (context ctx.old) < 2 ^ 32 }
+    ensures outcome { Gives plain_left (argument_used Linear (context ctx.old) place (plain_left left) (λ row. checked (plain_signature sig.now) (context ctx.old) row (plain_obj obj.now) (plain_ty ty.now))) result }
+    ensures marked { IfOk result (λ left. length (marks left.row) ≡ length (context ctx.old)) }
+    ensures kept { OnOk result (ctx.new ≡ ctx.old) }
+{
+    let used = check_part(alloc, place, obj, ty, sig, ctx, left.row)?;
+    Ok(Left {
+        row: used.row,
+        slack: left.slack || used.slack,
+    })
 }

@@ -1,10 +1,10 @@
 //! Heads of neutrals: their types, and what they leave.
-ghost use Rattle.std.specs.Prelude.{◌≡◌, ◌≤◌, ◌<◌, ◌^◌, IfOk, length, slice_get, option_map, option_copied};
+ghost use Rattle.std.specs.Prelude.{◌≡◌, ◌≤◌, ◌<◌, ◌^◌, false, IfOk, length, slice_get, option_map, option_copied};
 ghost use Rattle.clf_syntax.specs.PlainTypes.{plain_ty};
 ghost use Rattle.clf_sig.specs.Entry.{constant_type as type_of_constant};
 ghost use Rattle.clf_sig.specs.Signature.{plain_signature};
 ghost use Rattle.use_contexts.specs.Marks.{context, marks};
-ghost use Rattle.clf_kernel.specs.Refusal.{level as level_of};
+ghost use Rattle.clf_kernel.specs.Refusal.{passed, level as level_of};
 ghost use Rattle.clf_kernel.specs.Checking.{head_left, constant_left, variable_left};
 ghost use Rattle.clf_kernel.specs.Answers.{plain_inferred};
 ghost use Rattle.clf_kernel.specs.Stops.{Gives};
@@ -45,10 +45,7 @@ fn infer_constant(
     ensures row { IfOk result (λ found. found.left.row ≡ row) }
 {
     match constant_type(sig, constant) {
-        Some(ty) => Ok(Inferred {
-            ty: ty.copy(alloc)?,
-            left: Left { row, slack: false },
-        }),
+        Some(ty) => head_of(alloc, ty, row),
         None => Err(refuse(
             alloc,
             Cause::UnknownHead {
@@ -84,10 +81,7 @@ fn infer_variable(alloc: Global, var: u32, ctx: &Ctx, row: Holding) -> Result<In
     }
     let mut row = row;
     match take(ctx, &mut row, var) {
-        Ok(_) => Ok(Inferred {
-            ty: ctx.entry(var as usize).ty.copy(alloc)?,
-            left: Left { row, slack: false },
-        }),
+        Ok(_) => head_of(alloc, &ctx.entry(var as usize).ty, row),
         Err(_) => Err(refuse(
             alloc,
             Cause::NotHeld {
@@ -95,6 +89,17 @@ fn infer_variable(alloc: Global, var: u32, ctx: &Ctx, row: Holding) -> Result<In
             },
         )),
     }
+}
+
+/// A head of this type, which leaves this row.
+fn head_of(alloc: Global, ty: &Ty, row: Holding) -> Result<Inferred, Stop>
+    ensures outcome { Gives plain_inferred (passed (plain_ty ty.now, (marks row, false))) result }
+    ensures row { IfOk result (λ found. found.left.row ≡ row) }
+{
+    Ok(Inferred {
+        ty: ty.copy(alloc)?,
+        left: Left { row, slack: false },
+    })
 }
 
 /// The level of a variable, which is the number in its printed name.

@@ -1,5 +1,7 @@
 //! Refusals, and what else ends a check.
-ghost use Rattle.std.specs.Prelude.{◌≡◌, ◌∷◌, [], reverse, IfOk};
+ghost use Rattle.std.specs.Prelude.{◌≡◌, ◌∷◌, [], reverse, IfOk, IfErr};
+ghost use Rattle.clf_syntax.specs.PlainTypes.{plain_ty};
+ghost use Rattle.clf_kernel.specs.Refusal.{not_function as function_refusal, not_pair as pair_refusal, not_top as top_refusal, not_atomic as atomic_refusal};
 ghost use Rattle.clf_kernel.specs.Answers.{plain_cause, IsWide};
 ghost use Rattle.clf_kernel.specs.Stops.{IsPartOf, Ends, IsShort, IsFault};
 
@@ -85,6 +87,46 @@ pub fn refuse_at(alloc: Global, place: usize, cause: Cause) -> Stop
     step_out(alloc, place, Vec::new(alloc), cause)
 }
 
+/// A refusal at a type that is no function.
+pub fn not_function(alloc: Global, found: &Ty) -> Stop
+    ensures { Ends [] (function_refusal (plain_ty found.now)) result }
+{
+    match found.copy(alloc) {
+        Ok(found) => refuse(alloc, Cause::NotFunction { found }),
+        Err(_) => Stop::NoMemory,
+    }
+}
+
+/// A refusal at a type that is no pair.
+pub fn not_pair(alloc: Global, found: &Ty) -> Stop
+    ensures { Ends [] (pair_refusal (plain_ty found.now)) result }
+{
+    match found.copy(alloc) {
+        Ok(found) => refuse(alloc, Cause::NotPair { found }),
+        Err(_) => Stop::NoMemory,
+    }
+}
+
+/// A refusal at a type that is not `<T>`.
+pub fn not_top(alloc: Global, found: &Ty) -> Stop
+    ensures { Ends [] (top_refusal (plain_ty found.now)) result }
+{
+    match found.copy(alloc) {
+        Ok(found) => refuse(alloc, Cause::NotTop { found }),
+        Err(_) => Stop::NoMemory,
+    }
+}
+
+/// A refusal at a type that is no family.
+pub fn not_atomic(alloc: Global, ty: &Ty) -> Stop
+    ensures { Ends [] (atomic_refusal (plain_ty ty.now)) result }
+{
+    match ty.copy(alloc) {
+        Ok(ty) => refuse(alloc, Cause::NotAtomic { ty }),
+        Err(_) => Stop::NoMemory,
+    }
+}
+
 /// What ends the check of the part with this number, as what ends the check of the whole.
 pub fn from_part(alloc: Global, place: usize, stop: Stop) -> Stop
     ensures { IsPartOf place stop result }
@@ -100,13 +142,28 @@ pub fn from_part(alloc: Global, place: usize, stop: Stop) -> Stop
 fn step_out(alloc: Global, place: usize, outward: Vec<u32>, cause: Cause) -> Stop
     ensures { Ends (place ∷ reverse outward.items) (plain_cause cause) result }
 {
+    match longer(alloc, place, outward) {
+        Ok(outward) => Stop::Refused { outward, cause },
+        Err(stop) => {
+            // By a call: dropped here, each form of the cause and of its type would be a case of this function.
+            drop(cause);
+            stop
+        }
+    }
+}
+
+/// A path with one more number in front.
+fn longer(alloc: Global, place: usize, outward: Vec<u32>) -> Result<Vec<u32>, Stop>
+    ensures path { IfOk result (λ longer. reverse longer.items ≡ place ∷ reverse outward.items) }
+    ensures short { IfErr result IsShort }
+{
     if place > u32::MAX as usize {
-        return too_far(alloc);
+        return Err(too_far(alloc));
     }
     let mut outward = outward;
     match outward.push(place as u32) {
-        Ok(_) => Stop::Refused { outward, cause },
-        Err(_) => Stop::NoMemory,
+        Ok(_) => Ok(outward),
+        Err(_) => Err(Stop::NoMemory),
     }
 }
 

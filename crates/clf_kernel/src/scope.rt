@@ -10,11 +10,11 @@ ghost use Rattle.clf_kernel.specs.Stops.{IsShort, Gives, IsEntered};
 
 use crate::refusal::{Cause, Stop, refuse, too_far};
 use clf_syntax::{Mode, TeleEntry, Ty};
-use std::alloc::Global;
+use std::alloc::{AllocError, Global};
 use use_contexts::{Ctx, Holding, Left};
 
 /// Adds a variable that is held. It answers the row with it.
-#[tactic(auto, using(clf_syntax::specs::PlainTypes::plain_type_laws, crate::proofs::Stops::stop_laws))]
+#[tactic(auto, using(crate::proofs::Stops::stop_laws))]
 pub fn enter(
     alloc: Global,
     mode: Mode,
@@ -33,11 +33,19 @@ pub fn enter(
     }
     let mut row = row;
     row.held.push(true)?;
+    add_entry(alloc, mode, ty, ctx)?;
+    Ok(row)
+}
+
+/// Adds a newest variable.
+fn add_entry(alloc: Global, mode: Mode, ty: &Ty, ctx: &mut Ctx) -> Result<(), AllocError>
+    ensures context { OnOk result (context ctx.new ≡ (mode, plain_ty ty.now) ∷ context ctx.old) }
+    ensures entry { OnOk result (IsEntered ctx.old ctx.new) }
+{
     ctx.entries.push(TeleEntry {
         mode,
         ty: ty.copy(alloc)?,
-    })?;
-    Ok(row)
+    })
 }
 
 /// Takes the newest variable away.

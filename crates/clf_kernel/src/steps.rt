@@ -9,7 +9,7 @@ ghost use Rattle.clf_kernel.specs.Answers.{plain_left, plain_inferred};
 ghost use Rattle.clf_kernel.specs.Stops.{Gives};
 
 use crate::head::level;
-use crate::refusal::{Cause, Inferred, Stop, refuse, refuse_at};
+use crate::refusal::{Cause, Inferred, Stop, not_atomic, not_top, refuse, refuse_at};
 use clf_syntax::{Mode, Ty};
 use std::alloc::Global;
 use use_contexts::{Ctx, Differ, Holding, Left, join_add};
@@ -22,12 +22,7 @@ pub fn check_unit(alloc: Global, ty: &Ty, row: Holding) -> Result<Left, Stop>
     match ty {
         Ty::Top => Ok(Left { row, slack: true }),
         Ty::Fam { .. } | Ty::Fun { .. } | Ty::With { .. } | Ty::Monad { .. } => {
-            Err(refuse(
-                alloc,
-                Cause::NotTop {
-                    found: ty.copy(alloc)?,
-                },
-            ))
+            Err(not_top(alloc, ty))
         }
     }
 }
@@ -41,12 +36,9 @@ pub fn check_atomic(alloc: Global, ty: &Ty, found: Inferred) -> Result<Left, Sto
     match ty {
         Ty::Fam { family, .. } => check_family(alloc, *family, found),
         Ty::Fun { .. } | Ty::With { .. } | Ty::Top | Ty::Monad { .. } => {
-            Err(refuse(
-                alloc,
-                Cause::NotAtomic {
-                    ty: ty.copy(alloc)?,
-                },
-            ))
+            // By a call: dropped here, each form of the type would be a case of this function.
+            drop(found.ty);
+            Err(not_atomic(alloc, ty))
         }
     }
 }
@@ -57,21 +49,17 @@ fn check_family(alloc: Global, wanted: u32, found: Inferred) -> Result<Left, Sto
     ensures row { IfOk result (λ left. left.row ≡ found.left.row) }
 {
     let Inferred { ty, left } = found;
-    match &ty {
-        Ty::Fam { family, .. } => {
-            let found = *family;
-            if found != wanted {
+    match ty {
+        Ty::Fam { family, indices } => {
+            drop(indices);
+            if family != wanted {
+                let found = family;
                 return Err(refuse(alloc, Cause::FamilyDiffers { found, wanted }));
             }
             Ok(left)
         }
-        Ty::Fun { .. } | Ty::With { .. } | Ty::Top | Ty::Monad { .. } => {
-            Err(refuse(
-                alloc,
-                Cause::NotAtomic {
-                    ty: ty.copy(alloc)?,
-                },
-            ))
+        ty @ (Ty::Fun { .. } | Ty::With { .. } | Ty::Top | Ty::Monad { .. }) => {
+            Err(refuse(alloc, Cause::NotAtomic { ty }))
         }
     }
 }

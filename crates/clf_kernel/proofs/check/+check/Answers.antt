@@ -1,4 +1,5 @@
 use Rattle.std.proofs.Common.{◌≡◌, ◌<◌, ◌^◌, ◌+◌, ◌∷◌, suc, true, length, map, ap, sym, subst, ◌∙◌, Result, Ok, Err, OnOk, arith}
+use Rattle.std.proofs.lemmas.List.{drop_all}
 use Rattle.std.proofs.lemmas.Result.{err_from_is_err_and}
 use Rattle.clf_syntax.specs.Plain.{plain_obj, plain_elim}
 use Rattle.clf_syntax.specs.PlainTypes.{plain_ty}
@@ -70,3 +71,8 @@ infer_spine-loop-act-preserved t c =
       ap (λ n. n + 1) v.2,
       v.3 ∙ spine_more (plain_signature c.args.sig.now) (context c.args.ctx.now) c.args.spine.now c.loop-act.act-index c.act-item.result (omega (arith, c.loop-act-test.true)) c.act-item.is (plain_inferred c.loop-act.inferred) (plain_inferred c.in_ok-inferred.inferred) o,
     )
+
+pub infer_spine-returns-clause-outcome : goal.infer_spine-returns-clause-outcome
+infer_spine-returns-clause-outcome t c =
+    let v = c.loop-act.invariant in
+    v.3 ∙ ap (λ es. spine_left (plain_signature c.args.sig.now) (context c.args.ctx.now) c.loop-act.act-index (map plain_elim es) (plain_inferred c.loop-act.inferred)) (drop_all c.loop-act.act-index c.args.spine.now (omega arith))

@@ -1,4 +1,5 @@
 use Rattle.std.proofs.Common.{◌≡◌, ◌+◌, map, Err, ap, sym, subst, ◌∙◌, arith}
+use Rattle.std.proofs.lemmas.List.{drop_all}
 use Rattle.std.proofs.lemmas.Result.{err_from_is_err_and}
 use Rattle.clf_syntax.specs.TypeTree.{telescope_of}
 use Rattle.clf_syntax.specs.PlainTypes.{plain_ty, plain_tele_entry}
@@ -31,3 +32,8 @@ check_entries-loop-entry-preserved t c =
       ap (λ n. n + 1) v.0,
       v.1 ∙ entries_more (plain_signature c.args.sig.now) c.args.entries.now c.loop-entry.entry-index c.entry-item.result (omega (arith, c.loop-entry-test.true)) c.entry-item.is o,
     )
+
+pub check_entries-returns : goal.check_entries-returns
+check_entries-returns t c =
+    let v = c.loop-entry.invariant in
+    v.1 ∙ ap (λ es. telescope_formed (plain_signature c.args.sig.now) c.loop-entry.entry-index (telescope_of (map plain_tele_entry es))) (drop_all c.loop-entry.entry-index c.args.entries.now (omega arith))
