@@ -1,8 +1,8 @@
 -- What puts the pieces of a text together.
-use Rattle.std.proofs.Common.{◌≡◌, ℕ, suc, ◌==◌, Bool, false, true, List, [], ◌∷◌, ◌++◌, ◌∙◌, map, length, refl, arith, sym, ap, append_assoc, append-nil, codes}
+use Rattle.std.proofs.Common.{◌≡◌, ℕ, suc, ◌==◌, Bool, false, List, [], ◌∷◌, ◌++◌, ◌∙◌, map, length, refl, arith, ap, append_assoc, append-nil, codes}
 use Rattle.clf_syntax.specs.declared.tree.TeleEntry.{TeleEntry}
 use Rattle.clf_syntax.specs.Plain.{plain_laws}
-use Rattle.clf_syntax.specs.PlainTypes.{plain_type_laws, plain_tele_entry}
+use Rattle.clf_syntax.specs.PlainTypes.{plain_tele_entry}
 use Rattle.clf_syntax.specs.TypeTree.{telescope_of}
 use Rattle.clf_printer.specs.Text.{is_end, when, grouped}
 use Rattle.clf_printer.proofs.Lists.{joined}
@@ -22,5 +22,3 @@ in_parentheses o text wanted asked {p} {q} same opened written closed =
     (closed ∙ ap (λ b. q ++ when b (codes ")")) same)
 
 pub ruleset texts = (append_assoc, append-nil, plain_laws)
-
-pub ruleset type_texts = (append_assoc, append-nil, is_end-entries, plain_type_laws)

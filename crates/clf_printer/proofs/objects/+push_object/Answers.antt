@@ -1,13 +1,12 @@
 use Rattle.std.proofs.Common.{◌≡◌, ◌+◌, ◌-◌, ◌<◌, ◌≤◌, ◌++◌, nat_lt, ◌==◌, not, length, map, take, arith, sym, ap, ◌∙◌, codes, append-nil}
 use Rattle.std.proofs.lemmas.Result.{on_ok_weaker}
 use Rattle.std.proofs.lemmas.List.{take_all, at_drop_all}
-use Rattle.clf_syntax.specs.declared.tree.Mode.{Mode}
 use Rattle.clf_syntax.specs.declared.tree.Mode.TheVariants.{Persistent, Affine, Linear}
 use Rattle.clf_syntax.specs.declared.tree.Expr.{out-Expr}
 use Rattle.clf_syntax.specs.Plain.{plain_obj, plain_elim, plain_expr, plain_neutral, plain_step, plain_entry, plain-Lam, plain-Pair, plain-Unit, plain-Mon, plain-At, plain-Hole, plain-Arg, plain-First, plain-Second, plain-expr, plain-entry, plain-step-modes, plain-step-rhs}
-use Rattle.clf_syntax.specs.Tree.{Object, lam, pair, unit, monadic, atomic, hole, arg, first, second, bare, spine_on, steps_on, done, tuple_of}
+use Rattle.clf_syntax.specs.Tree.{lam, pair, unit, monadic, atomic, hole, arg, first, second, bare, spine_on, steps_on, done, tuple_of}
 use Rattle.clf_sig.specs.Signature.{plain_signature}
-use Rattle.clf_printer.specs.Text.{when, grouped, is_application, is_atom, listed, mark_text, binder_text, pattern_text, tuple_entry_text, object_text, neutral_text, expression_text, tuple_text}
+use Rattle.clf_printer.specs.Text.{when, grouped, is_application, is_atom, listed, mark_text, binder_text, pattern_text, object_text, neutral_text, expression_text, tuple_text}
 use Rattle.clf_printer.specs.Spine.{elimination_text, back_text}
 use Rattle.clf_printer.proofs.Lists.{joined}
 use Rattle.clf_printer.proofs.Texts.{in_parentheses}

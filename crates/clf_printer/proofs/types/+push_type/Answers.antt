@@ -1,10 +1,10 @@
-use Rattle.std.proofs.Common.{◌≡◌, ◌+◌, ◌-◌, ◌<◌, ◌≤◌, ◌&&◌, ◌++◌, length, map, drop, arith, sym, ap, ◌∙◌, codes, append-nil, ℕ, Bool}
+use Rattle.std.proofs.Common.{◌≡◌, ◌+◌, ◌-◌, ◌<◌, ◌≤◌, ◌&&◌, ◌++◌, length, map, drop, arith, sym, ap, ◌∙◌, codes, append-nil, ℕ}
 use Rattle.std.proofs.lemmas.List.{at_drop_all}
 use Rattle.std.proofs.lemmas.Result.{on_ok_weaker}
 use Rattle.clf_syntax.specs.declared.tree.Mode.{Mode}
 use Rattle.clf_syntax.specs.TypeTree.{PlainType, family, function, both, top, monad, telescope_of}
 use Rattle.clf_syntax.specs.Plain.{plain_obj}
-use Rattle.clf_syntax.specs.PlainTypes.{plain_ty, plain_tele, plain_tele_entry, plain-Fam, plain-Fun, plain-With, plain-Top, plain-Monad, plain-tele, plain-tele-entry}
+use Rattle.clf_syntax.specs.PlainTypes.{plain_ty, plain_tele_entry, plain-Fam, plain-Fun, plain-With, plain-Top, plain-Monad, plain-tele, plain-tele-entry}
 use Rattle.clf_syntax.specs.Occurs.{occurs_type, occurs_telescope}
 use Rattle.clf_sig.specs.Signature.{plain_signature}
 use Rattle.clf_printer.specs.declared.place.Place.{Place}
