@@ -9,12 +9,11 @@ ghost use Rattle.celf_sugar.specs.Answers.{IsFirst};
 use crate::fault::SugarFault;
 use crate::item_fault::{check_fault, declaration_fault, equal_fault, query_fault, trace_fault};
 use crate::number::{implicit_count, number};
-use crate::object::object;
+use crate::object::boxed_object;
 use crate::plain::{PTele, Plain, PlainBody};
 use crate::types::{class, entries, plain_type_of, unbraced};
 use celf_surface::{Bound, Item, ItemBody, SObj, SType};
 use clf_syntax::Name;
-use sqlite_items::Boxed;
 use std::alloc::Global;
 
 /// The item without its sugar.
@@ -128,8 +127,8 @@ fn equal(alloc: Global, left: &SObj, right: &SObj, ty: &SType) -> Result<PlainBo
         return Err(fault);
     }
     // In boxes they are dropped by calls: in place, each of their forms would be a case of this function.
-    let left = Boxed::new(alloc, object(alloc, left)?)?;
-    let right = Boxed::new(alloc, object(alloc, right)?)?;
+    let left = boxed_object(alloc, left)?;
+    let right = boxed_object(alloc, right)?;
     let ty = plain_type_of(alloc, ty)?;
     Ok(PlainBody::Equal {
         left: left.into_inner(),
@@ -148,7 +147,7 @@ fn check(alloc: Global, obj: &SObj, ty: &SType) -> Result<PlainBody, SugarFault>
     if let Some(fault) = check_fault(obj, ty) {
         return Err(fault);
     }
-    let obj = Boxed::new(alloc, object(alloc, obj)?)?;
+    let obj = boxed_object(alloc, obj)?;
     let ty = plain_type_of(alloc, ty)?;
     Ok(PlainBody::Check {
         obj: obj.into_inner(),

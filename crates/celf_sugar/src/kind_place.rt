@@ -10,7 +10,7 @@ use celf_surface::{Arrow, SType, STypeForm, Span};
 /// The first word `type` of a type that stands elsewhere than at the end of a declaration's kind.
 /// `ends` tells that the type ends a declaration's type, with no arrow before it but `->`, `<-` and `Pi`.
 #[cycle(kind_place)]
-#[tactic(auto, using(celf_surface::specs::Surface::surface_laws, crate::proofs::EarliestLaws::earliest_laws))]
+#[tactic(auto, using(crate::specs::SugarLists::written_type_laws, crate::proofs::EarliestLaws::earliest_laws))]
 pub fn kind_place(ty: &SType, ends: bool) -> Option<Span>
     ensures { result ≡ earliest start (kind_places ends (surface ty.now)) }
 {
@@ -45,7 +45,7 @@ pub fn kind_place(ty: &SType, ends: bool) -> Option<Span>
 
 /// The same in the later factors of a product, which may be many.
 #[cycle(kind_place)]
-#[tactic(auto, using(celf_surface::specs::Surface::surface_laws, crate::proofs::EarliestLaws::earliest_laws))]
+#[tactic(auto, using(crate::specs::SugarLists::written_type_laws, crate::proofs::EarliestLaws::earliest_laws))]
 fn kind_place_in_factors(factors: &SType) -> Option<Span>
     ensures { result ≡ earliest start (kind_places false (surface factors.now)) }
 {

@@ -9,7 +9,7 @@ use celf_surface::{Arrow, SType, STypeForm, Span};
 
 /// The first synchronous type in a type that stands where none may. `may` tells that one may stand here.
 #[cycle(not_async)]
-#[tactic(auto, using(celf_surface::specs::Surface::surface_laws, crate::proofs::EarliestLaws::earliest_laws))]
+#[tactic(auto, using(crate::specs::SugarLists::written_type_laws, crate::proofs::EarliestLaws::earliest_laws))]
 pub fn not_async(ty: &SType, may: bool) -> Option<Span>
     ensures { result ≡ earliest start (not_asyncs may (surface ty.now)) }
 {
@@ -47,7 +47,7 @@ pub fn not_async(ty: &SType, may: bool) -> Option<Span>
 
 /// The same in the later factors of a product, which may be many.
 #[cycle(not_async)]
-#[tactic(auto, using(celf_surface::specs::Surface::surface_laws, crate::proofs::EarliestLaws::earliest_laws))]
+#[tactic(auto, using(crate::specs::SugarLists::written_type_laws, crate::proofs::EarliestLaws::earliest_laws))]
 fn not_async_in_factors(factors: &SType) -> Option<Span>
     ensures { result ≡ earliest start (not_asyncs true (surface factors.now)) }
 {

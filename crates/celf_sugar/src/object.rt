@@ -26,6 +26,14 @@ pub fn object(alloc: Global, obj: &SObj) -> Result<PObj, AllocError>
     })
 }
 
+/// The plain object of an object, in a box.
+#[cycle(object)]
+pub fn boxed_object(alloc: Global, obj: &SObj) -> Result<Boxed<PObj>, AllocError>
+    ensures { IfOk result (λ o. plain_object o ≡ object_of (object_tree obj.now)) }
+{
+    Boxed::new(alloc, object(alloc, obj)?)
+}
+
 #[cycle(object)]
 #[tactic(auto, using(crate::specs::SugarLists::written_object_laws, crate::specs::Plain::form_laws))]
 fn object_form(alloc: Global, obj: &SObj) -> Result<PObjForm, AllocError>
@@ -33,16 +41,16 @@ fn object_form(alloc: Global, obj: &SObj) -> Result<PObjForm, AllocError>
 {
     match &obj.form {
         SObjForm::Lam { mode, name, body } => {
-            let body = Boxed::new(alloc, object(alloc, body.get())?)?;
+            let name = copy_name(alloc, name)?;
             Ok(PObjForm::Lam {
                 mode: *mode,
-                name: copy_name(alloc, name)?,
-                body,
+                name,
+                body: boxed_object(alloc, body.get())?,
             })
         }
         SObjForm::Pair { left, right } => {
-            let left = Boxed::new(alloc, object(alloc, left.get())?)?;
-            let right = Boxed::new(alloc, object(alloc, right.get())?)?;
+            let left = boxed_object(alloc, left.get())?;
+            let right = boxed_object(alloc, right.get())?;
             Ok(PObjForm::Pair { left, right })
         }
         SObjForm::Unit => Ok(PObjForm::Unit),

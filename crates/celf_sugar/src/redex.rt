@@ -11,7 +11,7 @@ use celf_surface::{SArg, SExpr, SObj, SObjForm, SStep, STuple, SType, STypeForm,
 
 /// The first lambda, pair, `<>`, braces or `_` in an object that is applied, is projected or is the right side of a `let`.
 #[cycle(redex)]
-#[tactic(auto, using(celf_surface::specs::Surface::surface_laws, crate::proofs::EarliestLaws::earliest_laws, crate::specs::FaultLists::listed_laws))]
+#[tactic(auto, using(crate::specs::SugarLists::written_object_laws, crate::proofs::EarliestLaws::earliest_laws, crate::specs::FaultLists::listed_laws))]
 pub fn redex(obj: &SObj) -> Option<Span>
     ensures { result ≡ earliest start (redexes (object_tree obj.now)) }
 {
@@ -36,7 +36,7 @@ pub fn redex(obj: &SObj) -> Option<Span>
 
 /// The same in an object that stands where a head is wanted, which itself may have none.
 #[cycle(redex)]
-#[tactic(auto, using(celf_surface::specs::Surface::surface_laws, crate::proofs::EarliestLaws::earliest_laws, crate::specs::FaultLists::listed_laws))]
+#[tactic(auto, using(crate::proofs::EarliestLaws::earliest_laws))]
 fn redex_at_head(obj: &SObj) -> Option<Span>
     ensures { result ≡ earliest start (of_head (object_tree obj.now)) }
 {
@@ -44,7 +44,7 @@ fn redex_at_head(obj: &SObj) -> Option<Span>
 }
 
 #[cycle(redex)]
-#[tactic(auto, using(celf_surface::specs::Surface::surface_laws, crate::proofs::EarliestLaws::earliest_laws, crate::specs::FaultLists::listed_laws))]
+#[tactic(auto, using(crate::proofs::EarliestLaws::earliest_laws))]
 fn redex_in_arguments(args: &[SArg]) -> Option<Span>
     ensures { result ≡ earliest start (flat_map of_argument (map argument_tree args.now)) }
 {
@@ -56,7 +56,7 @@ fn redex_in_arguments(args: &[SArg]) -> Option<Span>
 }
 
 #[cycle(redex)]
-#[tactic(auto, using(celf_surface::specs::Surface::surface_laws, crate::proofs::EarliestLaws::earliest_laws, crate::specs::FaultLists::listed_laws))]
+#[tactic(auto, using(crate::specs::SugarLists::written_part_laws))]
 fn redex_in_argument(arg: &SArg) -> Option<Span>
     ensures { result ≡ earliest start (of_argument (argument_tree arg.now)) }
 {
@@ -75,7 +75,7 @@ fn redex_in_expression(expr: &SExpr) -> Option<Span>
 }
 
 #[cycle(redex)]
-#[tactic(auto, using(celf_surface::specs::Surface::surface_laws, crate::proofs::EarliestLaws::earliest_laws, crate::specs::FaultLists::listed_laws))]
+#[tactic(auto, using(crate::proofs::EarliestLaws::earliest_laws))]
 fn redex_in_steps(steps: &[SStep]) -> Option<Span>
     ensures { result ≡ earliest start (flat_map of_step (map step_tree steps.now)) }
 {
@@ -87,7 +87,7 @@ fn redex_in_steps(steps: &[SStep]) -> Option<Span>
 }
 
 #[cycle(redex)]
-#[tactic(auto, using(celf_surface::specs::Surface::surface_laws, crate::proofs::EarliestLaws::earliest_laws, crate::specs::FaultLists::listed_laws))]
+#[tactic(auto, using(crate::specs::SugarLists::written_part_laws))]
 fn redex_in_step(step: &SStep) -> Option<Span>
     ensures { result ≡ earliest start (of_step (step_tree step.now)) }
 {
@@ -95,7 +95,7 @@ fn redex_in_step(step: &SStep) -> Option<Span>
 }
 
 #[cycle(redex)]
-#[tactic(auto, using(celf_surface::specs::Surface::surface_laws, crate::proofs::EarliestLaws::earliest_laws, crate::specs::FaultLists::listed_laws))]
+#[tactic(auto, using(crate::specs::SugarLists::written_tuple_laws, crate::proofs::EarliestLaws::earliest_laws, crate::specs::FaultLists::listed_laws))]
 fn redex_in_tuple(tuple: &STuple) -> Option<Span>
     ensures { result ≡ earliest start (tuple_redexes (tuple_tree tuple.now)) }
 {
@@ -108,7 +108,7 @@ fn redex_in_tuple(tuple: &STuple) -> Option<Span>
 }
 
 #[cycle(redex)]
-#[tactic(auto, using(celf_surface::specs::Surface::surface_laws, crate::proofs::EarliestLaws::earliest_laws, crate::specs::FaultLists::listed_laws))]
+#[tactic(auto, using(crate::proofs::EarliestLaws::earliest_laws))]
 fn redex_in_tuples(tuples: &[STuple]) -> Option<Span>
     ensures { result ≡ earliest start (flat_map tuple_redexes (map tuple_tree tuples.now)) }
 {
@@ -120,7 +120,7 @@ fn redex_in_tuples(tuples: &[STuple]) -> Option<Span>
 }
 
 /// The span of an object without a head.
-#[tactic(auto, using(celf_surface::specs::Surface::surface_laws))]
+#[tactic(auto, using(crate::specs::SugarLists::written_object_laws))]
 fn headless(obj: &SObj) -> Option<Span>
     ensures { result ≡ earliest start (headless_at (object_tree obj.now)) }
 {
@@ -139,7 +139,7 @@ fn headless(obj: &SObj) -> Option<Span>
 
 /// The first such object in the indices of a type.
 #[cycle(type_redex)]
-#[tactic(auto, using(celf_surface::specs::Surface::surface_laws, crate::proofs::EarliestLaws::earliest_laws))]
+#[tactic(auto, using(crate::specs::SugarLists::written_type_laws, crate::proofs::EarliestLaws::earliest_laws))]
 pub fn type_redex(ty: &SType) -> Option<Span>
     ensures { result ≡ earliest start (type_redexes (surface ty.now)) }
 {
@@ -171,7 +171,7 @@ pub fn type_redex(ty: &SType) -> Option<Span>
 
 /// The same in the later factors of a product, which may be many.
 #[cycle(type_redex)]
-#[tactic(auto, using(celf_surface::specs::Surface::surface_laws, crate::proofs::EarliestLaws::earliest_laws))]
+#[tactic(auto, using(crate::specs::SugarLists::written_type_laws, crate::proofs::EarliestLaws::earliest_laws))]
 fn type_redex_in_factors(factors: &SType) -> Option<Span>
     ensures { result ≡ earliest start (type_redexes (surface factors.now)) }
 {

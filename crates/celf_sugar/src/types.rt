@@ -21,20 +21,20 @@ pub fn plain_type_of(alloc: Global, ty: &SType) -> Result<PTy, AllocError>
 {
     match &ty.form {
         STypeForm::Pi { name, dom, rest } => {
-            let dom = Boxed::new(alloc, plain_type_of(alloc, dom.get())?)?;
+            let dom = boxed_type(alloc, dom.get())?;
             pi_type(alloc, rest.get(), ty.span, name, dom)
         }
         STypeForm::Arrow { arrow, left, right } => match arrow {
             Arrow::To => {
-                let dom = Boxed::new(alloc, plain_type_of(alloc, left.get())?)?;
+                let dom = boxed_type(alloc, left.get())?;
                 arrow_type(alloc, right.get(), ty.span, Mode::Persistent, dom)
             }
             Arrow::Back => {
-                let dom = Boxed::new(alloc, plain_type_of(alloc, right.get())?)?;
+                let dom = boxed_type(alloc, right.get())?;
                 arrow_type(alloc, left.get(), ty.span, Mode::Persistent, dom)
             }
             Arrow::Affine => {
-                let dom = Boxed::new(alloc, plain_type_of(alloc, left.get())?)?;
+                let dom = boxed_type(alloc, left.get())?;
                 arrow_type(alloc, right.get(), ty.span, Mode::Affine, dom)
             }
             Arrow::Lolli => {
@@ -47,7 +47,7 @@ pub fn plain_type_of(alloc: Global, ty: &SType) -> Result<PTy, AllocError>
             }
         },
         STypeForm::With { left, right } => {
-            let left = Boxed::new(alloc, plain_type_of(alloc, left.get())?)?;
+            let left = boxed_type(alloc, left.get())?;
             with_type(alloc, right.get(), ty.span, left)
         }
         STypeForm::Family {
@@ -70,6 +70,14 @@ pub fn plain_type_of(alloc: Global, ty: &SType) -> Result<PTy, AllocError>
     }
 }
 
+/// The plain type of a type, in a box.
+#[cycle(types)]
+fn boxed_type(alloc: Global, ty: &SType) -> Result<Boxed<PTy>, AllocError>
+    ensures { IfOk result (λ t. plain_type t ≡ (reading (surface ty.now)).as_type) }
+{
+    Boxed::new(alloc, plain_type_of(alloc, ty)?)
+}
+
 /// The function that binds a name, given its domain.
 #[cycle(types)]
 fn pi_type(
@@ -81,7 +89,7 @@ fn pi_type(
 ) -> Result<PTy, AllocError>
     ensures { IfOk result (λ t. plain_type t ≡ function span Persistent (Some name.now) (plain_type dom) (reading (surface cod.now)).as_type) }
 {
-    let cod = Boxed::new(alloc, plain_type_of(alloc, cod)?)?;
+    let cod = boxed_type(alloc, cod)?;
     let name = name.copy(alloc)?;
     Ok(function_type(span, Mode::Persistent, Some(name), dom, cod))
 }
@@ -97,7 +105,7 @@ fn arrow_type(
 ) -> Result<PTy, AllocError>
     ensures { IfOk result (λ t. plain_type t ≡ function span mode None (plain_type dom) (reading (surface cod.now)).as_type) }
 {
-    let cod = Boxed::new(alloc, plain_type_of(alloc, cod)?)?;
+    let cod = boxed_type(alloc, cod)?;
     Ok(function_type(span, mode, None, dom, cod))
 }
 
@@ -111,7 +119,7 @@ fn lolli_type(
 ) -> Result<PTy, AllocError>
     ensures { IfOk result (λ t. plain_type t ≡ functions_of span (map plain_entry doms) (reading (surface cod.now)).as_type) }
 {
-    let cod = Boxed::new(alloc, plain_type_of(alloc, cod)?)?;
+    let cod = boxed_type(alloc, cod)?;
     functions(alloc, span, doms, cod)
 }
 
@@ -120,7 +128,7 @@ fn lolli_type(
 fn with_type(alloc: Global, right: &SType, span: Span, left: Boxed<PTy>) -> Result<PTy, AllocError>
     ensures { IfOk result (λ t. plain_type t ≡ both span (plain_type left) (reading (surface right.now)).as_type) }
 {
-    let right = Boxed::new(alloc, plain_type_of(alloc, right)?)?;
+    let right = boxed_type(alloc, right)?;
     Ok(both_type(span, left, right))
 }
 

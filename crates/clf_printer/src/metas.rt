@@ -44,7 +44,6 @@ fn note_head(metas: &mut Vec<u32>, head: Head) -> Result<(), AllocError>
 
 /// Adds the metavariables that appear in an object.
 #[cycle(note_object)]
-#[tactic(auto, using(crate::proofs::Appearances::appearances))]
 pub fn note_object(metas: &mut Vec<u32>, obj: &Obj) -> Result<(), AllocError>
     ensures { OnOk result (metas.new.items ≡ spec.appearing metas.old.items (plain_obj obj.now)) }
 {
@@ -62,7 +61,6 @@ pub fn note_object(metas: &mut Vec<u32>, obj: &Obj) -> Result<(), AllocError>
 }
 
 #[cycle(note_object)]
-#[tactic(auto, using(crate::proofs::Appearances::appearances))]
 fn note_neutral(metas: &mut Vec<u32>, neutral: &Neutral) -> Result<(), AllocError>
     ensures { OnOk result (metas.new.items ≡ spec.appearing_neutral metas.old.items (plain_neutral neutral.now)) }
 {
@@ -71,7 +69,6 @@ fn note_neutral(metas: &mut Vec<u32>, neutral: &Neutral) -> Result<(), AllocErro
 }
 
 #[cycle(note_object)]
-#[tactic(auto, using(crate::proofs::Appearances::appearances))]
 fn note_spine(metas: &mut Vec<u32>, spine: &[Elim]) -> Result<(), AllocError>
     ensures { OnOk result (metas.new.items ≡ spec.appearing_spine metas.old.items (map plain_elim spine.now)) }
 {
@@ -82,7 +79,6 @@ fn note_spine(metas: &mut Vec<u32>, spine: &[Elim]) -> Result<(), AllocError>
 }
 
 #[cycle(note_object)]
-#[tactic(auto, using(crate::proofs::Appearances::appearances))]
 fn note_elimination(metas: &mut Vec<u32>, act: &Elim) -> Result<(), AllocError>
     ensures { OnOk result (metas.new.items ≡ spec.appearing_elimination metas.old.items (plain_elim act.now)) }
 {
@@ -94,7 +90,6 @@ fn note_elimination(metas: &mut Vec<u32>, act: &Elim) -> Result<(), AllocError>
 }
 
 #[cycle(note_object)]
-#[tactic(auto, using(crate::proofs::Appearances::appearances))]
 fn note_expression(metas: &mut Vec<u32>, expr: &Expr) -> Result<(), AllocError>
     ensures { OnOk result (metas.new.items ≡ spec.appearing_expression metas.old.items (plain_expr expr.now)) }
 {
@@ -105,7 +100,6 @@ fn note_expression(metas: &mut Vec<u32>, expr: &Expr) -> Result<(), AllocError>
 }
 
 #[cycle(note_object)]
-#[tactic(auto, using(crate::proofs::Appearances::appearances))]
 fn note_tuple(metas: &mut Vec<u32>, tuple: &[TupleEntry]) -> Result<(), AllocError>
     ensures { OnOk result (metas.new.items ≡ spec.appearing_tuple metas.old.items (tuple_of (map plain_entry tuple.now))) }
 {
@@ -126,7 +120,6 @@ fn note_indices(metas: &mut Vec<u32>, indices: &[Obj]) -> Result<(), AllocError>
 
 /// Adds the metavariables that appear in a type.
 #[cycle(note_type)]
-#[tactic(auto, using(clf_syntax::specs::PlainTypes::plain_type_laws))]
 pub fn note_type(metas: &mut Vec<u32>, ty: &Ty) -> Result<(), AllocError>
     ensures { OnOk result (metas.new.items ≡ spec.appearing_type metas.old.items (plain_ty ty.now)) }
 {
@@ -146,7 +139,6 @@ pub fn note_type(metas: &mut Vec<u32>, ty: &Ty) -> Result<(), AllocError>
 }
 
 #[cycle(note_type)]
-#[tactic(auto, using(clf_syntax::specs::PlainTypes::plain_type_laws))]
 fn note_telescope(metas: &mut Vec<u32>, entries: &[TeleEntry]) -> Result<(), AllocError>
     ensures { OnOk result (metas.new.items ≡ spec.appearing_telescope metas.old.items (telescope_of (map plain_tele_entry entries.now))) }
 {

@@ -1,7 +1,7 @@
 //! Objects and their parts.
 ghost use Rattle.std.specs.Prelude.{◌≡◌, ◌≤◌, ◌++◌, ◌+◌, IfOk, OnOk, map, not, length, take};
 ghost use Rattle.clf_syntax.specs.declared.tree.Head.{Head};
-ghost use Rattle.clf_syntax.specs.Tree.{bare, spine_on, tuple_of};
+ghost use Rattle.clf_syntax.specs.Tree.{lam, bare, spine_on, tuple_of};
 ghost use Rattle.clf_syntax.specs.Plain.{plain_obj, plain_neutral, plain_elim, plain_expr, plain_step, plain_entry};
 ghost use Rattle.clf_sig.specs.Signature.{plain_signature};
 ghost use Rattle.clf_printer.specs.Text as spec;
@@ -78,7 +78,6 @@ fn push_projection(out: &mut Vec<u8>, act: &Elim, applied: bool) -> Result<(), A
 
 /// Writes an object under so many binders.
 #[cycle(push_object)]
-#[tactic(auto, using(crate::proofs::Texts::texts))]
 pub fn push_object(
     out: &mut Vec<u8>,
     sig: &Signature,
@@ -89,12 +88,7 @@ pub fn push_object(
     ensures { OnOk result (out.new.items ≡ out.old.items ++ spec.object_text (plain_signature sig.now) metas.now level (plain_obj obj.now)) }
 {
     match obj {
-        Obj::Lam { mode, body } => {
-            out.push(b'\\')?;
-            push_binder(out, level, *mode)?;
-            out.extend_from_slice(b". ")?;
-            push_object(out, sig, metas, raised(level, 1)?, body.get())
-        }
+        Obj::Lam { mode, body } => push_lambda(out, sig, metas, level, *mode, body.get()),
         Obj::Pair { left, right } => {
             out.push(b'<')?;
             push_object(out, sig, metas, level, left.get())?;
@@ -111,6 +105,24 @@ pub fn push_object(
         Obj::At { neutral } => push_neutral(out, sig, metas, level, neutral),
         Obj::Hole => push_if(out, true, b"_"),
     }
+}
+
+/// Writes a function.
+#[cycle(push_object)]
+fn push_lambda(
+    out: &mut Vec<u8>,
+    sig: &Signature,
+    metas: &[u32],
+    level: u64,
+    mode: Mode,
+    body: &Obj,
+) -> Result<(), AllocError>
+    ensures { OnOk result (out.new.items ≡ out.old.items ++ spec.object_text (plain_signature sig.now) metas.now level (lam mode (plain_obj body.now))) }
+{
+    out.push(b'\\')?;
+    push_binder(out, level, mode)?;
+    out.extend_from_slice(b". ")?;
+    push_object(out, sig, metas, raised(level, 1)?, body)
 }
 
 /// Writes an object, in parentheses where it is no atom.
@@ -131,7 +143,6 @@ pub fn push_atom(
 }
 
 #[cycle(push_object)]
-#[tactic(auto, using(crate::proofs::Texts::texts))]
 fn push_neutral(
     out: &mut Vec<u8>,
     sig: &Signature,
@@ -168,7 +179,6 @@ fn push_back(
 
 /// Writes what an elimination adds behind a neutral, which is an application or is not.
 #[cycle(push_object)]
-#[tactic(auto, using(crate::proofs::Texts::texts))]
 fn push_elimination(
     out: &mut Vec<u8>,
     sig: &Signature,
@@ -191,7 +201,6 @@ fn push_elimination(
 }
 
 #[cycle(push_object)]
-#[tactic(auto, using(crate::proofs::Texts::texts))]
 fn push_expression(
     out: &mut Vec<u8>,
     sig: &Signature,
@@ -211,7 +220,6 @@ fn push_expression(
 }
 
 #[cycle(push_object)]
-#[tactic(auto, using(crate::proofs::Texts::texts))]
 fn push_step(
     out: &mut Vec<u8>,
     sig: &Signature,
@@ -264,7 +272,6 @@ fn push_entries(
 }
 
 #[cycle(push_object)]
-#[tactic(auto, using(crate::proofs::Texts::texts))]
 fn push_entry(
     out: &mut Vec<u8>,
     sig: &Signature,

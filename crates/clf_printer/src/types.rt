@@ -1,6 +1,6 @@
 //! Types, telescopes and kinds.
 ghost use Rattle.std.specs.Prelude.{◌≡◌, ◌≤◌, ◌++◌, ◌+◌, ◌&&◌, IfOk, OnOk, map, not, length, drop};
-ghost use Rattle.clf_syntax.specs.TypeTree.{telescope_of};
+ghost use Rattle.clf_syntax.specs.TypeTree.{telescope_of, monad};
 ghost use Rattle.clf_syntax.specs.Occurs.{occurs_type as occurs_type_of, occurs_telescope as occurs_telescope_of};
 ghost use Rattle.clf_syntax.specs.Plain.{plain_obj};
 ghost use Rattle.clf_syntax.specs.PlainTypes.{plain_ty, plain_tele_entry};
@@ -79,7 +79,6 @@ fn push_indices(
 
 /// Writes a type at a place.
 #[cycle(push_type)]
-#[tactic(auto, using(crate::proofs::Texts::type_texts))]
 pub fn push_type(
     out: &mut Vec<u8>,
     sig: &Signature,
@@ -96,11 +95,11 @@ pub fn push_type(
             push_indices(out, sig, metas, level, indices.as_slice())
         }
         Ty::Fun { mode, dom, cod } => {
+            let cod = cod.get();
             let grouped = groups_function(place);
-            let named = names_argument(*mode, cod.get())?;
             push_if(out, grouped, b"(")?;
-            push_domain(out, sig, metas, level, *mode, named, dom.get())?;
-            push_type(out, sig, metas, raised(level, 1)?, Place::Whole, cod.get())?;
+            push_argument(out, sig, metas, level, *mode, dom.get(), cod)?;
+            push_type(out, sig, metas, raised(level, 1)?, Place::Whole, cod)?;
             push_if(out, grouped, b")")
         }
         Ty::With { left, right } => {
@@ -112,19 +111,46 @@ pub fn push_type(
             push_if(out, grouped, b")")
         }
         Ty::Top => push_if(out, true, b"<T>"),
-        Ty::Monad { tele } => {
-            let entries = tele.entries.as_slice();
-            out.push(b'{')?;
-            push_if(out, entries.is_empty(), b"1")?;
-            push_telescope(out, sig, metas, level, entries)?;
-            push_if(out, true, b"}")
-        }
+        Ty::Monad { tele } => push_monad(out, sig, metas, level, tele.entries.as_slice()),
     }
+}
+
+/// Writes the argument of a function.
+#[cycle(push_type)]
+fn push_argument(
+    out: &mut Vec<u8>,
+    sig: &Signature,
+    metas: &[u32],
+    level: u64,
+    mode: Mode,
+    dom: &Ty,
+    cod: &Ty,
+) -> Result<(), AllocError>
+    ensures { OnOk result (out.new.items ≡ out.old.items ++ spec.domain_text mode (spec.is_persistent mode && occurs_type_of 0 (plain_ty cod.now)) level (spec.type_text (plain_signature sig.now) metas.now level Whole (plain_ty dom.now)) (spec.type_text (plain_signature sig.now) metas.now level Operand (plain_ty dom.now))) }
+{
+    let named = names_argument(mode, cod)?;
+    push_domain(out, sig, metas, level, mode, named, dom)
+}
+
+/// Writes a monadic type.
+#[cycle(push_type)]
+fn push_monad(
+    out: &mut Vec<u8>,
+    sig: &Signature,
+    metas: &[u32],
+    level: u64,
+    entries: &[TeleEntry],
+) -> Result<(), AllocError>
+    ensures { OnOk result (out.new.items ≡ out.old.items ++ spec.type_text (plain_signature sig.now) metas.now level Whole (monad (telescope_of (map plain_tele_entry entries.now)))) }
+{
+    out.push(b'{')?;
+    push_if(out, entries.is_empty(), b"1")?;
+    push_telescope(out, sig, metas, level, entries)?;
+    push_if(out, true, b"}")
 }
 
 /// Writes an argument in front of the rest.
 #[cycle(push_type)]
-#[tactic(auto, using(crate::proofs::Texts::type_texts))]
 fn push_domain(
     out: &mut Vec<u8>,
     sig: &Signature,
@@ -147,7 +173,6 @@ fn push_domain(
 
 /// Writes a new variable with its type.
 #[cycle(push_type)]
-#[tactic(auto, using(crate::proofs::Texts::type_texts))]
 fn push_named(
     out: &mut Vec<u8>,
     sig: &Signature,
@@ -165,7 +190,6 @@ fn push_named(
 
 /// Writes the entries of a telescope.
 #[cycle(push_type)]
-#[tactic(auto, using(crate::proofs::Texts::type_texts))]
 pub fn push_telescope(
     out: &mut Vec<u8>,
     sig: &Signature,
@@ -189,7 +213,6 @@ pub fn push_telescope(
 
 /// Writes an entry in front of the rest.
 #[cycle(push_type)]
-#[tactic(auto, using(crate::proofs::Texts::type_texts))]
 fn push_tele_entry(
     out: &mut Vec<u8>,
     sig: &Signature,

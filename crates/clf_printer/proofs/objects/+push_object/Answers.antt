@@ -1,11 +1,15 @@
-use Rattle.std.proofs.Common.{◌≡◌, ◌+◌, ◌-◌, ◌<◌, ◌≤◌, ◌++◌, nat_lt, ◌==◌, not, length, map, take, arith, sym, ap, ◌∙◌, codes}
+use Rattle.std.proofs.Common.{◌≡◌, ◌+◌, ◌-◌, ◌<◌, ◌≤◌, ◌++◌, nat_lt, ◌==◌, not, length, map, take, arith, sym, ap, ◌∙◌, codes, append-nil}
 use Rattle.std.proofs.lemmas.Result.{on_ok_weaker}
+use Rattle.std.proofs.lemmas.List.{take_all, at_drop_all}
+use Rattle.clf_syntax.specs.declared.tree.Mode.TheVariants.{Persistent, Affine, Linear}
 use Rattle.clf_syntax.specs.declared.tree.Expr.{out-Expr}
-use Rattle.clf_syntax.specs.Plain.{plain_obj, plain_elim, plain_step, plain_entry, plain-Lam, plain-Pair, plain-step-modes, plain-step-rhs}
-use Rattle.clf_syntax.specs.Tree.{lam, pair, bare, spine_on, done, tuple_of}
+use Rattle.clf_syntax.specs.Plain.{plain_obj, plain_elim, plain_expr, plain_neutral, plain_step, plain_entry, plain-Lam, plain-Pair, plain-Unit, plain-Mon, plain-At, plain-Hole, plain-Arg, plain-First, plain-Second, plain-expr, plain-entry, plain-step-modes, plain-step-rhs}
+use Rattle.clf_syntax.specs.Tree.{lam, pair, unit, monadic, atomic, hole, arg, first, second, bare, spine_on, steps_on, done, tuple_of}
 use Rattle.clf_sig.specs.Signature.{plain_signature}
-use Rattle.clf_printer.specs.Text.{when, is_application, is_atom, listed, binder_text, pattern_text, object_text, neutral_text, tuple_text}
+use Rattle.clf_printer.specs.Text.{when, grouped, is_application, is_atom, listed, mark_text, binder_text, pattern_text, object_text, neutral_text, expression_text, tuple_text}
+use Rattle.clf_printer.specs.Spine.{elimination_text, back_text}
 use Rattle.clf_printer.proofs.Lists.{joined}
+use Rattle.clf_printer.proofs.Texts.{in_parentheses}
 use Rattle.clf_printer.proofs.Spines.{longer, is_application-eliminated, neutral-appended, elimination-appended}
 use Rattle.clf_printer.proofs.Next.{step-appended, steps-ended, entry-appended}
 use Rattle.clf_printer.proofs.objects.+push_object.Goals as goal
@@ -66,15 +70,10 @@ push_entries-loop-entry-preserved t c =
 
 pub push_atom-returns : goal.push_atom-returns
 push_atom-returns t c =
-    let out = c.args.out.now.items in
     let obj = plain_obj c.args.obj.now in
     let text = object_text (plain_signature c.args.sig.now) c.args.metas.now c.args.level obj in
-    let wanted = ap not c.is_atom-grouped.ensures in
-    let opened = c.in_ok-push_if.ensures ∙ ap (λ b. out ++ when b (codes "(")) wanted in
     on_ok_weaker c.push_if-2.result
-    (λ e. joined out (when (not (is_atom obj)) (codes "(") ++ text) (when (not (is_atom obj)) (codes ")"))
-    (joined out (when (not (is_atom obj)) (codes "(")) text opened c.in_ok-push_object.ensures)
-    (e ∙ ap (λ b. c.push_object.new.out.items ++ when b (codes ")")) wanted))
+    (in_parentheses c.args.out.now.items text (not (is_atom obj)) (not c.is_atom-grouped.result) (ap not c.is_atom-grouped.ensures) c.in_ok-push_if.ensures c.in_ok-push_object.ensures)
     c.push_if-2.ensures
 
 pub push_step-returns : goal.push_step-returns
@@ -112,24 +111,27 @@ push_tuple-returns t c =
     e)
     c.push_if-3.ensures
 
-pub push_object-returns-in_ok-raised-in-Lam : goal.push_object-returns-in_ok-raised-in-Lam
-push_object-returns-in_ok-raised-in-Lam t c =
+pub push_lambda-returns : goal.push_lambda-returns
+push_lambda-returns t c =
     let out = c.args.out.now.items in
     let sig = plain_signature c.args.sig.now in
     let metas = c.args.metas.now in
     let level = c.args.level in
-    let body = plain_obj c.get.result.now in
-    let binder = binder_text level c.in-Lam.mode in
+    let body = plain_obj c.args.body.now in
+    let binder = binder_text level c.args.mode in
+    on_ok_weaker c.push_object.result
+    (λ e. joined out ((codes "\\" ++ binder) ++ codes ". ") (object_text sig metas (level + 1) body)
+    (joined out (codes "\\" ++ binder) (codes ". ") (joined out (codes "\\") binder c.in_ok-push.ensures.items c.in_ok-push_binder.ensures) c.in_ok-extend_from_slice.ensures.items)
+    (e ∙ ap (λ n. c.extend_from_slice.new.self.items ++ object_text sig metas n body) c.in_ok-raised.ensures))
+    c.push_object.ensures
+
+pub push_object-returns-in-Lam : goal.push_object-returns-in-Lam
+push_object-returns-in-Lam t c =
     let is = c.in-Lam.is in
     let got = c.get.ensures in
     let law = plain-Lam c.in-Lam.mode c.get.result.now in
-    let plain : plain_obj c.args.obj.now ≡ lam c.in-Lam.mode body = cc in
-    on_ok_weaker c.push_object.result
-    (λ e. joined out ((codes "\\" ++ binder) ++ codes ". ") (object_text sig metas (level + 1) body)
-    (joined out (codes "\\" ++ binder) (codes ". ") (joined out (codes "\\") binder c.in_ok-push-in-Lam.ensures.items c.in_ok-push_binder-in-Lam.ensures) c.in_ok-extend_from_slice-in-Lam.ensures.items)
-    (e ∙ ap (λ n. c.extend_from_slice.new.self.items ++ object_text sig metas n body) c.in_ok-raised-in-Lam.ensures)
-    ∙ ap (λ n. out ++ object_text sig metas level n) (sym plain))
-    c.push_object.ensures
+    let plain : plain_obj c.args.obj.now ≡ lam c.in-Lam.mode (plain_obj c.get.result.now) = cc in
+    rw plain c.push_lambda.ensures
 
 pub push_object-returns-in_ok-push_object-in-Pair-2 : goal.push_object-returns-in_ok-push_object-in-Pair-2
 push_object-returns-in_ok-push_object-in-Pair-2 t c =
@@ -137,20 +139,143 @@ push_object-returns-in_ok-push_object-in-Pair-2 t c =
     let sig = plain_signature c.args.sig.now in
     let metas = c.args.metas.now in
     let level = c.args.level in
-    let left = plain_obj c.get-in-Pair.result.now in
-    let right = plain_obj c.get-in-Pair-2.result.now in
-    let first = object_text sig metas level left in
-    let second = object_text sig metas level right in
+    let left = c.get-in-Pair.result.now in
+    let right = c.get-in-Pair-2.result.now in
+    let first = object_text sig metas level (plain_obj left) in
+    let second = object_text sig metas level (plain_obj right) in
     let is = c.in-Pair.is in
     let got_left = c.get-in-Pair.ensures in
     let got_right = c.get-in-Pair-2.ensures in
-    let law = plain-Pair c.get-in-Pair.result.now c.get-in-Pair-2.result.now in
-    let plain : plain_obj c.args.obj.now ≡ pair left right = cc in
-    on_ok_weaker c.push_if.result
-    (λ e. joined out (((codes "<" ++ first) ++ codes ", ") ++ second) (codes ">")
+    let law = plain-Pair left right in
+    let plain : plain_obj c.args.obj.now ≡ pair (plain_obj left) (plain_obj right) = cc in
+    rw plain (on_ok_weaker c.push_if.result
+    (joined out (((codes "<" ++ first) ++ codes ", ") ++ second) (codes ">")
     (joined out ((codes "<" ++ first) ++ codes ", ") second
     (joined out (codes "<" ++ first) (codes ", ") (joined out (codes "<") first c.in_ok-push-in-Pair.ensures.items c.in_ok-push_object-in-Pair.ensures) c.in_ok-extend_from_slice-in-Pair.ensures.items)
-    c.in_ok-push_object-in-Pair-2.ensures)
-    e
+    c.in_ok-push_object-in-Pair-2.ensures))
+    c.push_if.ensures)
+
+pub push_object-returns-in-Unit : goal.push_object-returns-in-Unit
+push_object-returns-in-Unit t c =
+    let is = c.in-Unit.is in
+    let law = plain-Unit in
+    let plain : plain_obj c.args.obj.now ≡ unit = cc in
+    rw plain c.push_if-in-Unit.ensures
+
+pub push_object-returns-in-Hole : goal.push_object-returns-in-Hole
+push_object-returns-in-Hole t c =
+    let is = c.in-Hole.is in
+    let law = plain-Hole in
+    let plain : plain_obj c.args.obj.now ≡ hole = cc in
+    rw plain c.push_if-in-Hole.ensures
+
+pub push_object-returns-in-At : goal.push_object-returns-in-At
+push_object-returns-in-At t c =
+    let is = c.in-At.is in
+    let law = plain-At c.in-At.neutral in
+    let plain : plain_obj c.args.obj.now ≡ atomic (plain_neutral c.in-At.neutral) = cc in
+    rw plain c.push_neutral.ensures
+
+pub push_object-returns-in_ok-push_expression-in-Mon : goal.push_object-returns-in_ok-push_expression-in-Mon
+push_object-returns-in_ok-push_expression-in-Mon t c =
+    let out = c.args.out.now.items in
+    let level = c.args.level in
+    let sig = plain_signature c.args.sig.now in
+    let metas = c.args.metas.now in
+    let expr = plain_expr c.get-in-Mon.result.now in
+    let text = expression_text sig metas level expr in
+    let is = c.in-Mon.is in
+    let got = c.get-in-Mon.ensures in
+    let law = plain-Mon c.get-in-Mon.result.now in
+    let plain : plain_obj c.args.obj.now ≡ monadic expr = cc in
+    on_ok_weaker c.push_if-in-Mon.result
+    (λ e. joined out (codes "{" ++ text) (codes "}") (joined out (codes "{") text c.in_ok-push-in-Mon.ensures.items c.in_ok-push_expression-in-Mon.ensures) e
     ∙ ap (λ n. out ++ object_text sig metas level n) (sym plain))
-    c.push_if.ensures
+    c.push_if-in-Mon.ensures
+
+pub push_back-returns : goal.push_back-returns
+push_back-returns t c h =
+    let spine = c.args.spine.now in
+    let i = c.loop-act.act-index in
+    let ended : length spine ≤ i = omega arith in
+    (c.loop-act.invariant h).1
+    ∙ ap (λ acts. c.args.out.now.items ++ back_text (plain_signature c.args.sig.now) c.args.metas.now c.args.level (spine_on (map plain_elim acts) (bare h))) (take_all i spine ended)
+
+pub push_elimination-returns-in-First : goal.push_elimination-returns-in-First
+push_elimination-returns-in-First t c =
+    let is = c.in-First.is in
+    let law = plain-First in
+    let plain : plain_elim c.args.act.now ≡ first = cc in
+    rw plain c.push_if.ensures
+
+pub push_elimination-returns-in-Second : goal.push_elimination-returns-in-Second
+push_elimination-returns-in-Second t c =
+    let is = c.in-Second.is in
+    let law = plain-Second in
+    let plain : plain_elim c.args.act.now ≡ second = cc in
+    rw plain c.push_if-in-Second.ensures
+
+pub push_elimination-returns-in_ok-push_mark-in-Arg : goal.push_elimination-returns-in_ok-push_mark-in-Arg
+push_elimination-returns-in_ok-push_mark-in-Arg t c =
+    let out = c.args.out.now.items in
+    let level = c.args.level in
+    let sig = plain_signature c.args.sig.now in
+    let metas = c.args.metas.now in
+    let mode = c.in-Arg.mode in
+    let obj = plain_obj c.in-Arg.obj in
+    let is = c.in-Arg.is in
+    let law = plain-Arg mode c.in-Arg.obj in
+    let plain : plain_elim c.args.act.now ≡ arg mode obj = cc in
+    on_ok_weaker c.push_atom.result
+    (λ e. joined out (codes " " ++ mark_text mode) (grouped (not (is_atom obj)) (object_text sig metas level obj))
+    (joined out (codes " ") (mark_text mode) c.in_ok-push-in-Arg.ensures.items c.in_ok-push_mark-in-Arg.ensures)
+    e
+    ∙ ap (λ a. out ++ elimination_text sig metas level c.args.applied a) (sym plain))
+    c.push_atom.ensures
+
+pub push_expression-loop-step-init : goal.push_expression-loop-step-init
+push_expression-loop-step-init t c =
+    let out = c.args.out.now.items in
+    let level = c.args.level in
+    let sig = plain_signature c.args.sig.now in
+    let metas = c.args.metas.now in
+    ap (λ ss. out ++ expression_text sig metas level (steps_on (map plain_step ss) (done (tuple_of (map plain_entry (out-Expr c.args.expr.now).result))))) c.as_slice-step-items.ensures
+    ∙ ap (λ e. out ++ expression_text sig metas level e) (sym (plain-expr c.args.expr.now))
+
+pub push_entries-returns : goal.push_entries-returns
+push_entries-returns t c =
+    let tuple = c.args.tuple.now in
+    let i = c.loop-entry.entry-index in
+    let out = c.loop-entry.out.items in
+    let ended : length tuple ≤ i = omega arith in
+    sym (append-nil out)
+    ∙ sym (at_drop_all (λ ts. out ++ tuple_text (plain_signature c.args.sig.now) c.args.metas.now c.args.level (tuple_of (map plain_entry ts))) tuple i ended)
+    ∙ c.loop-entry.invariant.written
+
+pub push_entry-returns-in-Linear : goal.push_entry-returns-in-Linear
+push_entry-returns-in-Linear t c =
+    let entry = c.args.entry.now in
+    let is = c.in-Linear.is in
+    let law = plain-entry entry in
+    let plain : plain_entry entry ≡ (Linear, plain_obj entry.obj) = cc in
+    rw plain c.push_object.ensures
+
+pub push_entry-returns-in_ok-push-in-Affine : goal.push_entry-returns-in_ok-push-in-Affine
+push_entry-returns-in_ok-push-in-Affine t c =
+    let entry = c.args.entry.now in
+    let obj = plain_obj entry.obj in
+    let text = object_text (plain_signature c.args.sig.now) c.args.metas.now c.args.level obj in
+    let is = c.in-Affine.is in
+    let law = plain-entry entry in
+    let plain : plain_entry entry ≡ (Affine, obj) = cc in
+    rw plain (on_ok_weaker c.push_atom-in-Affine.result (joined c.args.out.now.items (codes "@") (grouped (not (is_atom obj)) text) c.in_ok-push-in-Affine.ensures.items) c.push_atom-in-Affine.ensures)
+
+pub push_entry-returns-in_ok-push-in-Persistent : goal.push_entry-returns-in_ok-push-in-Persistent
+push_entry-returns-in_ok-push-in-Persistent t c =
+    let entry = c.args.entry.now in
+    let obj = plain_obj entry.obj in
+    let text = object_text (plain_signature c.args.sig.now) c.args.metas.now c.args.level obj in
+    let is = c.in-Persistent.is in
+    let law = plain-entry entry in
+    let plain : plain_entry entry ≡ (Persistent, obj) = cc in
+    rw plain (on_ok_weaker c.push_atom.result (joined c.args.out.now.items (codes "!") (grouped (not (is_atom obj)) text) c.in_ok-push-in-Persistent.ensures.items) c.push_atom.ensures)
