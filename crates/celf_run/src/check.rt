@@ -80,7 +80,7 @@ fn judge(
             })
         }
         Err(OrWide::Fault(refusal)) => {
-            let answered = has_not(alloc, sig, plain.span.start, &refusal);
+            let answered = ill_typed(alloc, sig, plain.span.start, &refusal);
             drop(refusal);
             answered
         }
@@ -93,8 +93,8 @@ fn judge(
     }
 }
 
-/// The refusal of an object that has not its type.
-fn has_not(
+/// The refusal of an object that the rules do not give its type.
+fn ill_typed(
     alloc: Global,
     sig: &Signature,
     at: u32,

@@ -56,4 +56,4 @@ returns-in-Err-Fault c =
     let start = c.args.plain.now.span.start in
     let why : List ℕ = kernel_why sig (1 ∷ r.path.items) (plain_cause r.cause) in
     let told = refusal-empty sig _ _ n a c.in-Err-Fault.field-0 r c.empty-ctx.ensures (ap reverse c.new.ensures) c.in-Err-Fault.field-0-is c.in-Err-Fault.ensures.exact in
-    record { answered = refusal-answers (Judged sig start n a) sig start why c.has_not-answered.result (has_none told.0 told.1) c.has_not-answered.ensures }
+    record { answered = refusal-answers (Judged sig start n a) sig start why c.ill_typed-answered.result (has_none told.0 told.1) c.ill_typed-answered.ensures }

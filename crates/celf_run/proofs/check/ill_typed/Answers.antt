@@ -2,7 +2,7 @@ use Rattle.std.proofs.Common.{◌∙◌, List, ℕ, subst, append-nil}
 use Rattle.std.specs.Prelude.{IfOk}
 use Rattle.celf_run.specs.declared.answer.Answered.{Answered}
 use Rattle.celf_run.specs.Answering.{RefusedSo}
-use Rattle.celf_run.proofs.check.has_not.Goals as goal
+use Rattle.celf_run.proofs.check.ill_typed.Goals as goal
 
 pub returns : goal.returns
 returns c =
