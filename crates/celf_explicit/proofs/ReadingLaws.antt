@@ -4,11 +4,11 @@ use Rattle.std.proofs.Common.{ap, sym, ◌∙◌, ◌-◌, ◌≤◌, arith, app
 use Rattle.std.proofs.Math.Seq.{take-length}
 use Rattle.std.proofs.lemmas.List.{take_more, drop_more, drop_all, map-append, reverse-append}
 use Rattle.clf_syntax.specs.Plain.{plain_elim}
-use Rattle.clf_syntax.specs.Tree.{Elimination}
+use Rattle.clf_syntax.specs.Tree.{PlainElimination}
 use Rattle.clf_syntax.specs.declared.tree.Elim.{Elim}
 use Rattle.clf_syntax.specs.declared.tree.Head.TheVariants.{Var}
 use Rattle.clf_sig.specs.Entry.{PlainSignature}
-use Rattle.celf_sugar.specs.PlainTree.{Act}
+use Rattle.celf_sugar.specs.PlainTree.{DesugaredAct}
 use Rattle.celf_explicit.specs.Reading.{Local, Place, Typed, combined, behind, has_name, local_from, read_act}
 use Rattle.celf_explicit.specs.ReadingLists.{read_acts, with_more}
 use Rattle.celf_explicit.specs.Locals.{Declared, plain_place, plain_local, plain_locals}
@@ -50,12 +50,12 @@ is_older view name k ws slice left w whole s p l e q inv =
 pub none_left : {W : Type 0} (view : W → Declared) (name : List ℕ) (k : ℕ) (ws : List W) (left : ℕ) (whole : Option Typed) → left ≤ 0 → local_from k name (oldest view left ws) ≡ whole → None ≡ whole
 none_left view name k ws left whole z inv = let empty : left ≡ 0 = omega arith in rw empty at inv
 
-with_next : (es : List Elimination) (e : Elimination) (more : Option (List Elimination)) → with_more (es ++ e ∷ []) more ≡ with_more es (combined (◌∷◌) (Some e) more)
+with_next : (es : List PlainElimination) (e : PlainElimination) (more : Option (List PlainElimination)) → with_more (es ++ e ∷ []) more ≡ with_more es (combined (◌∷◌) (Some e) more)
 with_next es e None = refl
 with_next es e (Some fs) = ap Some (append_assoc es (e ∷ []) fs)
 
 -- What is read of a spine has been read up to an element, which these are.
-module _ {W : Type 0} (written : W → Act) (sig : PlainSignature) (ls : List Local) (t : Place) (elims : List Elim) (ws : List W) (i : ℕ) (w : W) (whole : Option (List Elimination)) where
+module _ {W : Type 0} (written : W → DesugaredAct) (sig : PlainSignature) (ls : List Local) (t : Place) (elims : List Elim) (ws : List W) (i : ℕ) (w : W) (whole : Option (List PlainElimination)) where
   from_here : i < length ws → w ≡ get_or ws i w → with_more (map plain_elim elims) (read_acts sig ls t (map written (drop i ws))) ≡ whole
       → with_more (map plain_elim elims) (combined (◌∷◌) (read_act sig ls t (written w)) (read_acts sig ls (behind t (written w)) (map written (drop (i + 1) ws)))) ≡ whole
   from_here h e v =
@@ -74,7 +74,7 @@ module _ {W : Type 0} (written : W → Act) (sig : PlainSignature) (ls : List Lo
       rw (p, map-append plain_elim elims (more ∷ []), b) (with_next (map plain_elim elims) (plain_elim more) (read_acts sig ls (behind t (written w)) (map written (drop (i + 1) ws))) ∙ rw (← n) at from_here h e v)
 
 -- all of it has been read
-pub all_read : {W : Type 0} (written : W → Act) (sig : PlainSignature) (ls : List Local) (t : Place) (es : List Elimination) (ws : List W) (i : ℕ) (whole : Option (List Elimination)) → length ws ≤ i → with_more es (read_acts sig ls t (map written (drop i ws))) ≡ whole → Some es ≡ whole
+pub all_read : {W : Type 0} (written : W → DesugaredAct) (sig : PlainSignature) (ls : List Local) (t : Place) (es : List PlainElimination) (ws : List W) (i : ℕ) (whole : Option (List PlainElimination)) → length ws ≤ i → with_more es (read_acts sig ls t (map written (drop i ws))) ≡ whole → Some es ≡ whole
 all_read written sig ls t es ws i whole h v =
     let ended : Some (es ++ []) ≡ whole = rw (drop_all i ws h) at v in
     rw (append-nil es) at ended

@@ -6,7 +6,7 @@ use Rattle.clf_syntax.specs.declared.tree.Obj.{Obj}
 use Rattle.clf_syntax.specs.declared.tree.Ty.{Ty}
 use Rattle.clf_syntax.specs.Plain.{plain_obj}
 use Rattle.clf_syntax.specs.PlainTypes.{plain_ty}
-use Rattle.clf_syntax.specs.Tree.{Object}
+use Rattle.clf_syntax.specs.Tree.{PlainObject}
 use Rattle.clf_syntax.specs.TypeTree.{PlainType}
 use Rattle.celf_explicit.specs.Reading.{Place, Local}
 
@@ -23,5 +23,5 @@ abbrev pub plain_locals : List Declared → List Local
 plain_locals ls = map plain_local ls
 
 -- an object and its type
-abbrev pub plain_check : Obj × Ty → Object × PlainType
+abbrev pub plain_check : Obj × Ty → PlainObject × PlainType
 plain_check p = (plain_obj p.0, plain_ty p.1)

@@ -9,13 +9,13 @@ use Rattle.clf_syntax.specs.declared.tree.Head.TheVariants.{Const, Var}
 use Rattle.clf_syntax.specs.Word.{same_bytes}
 use Rattle.clf_syntax.specs.Tree as core
 use Rattle.clf_syntax.specs.TypeTree as core_type
-use Rattle.clf_syntax.specs.TypeTree.{SimpleType, base, arrow, product, one, lax}
+use Rattle.clf_syntax.specs.TypeTree.{SimpleType, base, arrow, simple_with, simple_top, lax}
 use Rattle.clf_syntax.specs.Simple.{erase}
 use Rattle.clf_sig.specs.Entry.{PlainSignature, simple_types}
 use Rattle.celf_surface.specs.declared.surface.SMode.{SMode}
 use Rattle.celf_surface.specs.declared.surface.SMode.TheVariants.{Bare, Persistent as WrittenPersistent, Affine as WrittenAffine, Linear as WrittenLinear}
 use Rattle.celf_sugar.specs.declared.plain.PName.{PName}
-use Rattle.celf_sugar.specs.PlainTree.{Object, lam, pair, unit, monadic, atomic, hole, Spine, end_of_spine, and_then, Act, argument, first, second, PlainType, family, function, both, top, monad}
+use Rattle.celf_sugar.specs.PlainTree.{DesugaredObject, lam, pair, unit, monadic, atomic, hole, DesugaredSpine, end_of_spine, and_then, DesugaredAct, argument, first, second, DesugaredType, family, function, both, top, monad}
 use Rattle.celf_explicit.specs.Names.{family_named, constant_named}
 
 -- What f makes of two parts; none where one of them is none.
@@ -25,12 +25,12 @@ combined f (Some x) None = None
 combined f None y = None
 
 -- there are no indices
-abbrev pub has_none : List Object → Bool
+abbrev pub has_none : List DesugaredObject → Bool
 has_none [] = true
 has_none (i ∷ is) = false
 
 -- The type that is written; none where a name in it has no meaning, or where it is out of reach.
-abbrev pub read_type : PlainSignature → PlainType → Option core_type.PlainType
+abbrev pub read_type : PlainSignature → DesugaredType → Option core_type.PlainType
 read_type sig (family s h is) = if has_none is then option_map (λ f. core_type.family f []) (family_named sig h.name) else None
 read_type sig (function s m n a b) = combined (core_type.function m) (read_type sig a) (read_type sig b)
 read_type sig (both s a b) = combined core_type.both (read_type sig a) (read_type sig b)
@@ -46,8 +46,8 @@ abbrev pub mode_at : Place → Mode
 mode_at None = Linear
 mode_at (Some (base f)) = Linear
 mode_at (Some (arrow m a c)) = m
-mode_at (Some (product a b)) = Linear
-mode_at (Some one) = Linear
+mode_at (Some (simple_with a b)) = Linear
+mode_at (Some simple_top) = Linear
 mode_at (Some (lax s)) = Linear
 
 -- the places of a function's argument and of its body
@@ -55,16 +55,16 @@ abbrev pub domain : Place → Place
 domain None = None
 domain (Some (base f)) = None
 domain (Some (arrow m a c)) = Some a
-domain (Some (product a b)) = None
-domain (Some one) = None
+domain (Some (simple_with a b)) = None
+domain (Some simple_top) = None
 domain (Some (lax s)) = None
 
 abbrev pub codomain : Place → Place
 codomain None = None
 codomain (Some (base f)) = None
 codomain (Some (arrow m a c)) = Some c
-codomain (Some (product a b)) = None
-codomain (Some one) = None
+codomain (Some (simple_with a b)) = None
+codomain (Some simple_top) = None
 codomain (Some (lax s)) = None
 
 -- the places of a pair's parts
@@ -72,16 +72,16 @@ abbrev pub left_part : Place → Place
 left_part None = None
 left_part (Some (base f)) = None
 left_part (Some (arrow m a c)) = None
-left_part (Some (product a b)) = Some a
-left_part (Some one) = None
+left_part (Some (simple_with a b)) = Some a
+left_part (Some simple_top) = None
 left_part (Some (lax s)) = None
 
 abbrev pub right_part : Place → Place
 right_part None = None
 right_part (Some (base f)) = None
 right_part (Some (arrow m a c)) = None
-right_part (Some (product a b)) = Some b
-right_part (Some one) = None
+right_part (Some (simple_with a b)) = Some b
+right_part (Some simple_top) = None
 right_part (Some (lax s)) = None
 
 -- A neutral stays as it is at a family, and where it is not known what is wanted. Elsewhere its eta-long form would stand.
@@ -89,8 +89,8 @@ abbrev pub stays : Place → Bool
 stays None = true
 stays (Some (base f)) = true
 stays (Some (arrow m a c)) = false
-stays (Some (product a b)) = false
-stays (Some one) = false
+stays (Some (simple_with a b)) = false
+stays (Some simple_top) = false
 stays (Some (lax s)) = false
 
 -- A bare part takes the mode of its place; a written mode stays.
@@ -132,19 +132,19 @@ place_of_head None = None
 place_of_head (Some h) = h.1
 
 -- a head, and what is done to it
-abbrev pub applied : Option Typed → Option (List core.Elimination) → Option core.Object
+abbrev pub applied : Option Typed → Option (List core.PlainElimination) → Option core.PlainObject
 applied None es = None
-applied (Some h) es = option_map (λ fs. core.atomic (core.spine_on fs (core.bare h.0))) es
+applied (Some h) es = option_map (λ fs. core.atomic (core.spine_on fs (core.head_alone h.0))) es
 
 -- the simple type of a head that goes on by an argument or a projection
-abbrev pub behind : Place → Act → Place
+abbrev pub behind : Place → DesugaredAct → Place
 behind t (argument m o) = codomain t
 behind t first = left_part t
 behind t second = right_part t
 
 -- The object that is written, over these locals, the newest first, at a place; none where a name in it has no constant or local, or where it is out of reach.
 abbrev mutual
-  pub read_object : PlainSignature → List Local → Place → Object → Option core.Object
+  pub read_object : PlainSignature → List Local → Place → DesugaredObject → Option core.PlainObject
   read_object sig ls t (lam s m n b) = option_map (core.lam (marked m (mode_at t))) (read_object sig ((n, domain t) ∷ ls) (codomain t) b)
   read_object sig ls t (pair s l r) = combined core.pair (read_object sig ls (left_part t) l) (read_object sig ls (right_part t) r)
   read_object sig ls t (unit s) = Some core.unit
@@ -153,21 +153,21 @@ abbrev mutual
   read_object sig ls t (hole s) = None
 
   -- the eliminations of a head of this simple type
-  pub read_spine : PlainSignature → List Local → Place → Spine → Option (List core.Elimination)
+  pub read_spine : PlainSignature → List Local → Place → DesugaredSpine → Option (List core.PlainElimination)
   read_spine sig ls t end_of_spine = Some []
   read_spine sig ls t (and_then a es) = combined (◌∷◌) (read_act sig ls t a) (read_spine sig ls (behind t a) es)
 
-  pub read_act : PlainSignature → List Local → Place → Act → Option core.Elimination
+  pub read_act : PlainSignature → List Local → Place → DesugaredAct → Option core.PlainElimination
   read_act sig ls t (argument m o) = option_map (core.arg (marked m (mode_at t))) (read_object sig ls (domain t) o)
   read_act sig ls t first = Some core.first
   read_act sig ls t second = Some core.second
 
 -- an object that is checked against a type: its place wants the type without indices
-abbrev pub with_type : core_type.PlainType → core.Object → core.Object × core_type.PlainType
+abbrev pub with_type : core_type.PlainType → core.PlainObject → core.PlainObject × core_type.PlainType
 with_type a n = (n, a)
 
-abbrev pub read_against : PlainSignature → Object → core_type.PlainType → Option (core.Object × core_type.PlainType)
+abbrev pub read_against : PlainSignature → DesugaredObject → core_type.PlainType → Option (core.PlainObject × core_type.PlainType)
 read_against sig o a = option_map (with_type a) (read_object sig [] (Some (erase a)) o)
 
-abbrev pub read_check : PlainSignature → Object → PlainType → Option (core.Object × core_type.PlainType)
+abbrev pub read_check : PlainSignature → DesugaredObject → DesugaredType → Option (core.PlainObject × core_type.PlainType)
 read_check sig o t = option_and_then (read_against sig o) (read_type sig t)

@@ -4,7 +4,7 @@ ghost use Rattle.clf_syntax.specs.PlainTypes.{plain_ty};
 ghost use Rattle.clf_sig.specs.Entry.{constant_of};
 ghost use Rattle.clf_sig.specs.Signature.{plain_class, plain_entry, plain_signature};
 ghost use Rattle.celf_sugar.specs.PlainTree.{telescope_of};
-ghost use Rattle.celf_sugar.specs.Plain.{class_of, plain_entry as written_entry};
+ghost use Rattle.celf_sugar.specs.Plain.{class_of, desugared_entry as written_entry};
 ghost use Rattle.celf_explicit.specs.Entries as spec;
 
 use crate::read::read_type;

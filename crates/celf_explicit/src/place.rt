@@ -2,7 +2,7 @@
 ghost use Rattle.std.specs.Prelude.{◌≡◌, option_copied, option_map};
 ghost use Rattle.clf_syntax.specs.PlainSimple.{plain_simple};
 ghost use Rattle.celf_explicit.specs.Reading as spec;
-ghost use Rattle.celf_sugar.specs.Plain.{plain_elim};
+ghost use Rattle.celf_sugar.specs.Plain.{desugared_elim};
 
 use celf_sugar::PElim;
 use celf_surface::SMode;
@@ -107,7 +107,7 @@ pub fn stays(place: Option<&Simple>) -> bool
 /// The simple type of a head that goes on by an argument or a projection.
 #[tactic(auto, using(celf_sugar::specs::Plain::plain_laws))]
 pub fn behind<'a>(simple: Option<&'a Simple>, act: &PElim) -> Option<&'a Simple>
-    ensures { option_map plain_simple (option_copied result) ≡ spec.behind (option_map plain_simple (option_copied simple.entry)) (plain_elim act.now) }
+    ensures { option_map plain_simple (option_copied result) ≡ spec.behind (option_map plain_simple (option_copied simple.entry)) (desugared_elim act.now) }
 {
     match act {
         PElim::Arg { .. } => codomain(simple),

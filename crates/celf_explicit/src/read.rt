@@ -5,7 +5,7 @@ ghost use Rattle.clf_syntax.specs.PlainTypes.{plain_ty};
 ghost use Rattle.clf_syntax.specs.Tree as core;
 ghost use Rattle.clf_syntax.specs.TypeTree as core_type;
 ghost use Rattle.clf_sig.specs.Signature.{plain_signature};
-ghost use Rattle.celf_sugar.specs.Plain.{plain_object, plain_type, plain_elim as written_elim};
+ghost use Rattle.celf_sugar.specs.Plain.{desugared_object, desugared_type, desugared_elim as written_elim};
 ghost use Rattle.celf_explicit.specs.Locals.{plain_place, plain_locals, plain_check};
 ghost use Rattle.celf_explicit.specs.Reading as spec;
 ghost use Rattle.celf_explicit.specs.ReadingLists.{read_acts};
@@ -22,7 +22,7 @@ use std::alloc::{AllocError, Global};
 /// The core of a type; none where a name in it has no meaning, or where it has indices or a monad. It fails only where memory runs out.
 #[tactic(auto, using(crate::proofs::Forms::type_laws, crate::proofs::Forms::core_type_laws))]
 pub fn read_type(alloc: Global, sig: &Signature, ty: &PTy) -> Result<Option<Ty>, AllocError>
-    ensures { IfOk result (λ t. option_map plain_ty t ≡ spec.read_type (plain_signature sig.now) (plain_type ty.now)) }
+    ensures { IfOk result (λ t. option_map plain_ty t ≡ spec.read_type (plain_signature sig.now) (desugared_type ty.now)) }
 {
     match &ty.form {
         PTyForm::Family { head, indices } => {
@@ -54,7 +54,7 @@ pub fn read_type(alloc: Global, sig: &Signature, ty: &PTy) -> Result<Option<Ty>,
 
 /// Whether there are no indices.
 fn has_none(indices: &[PObj]) -> bool
-    ensures { result ≡ spec.has_none (map plain_object indices.now) }
+    ensures { result ≡ spec.has_none (map desugared_object indices.now) }
 {
     match indices {
         [] => true,
@@ -115,7 +115,7 @@ fn read_object<'a>(
     place: Option<&'a Simple>,
     locals: &mut Locals<'a>,
 ) -> Result<Option<Obj>, AllocError>
-    ensures read { IfOk result (λ o. option_map plain_obj o ≡ spec.read_object (plain_signature sig.now) (plain_locals locals.old) (plain_place (option_copied place.entry)) (plain_object obj.now)) }
+    ensures read { IfOk result (λ o. option_map plain_obj o ≡ spec.read_object (plain_signature sig.now) (plain_locals locals.old) (plain_place (option_copied place.entry)) (desugared_object obj.now)) }
     ensures kept { OnOk result (locals.new ≡ locals.old) }
 {
     match &obj.form {
@@ -170,7 +170,7 @@ fn pair(left: Option<Boxed<Obj>>, right: Option<Boxed<Obj>>) -> Option<Obj>
 /// A head with its spine.
 #[tactic(auto, using(clf_syntax::specs::Plain::plain_laws))]
 fn applied(head: Head, spine: Option<Items<Elim>>) -> Option<Obj>
-    ensures { option_map plain_obj result ≡ option_map (λ es. core.atomic (core.spine_on es (core.bare head))) (option_map (map plain_elim) spine) }
+    ensures { option_map plain_obj result ≡ option_map (λ es. core.atomic (core.spine_on es (core.head_alone head))) (option_map (map plain_elim) spine) }
 {
     let neutral = neutral(head, spine?);
     Some(Obj::At { neutral })
@@ -178,7 +178,7 @@ fn applied(head: Head, spine: Option<Items<Elim>>) -> Option<Obj>
 
 #[tactic(auto, using(clf_syntax::specs::Plain::plain_laws))]
 fn neutral(head: Head, spine: Items<Elim>) -> Neutral
-    ensures { plain_neutral result ≡ core.spine_on (map plain_elim spine) (core.bare head) }
+    ensures { plain_neutral result ≡ core.spine_on (map plain_elim spine) (core.head_alone head) }
 {
     Neutral { head, spine }
 }
@@ -272,7 +272,7 @@ pub fn read_check(
     obj: &PObj,
     ty: &PTy,
 ) -> Result<Option<(Obj, Ty)>, AllocError>
-    ensures { IfOk result (λ r. option_map plain_check r ≡ spec.read_check (plain_signature sig.now) (plain_object obj.now) (plain_type ty.now)) }
+    ensures { IfOk result (λ r. option_map plain_check r ≡ spec.read_check (plain_signature sig.now) (desugared_object obj.now) (desugared_type ty.now)) }
 {
     match read_type(alloc, sig, ty)? {
         Some(ty) => {
@@ -291,7 +291,7 @@ fn read_against(
     obj: &PObj,
     ty: &Ty,
 ) -> Result<Option<Obj>, AllocError>
-    ensures { IfOk result (λ o. option_map (spec.with_type (plain_ty ty.now)) (option_map plain_obj o) ≡ spec.read_against (plain_signature sig.now) (plain_object obj.now) (plain_ty ty.now)) }
+    ensures { IfOk result (λ o. option_map (spec.with_type (plain_ty ty.now)) (option_map plain_obj o) ≡ spec.read_against (plain_signature sig.now) (desugared_object obj.now) (plain_ty ty.now)) }
 {
     let simple = Boxed::new(alloc, erase(alloc, ty)?)?;
     let mut locals = Locals::new(alloc);

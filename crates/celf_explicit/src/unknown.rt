@@ -3,7 +3,7 @@ ghost use Rattle.std.specs.Prelude.{◌≡◌, ◌++◌, map, IfOk, OnOk, option
 ghost use Rattle.std.specs.List.{flat_map};
 ghost use Rattle.clf_sig.specs.Signature.{plain_signature};
 ghost use Rattle.celf_sugar.specs.Earliest.{earliest};
-ghost use Rattle.celf_sugar.specs.Plain.{plain_object, plain_elim, plain_step, plain_marked, plain_expression, plain_type, plain_entry, plain_telescope, plain_item, class_of};
+ghost use Rattle.celf_sugar.specs.Plain.{desugared_object, desugared_elim, desugared_step, desugared_marked, desugared_expression, desugared_type, desugared_entry, desugared_telescope, desugared_item, class_of};
 ghost use Rattle.celf_explicit.specs.Unknown as spec;
 ghost use Rattle.celf_explicit.specs.UnknownLists.{unknown_along, unknown_in_marked, unknown_in_step, bound_by_step, unknown_in_entry, bound_by_entry};
 
@@ -25,7 +25,7 @@ fn unknown_in_object<'a>(
     sig: &Signature,
     scope: &mut Scope<'a>,
 ) -> Result<Option<&'a PName>, AllocError>
-    ensures first { IfOk result (λ n. option_copied n ≡ earliest spec.place (spec.unknown_in_object (plain_signature sig.now) scope.old (plain_object obj.now))) }
+    ensures first { IfOk result (λ n. option_copied n ≡ earliest spec.place (spec.unknown_in_object (plain_signature sig.now) scope.old (desugared_object obj.now))) }
     ensures kept { OnOk result (scope.new ≡ scope.old) }
 {
     match &obj.form {
@@ -77,7 +77,7 @@ fn unknown_in_spine<'a>(
     sig: &Signature,
     scope: &mut Scope<'a>,
 ) -> Result<Option<&'a PName>, AllocError>
-    ensures first { IfOk result (λ n. option_copied n ≡ earliest spec.place (flat_map (spec.unknown_in_act (plain_signature sig.now) scope.old) (map plain_elim spine.now))) }
+    ensures first { IfOk result (λ n. option_copied n ≡ earliest spec.place (flat_map (spec.unknown_in_act (plain_signature sig.now) scope.old) (map desugared_elim spine.now))) }
     ensures kept { OnOk result (scope.new ≡ scope.old) }
 {
     let mut found = None;
@@ -94,7 +94,7 @@ fn unknown_in_act<'a>(
     sig: &Signature,
     scope: &mut Scope<'a>,
 ) -> Result<Option<&'a PName>, AllocError>
-    ensures first { IfOk result (λ n. option_copied n ≡ earliest spec.place (spec.unknown_in_act (plain_signature sig.now) scope.old (plain_elim act.now))) }
+    ensures first { IfOk result (λ n. option_copied n ≡ earliest spec.place (spec.unknown_in_act (plain_signature sig.now) scope.old (desugared_elim act.now))) }
     ensures kept { OnOk result (scope.new ≡ scope.old) }
 {
     match act {
@@ -111,9 +111,9 @@ fn unknown_in_expression<'a>(
     sig: &Signature,
     scope: &mut Scope<'a>,
 ) -> Result<Option<&'a PName>, AllocError>
-    ensures first { IfOk result (λ n. option_copied n ≡ earliest spec.place (spec.unknown_in_steps (plain_signature sig.now) scope.old (plain_expression expr.now).0
-        ++ spec.unknown_in_tuple (plain_signature sig.now) (scope.old ++ spec.bound_by_steps (plain_expression expr.now).0) (plain_expression expr.now).1)) }
-    ensures bound { OnOk result (scope.new ≡ scope.old ++ spec.bound_by_steps (plain_expression expr.now).0) }
+    ensures first { IfOk result (λ n. option_copied n ≡ earliest spec.place (spec.unknown_in_steps (plain_signature sig.now) scope.old (desugared_expression expr.now).0
+        ++ spec.unknown_in_tuple (plain_signature sig.now) (scope.old ++ spec.bound_by_steps (desugared_expression expr.now).0) (desugared_expression expr.now).1)) }
+    ensures bound { OnOk result (scope.new ≡ scope.old ++ spec.bound_by_steps (desugared_expression expr.now).0) }
 {
     let first = unknown_in_steps(expr.steps.as_slice(), sig, scope)?;
     let other = unknown_in_tuple(expr.result.as_slice(), sig, scope)?;
@@ -127,8 +127,8 @@ fn unknown_in_steps<'a>(
     sig: &Signature,
     scope: &mut Scope<'a>,
 ) -> Result<Option<&'a PName>, AllocError>
-    ensures first { IfOk result (λ n. option_copied n ≡ earliest spec.place (unknown_along (unknown_in_step (plain_signature sig.now)) bound_by_step scope.old (map plain_step steps.now))) }
-    ensures bound { OnOk result (scope.new ≡ scope.old ++ flat_map bound_by_step (map plain_step steps.now)) }
+    ensures first { IfOk result (λ n. option_copied n ≡ earliest spec.place (unknown_along (unknown_in_step (plain_signature sig.now)) bound_by_step scope.old (map desugared_step steps.now))) }
+    ensures bound { OnOk result (scope.new ≡ scope.old ++ flat_map bound_by_step (map desugared_step steps.now)) }
 {
     let mut found = None;
     for step in steps {
@@ -145,8 +145,8 @@ fn unknown_in_one_step<'a>(
     sig: &Signature,
     scope: &mut Scope<'a>,
 ) -> Result<Option<&'a PName>, AllocError>
-    ensures first { IfOk result (λ n. option_copied n ≡ earliest spec.place (unknown_in_step (plain_signature sig.now) scope.old (plain_step step.now))) }
-    ensures bound { OnOk result (scope.new ≡ scope.old ++ bound_by_step (plain_step step.now)) }
+    ensures first { IfOk result (λ n. option_copied n ≡ earliest spec.place (unknown_in_step (plain_signature sig.now) scope.old (desugared_step step.now))) }
+    ensures bound { OnOk result (scope.new ≡ scope.old ++ bound_by_step (desugared_step step.now)) }
 {
     let first = unknown_head(&step.head, sig, scope);
     let other = unknown_in_spine(step.spine.as_slice(), sig, scope)?;
@@ -160,7 +160,7 @@ fn unknown_in_tuple<'a>(
     sig: &Signature,
     scope: &mut Scope<'a>,
 ) -> Result<Option<&'a PName>, AllocError>
-    ensures first { IfOk result (λ n. option_copied n ≡ earliest spec.place (flat_map (unknown_in_marked (plain_signature sig.now) scope.old) (map plain_marked tuple.now))) }
+    ensures first { IfOk result (λ n. option_copied n ≡ earliest spec.place (flat_map (unknown_in_marked (plain_signature sig.now) scope.old) (map desugared_marked tuple.now))) }
     ensures kept { OnOk result (scope.new ≡ scope.old) }
 {
     let mut found = None;
@@ -177,7 +177,7 @@ fn unknown_in_tuple_entry<'a>(
     sig: &Signature,
     scope: &mut Scope<'a>,
 ) -> Result<Option<&'a PName>, AllocError>
-    ensures first { IfOk result (λ n. option_copied n ≡ earliest spec.place (unknown_in_marked (plain_signature sig.now) scope.old (plain_marked entry.now))) }
+    ensures first { IfOk result (λ n. option_copied n ≡ earliest spec.place (unknown_in_marked (plain_signature sig.now) scope.old (desugared_marked entry.now))) }
     ensures kept { OnOk result (scope.new ≡ scope.old) }
 {
     unknown_in_object(&entry.obj, sig, scope)
@@ -191,7 +191,7 @@ fn unknown_in_type<'a>(
     sig: &Signature,
     scope: &mut Scope<'a>,
 ) -> Result<Option<&'a PName>, AllocError>
-    ensures first { IfOk result (λ n. option_copied n ≡ earliest spec.place (spec.unknown_in_type (plain_signature sig.now) scope.old (plain_type ty.now))) }
+    ensures first { IfOk result (λ n. option_copied n ≡ earliest spec.place (spec.unknown_in_type (plain_signature sig.now) scope.old (desugared_type ty.now))) }
     ensures kept { OnOk result (scope.new ≡ scope.old) }
 {
     match &ty.form {
@@ -239,7 +239,7 @@ fn unknown_in_indices<'a>(
     sig: &Signature,
     scope: &mut Scope<'a>,
 ) -> Result<Option<&'a PName>, AllocError>
-    ensures first { IfOk result (λ n. option_copied n ≡ earliest spec.place (flat_map (spec.unknown_in_object (plain_signature sig.now) scope.old) (map plain_object indices.now))) }
+    ensures first { IfOk result (λ n. option_copied n ≡ earliest spec.place (flat_map (spec.unknown_in_object (plain_signature sig.now) scope.old) (map desugared_object indices.now))) }
     ensures kept { OnOk result (scope.new ≡ scope.old) }
 {
     let mut found = None;
@@ -256,7 +256,7 @@ fn unknown_in_telescope<'a>(
     sig: &Signature,
     scope: &mut Scope<'a>,
 ) -> Result<Option<&'a PName>, AllocError>
-    ensures first { IfOk result (λ n. option_copied n ≡ earliest spec.place (spec.unknown_in_telescope (plain_signature sig.now) scope.old (plain_telescope tele.now))) }
+    ensures first { IfOk result (λ n. option_copied n ≡ earliest spec.place (spec.unknown_in_telescope (plain_signature sig.now) scope.old (desugared_telescope tele.now))) }
     ensures kept { OnOk result (scope.new ≡ scope.old) }
 {
     let outer = scope.len();
@@ -272,8 +272,8 @@ fn unknown_in_entries<'a>(
     sig: &Signature,
     scope: &mut Scope<'a>,
 ) -> Result<Option<&'a PName>, AllocError>
-    ensures first { IfOk result (λ n. option_copied n ≡ earliest spec.place (unknown_along (unknown_in_entry (plain_signature sig.now)) bound_by_entry scope.old (map plain_entry entries.now))) }
-    ensures bound { OnOk result (scope.new ≡ scope.old ++ flat_map bound_by_entry (map plain_entry entries.now)) }
+    ensures first { IfOk result (λ n. option_copied n ≡ earliest spec.place (unknown_along (unknown_in_entry (plain_signature sig.now)) bound_by_entry scope.old (map desugared_entry entries.now))) }
+    ensures bound { OnOk result (scope.new ≡ scope.old ++ flat_map bound_by_entry (map desugared_entry entries.now)) }
 {
     let mut found = None;
     for entry in entries {
@@ -290,8 +290,8 @@ fn unknown_in_one_entry<'a>(
     sig: &Signature,
     scope: &mut Scope<'a>,
 ) -> Result<Option<&'a PName>, AllocError>
-    ensures first { IfOk result (λ n. option_copied n ≡ earliest spec.place (unknown_in_entry (plain_signature sig.now) scope.old (plain_entry entry.now))) }
-    ensures bound { OnOk result (scope.new ≡ scope.old ++ bound_by_entry (plain_entry entry.now)) }
+    ensures first { IfOk result (λ n. option_copied n ≡ earliest spec.place (unknown_in_entry (plain_signature sig.now) scope.old (desugared_entry entry.now))) }
+    ensures bound { OnOk result (scope.new ≡ scope.old ++ bound_by_entry (desugared_entry entry.now)) }
 {
     let found = unknown_in_type(&entry.ty, sig, scope)?;
     scope.bind(&entry.name)?;
@@ -304,7 +304,7 @@ pub fn first_unknown<'a>(
     sig: &Signature,
     item: &'a Plain,
 ) -> Result<Option<&'a PName>, AllocError>
-    ensures { IfOk result (λ n. option_copied n ≡ spec.first_unknown (plain_signature sig.now) (plain_item item.now)) }
+    ensures { IfOk result (λ n. option_copied n ≡ spec.first_unknown (plain_signature sig.now) (desugared_item item.now)) }
 {
     let mut scope = Scope::new(alloc);
     match &item.body {
@@ -337,8 +337,8 @@ fn unknown_in_equation<'a>(
     sig: &Signature,
     scope: &mut Scope<'a>,
 ) -> Result<Option<&'a PName>, AllocError>
-    ensures { IfOk result (λ n. option_copied n ≡ earliest spec.place (spec.unknown_in_object (plain_signature sig.now) scope.old (plain_object left.now)
-        ++ (spec.unknown_in_object (plain_signature sig.now) scope.old (plain_object right.now) ++ spec.unknown_in_type (plain_signature sig.now) scope.old (plain_type ty.now)))) }
+    ensures { IfOk result (λ n. option_copied n ≡ earliest spec.place (spec.unknown_in_object (plain_signature sig.now) scope.old (desugared_object left.now)
+        ++ (spec.unknown_in_object (plain_signature sig.now) scope.old (desugared_object right.now) ++ spec.unknown_in_type (plain_signature sig.now) scope.old (desugared_type ty.now)))) }
 {
     let first = unknown_in_object(left, sig, scope)?;
     let other = unknown_in_check(right, ty, sig, scope)?;
@@ -353,7 +353,7 @@ fn unknown_in_check<'a>(
     sig: &Signature,
     scope: &mut Scope<'a>,
 ) -> Result<Option<&'a PName>, AllocError>
-    ensures { IfOk result (λ n. option_copied n ≡ earliest spec.place (spec.unknown_in_object (plain_signature sig.now) scope.old (plain_object obj.now) ++ spec.unknown_in_type (plain_signature sig.now) scope.old (plain_type ty.now))) }
+    ensures { IfOk result (λ n. option_copied n ≡ earliest spec.place (spec.unknown_in_object (plain_signature sig.now) scope.old (desugared_object obj.now) ++ spec.unknown_in_type (plain_signature sig.now) scope.old (desugared_type ty.now))) }
 {
     let first = unknown_in_object(obj, sig, scope)?;
     let other = unknown_in_type(ty, sig, scope)?;

@@ -4,7 +4,7 @@ use Rattle.celf_lexer.specs.declared.token.TokenKind.TheVariants as token
 use Rattle.celf_lexer.specs.Tokens.{Lexeme}
 use Rattle.celf_surface.specs.declared.surface.Bound.{Bound as BoundTree}
 use Rattle.celf_surface.specs.declared.surface.SMode.{SMode}
-use Rattle.celf_surface.specs.Surface.{Pattern as PatternTree, Object as ObjectTree, Steps, Tuple as TupleTree, Surface, PlainItem, Body as BodyTree}
+use Rattle.celf_surface.specs.Surface.{WrittenPattern as PatternTree, WrittenObject as ObjectTree, WrittenSteps, WrittenTuple as TupleTree, WrittenType, WrittenItem, WrittenBody as BodyTree}
 use Rattle.celf_grammar.specs.State.{State}
 use Rattle.celf_grammar.specs.Grammar.{IsMark, mark_persistent, mark_affine, mark_none, IsBinder, binder_named, binder_hole, IsPattern, pat_one, pat_entry, pat_list, IsPatterns, pats_first, pats_more, IsObject, obj_lambda, obj_app, IsApplication, app_all, IsArguments, args_none, args_more, IsAtom, atom_name, atom_constant, atom_hole, atom_unit, atom_pair, atom_braces, atom_group, atom_first, atom_second, IsExpression, expr_all, IsSteps, steps_none, steps_more, IsStep, step_let, IsTuple, tup_one, tup_list, tup_persistent, tup_affine, tup_bare, IsTuples, tups_first, tups_more, IsIndex, index_bare, index_banged, IsIndices, indices_none, indices_more, IsFamilyName, family_name, family_constant, IsType, type_all, IsBackward, back_first, back_more, IsForward, forward_pi, forward_alone, forward_arrow, IsSync, sync_exists, sync_alone, sync_product, IsFactor, factor_persistent, factor_affine, factor_bare, IsWith, with_alone, with_pair, IsTypeAtom, atomty_word, atomty_family, atomty_top, atomty_one, atomty_braces, atomty_group, IsBound, bound_number, bound_star, IsImplicit, implicit_count, implicit_none, IsBody, body_declare, body_query, body_trace, body_equal, body_check, IsItem, item_all}
 use Rattle.celf_grammar.specs.Machine.{Symbol, Binder, Pattern, PatternTail, Object, Application, Arguments, Atom, Expression, Tuple, TupleTail, Index, Indices, FamilyName, Whole, BackTail, Forward, ForwardTail, Sync, StarTail, Factor, With, AmpTail, TypeAtom, Bound, Implicit, Body, Item, next, feed, runs}
@@ -57,7 +57,7 @@ mutual
   atom-accepts (atom_first h o c) k = atom-first h k ∙ atom-accepts o _ ∙ restore-run c k
   atom-accepts (atom_second h o c) k = atom-second h k ∙ atom-accepts o _ ∙ restore-run c k
 
-  pub expression-accepts : {s u : State} {ss : Steps} {t : TupleTree} → IsExpression s ss t u → (k : List Symbol) → runs (Expression ∷ k) s ≡ runs k u
+  pub expression-accepts : {s u : State} {ss : WrittenSteps} {t : TupleTree} → IsExpression s ss t u → (k : List Symbol) → runs (Expression ∷ k) s ≡ runs k u
   expression-accepts (expr_all {u = u} xs e t) k = steps-accept xs k ∙ expression-tuple u k e ∙ tuple-accepts t k
 
   pub steps-accept : {s u : State} {xs : List (PatternTree × ObjectTree)} → IsSteps s xs u → (k : List Symbol) → runs (Expression ∷ k) s ≡ runs (Expression ∷ k) u
@@ -91,33 +91,33 @@ family-accepts (family_name h) k = family-name h k
 family-accepts (family_constant h) k = family-constant h k
 
 mutual
-  pub type-accepts : {s u : State} {a : Surface} → IsType s a u → (k : List Symbol) → runs (Whole ∷ k) s ≡ runs k u
+  pub type-accepts : {s u : State} {a : WrittenType} → IsType s a u → (k : List Symbol) → runs (Whole ∷ k) s ≡ runs k u
   type-accepts {s} {u} (type_all b e) k = type-forward s k ∙ backward-accepts b k ∙ back-ends u k e
 
-  pub backward-accepts : {s u : State} {a : Surface} → IsBackward s a u → (k : List Symbol) → runs (Forward ∷ BackTail ∷ k) s ≡ runs (BackTail ∷ k) u
+  pub backward-accepts : {s u : State} {a : WrittenType} → IsBackward s a u → (k : List Symbol) → runs (Forward ∷ BackTail ∷ k) s ≡ runs (BackTail ∷ k) u
   backward-accepts (back_first f) k = forward-accepts f (BackTail ∷ k)
   backward-accepts (back_more b o f) k = backward-accepts b k ∙ back-more o k ∙ forward-accepts f (BackTail ∷ k)
 
-  pub forward-accepts : {s u : State} {a : Surface} → IsForward s a u → (k : List Symbol) → runs (Forward ∷ k) s ≡ runs k u
+  pub forward-accepts : {s u : State} {a : WrittenType} → IsForward s a u → (k : List Symbol) → runs (Forward ∷ k) s ≡ runs k u
   forward-accepts (forward_pi h n c x d y) k = forward-pi h k ∙ name-run n _ ∙ expect-run c _ ∙ type-accepts x _ ∙ expect-run d _ ∙ type-accepts y k
   forward-accepts {s} {u} (forward_alone x e) k = forward-sync s k (sync-no_pi x) ∙ sync-accepts x (ForwardTail ∷ k) ∙ arrow-ends u k e
   forward-accepts {s} (forward_arrow x o f) k = forward-sync s k (sync-no_pi x) ∙ sync-accepts x (ForwardTail ∷ k) ∙ arrow-more o k ∙ forward-accepts f k
 
-  pub sync-accepts : {s u : State} {a : Surface} → IsSync s a u → (k : List Symbol) → runs (Sync ∷ k) s ≡ runs k u
+  pub sync-accepts : {s u : State} {a : WrittenType} → IsSync s a u → (k : List Symbol) → runs (Sync ∷ k) s ≡ runs k u
   sync-accepts (sync_exists h n c x d y) k = sync-exists h k ∙ name-run n _ ∙ expect-run c _ ∙ type-accepts x _ ∙ expect-run d _ ∙ sync-accepts y k
   sync-accepts {s} {u} (sync_alone f e) k = sync-factor s k (factor-no_exists f) ∙ factor-accepts f (StarTail ∷ k) ∙ star-ends u k e
   sync-accepts {s} (sync_product f h y) k = sync-factor s k (factor-no_exists f) ∙ factor-accepts f (StarTail ∷ k) ∙ star-more h k ∙ sync-accepts y k
 
-  pub factor-accepts : {s u : State} {a : Surface} → IsFactor s a u → (k : List Symbol) → runs (Factor ∷ k) s ≡ runs k u
+  pub factor-accepts : {s u : State} {a : WrittenType} → IsFactor s a u → (k : List Symbol) → runs (Factor ∷ k) s ≡ runs k u
   factor-accepts (factor_persistent h w) k = factor-persistent h k ∙ with-accepts w k
   factor-accepts (factor_affine h w) k = factor-affine h k ∙ with-accepts w k
   factor-accepts {s} (factor_bare w) k = factor-bare s k (with-no_mark w) ∙ with-accepts w k
 
-  pub with-accepts : {s u : State} {a : Surface} → IsWith s a u → (k : List Symbol) → runs (With ∷ k) s ≡ runs k u
+  pub with-accepts : {s u : State} {a : WrittenType} → IsWith s a u → (k : List Symbol) → runs (With ∷ k) s ≡ runs k u
   with-accepts {s} {u} (with_alone a e) k = with-atom s k ∙ type_atom-accepts a (AmpTail ∷ k) ∙ amp-ends u k e
   with-accepts {s} (with_pair a h w) k = with-atom s k ∙ type_atom-accepts a (AmpTail ∷ k) ∙ amp-more h k ∙ with-accepts w k
 
-  pub type_atom-accepts : {s u : State} {a : Surface} → IsTypeAtom s a u → (k : List Symbol) → runs (TypeAtom ∷ k) s ≡ runs k u
+  pub type_atom-accepts : {s u : State} {a : WrittenType} → IsTypeAtom s a u → (k : List Symbol) → runs (TypeAtom ∷ k) s ≡ runs k u
   type_atom-accepts (atomty_word h) k = type_atom-word h k
   type_atom-accepts {s} {u} (atomty_family f xs e) k = type_atom-family s k (family-begins f) ∙ family-accepts f _ ∙ indices-accept xs k ∙ indices-end u k e
   type_atom-accepts (atomty_top h) k = type_atom-top h k
@@ -140,7 +140,7 @@ body-accepts (body_trace h n t) k = body-trace h k ∙ bound-accepts n _ ∙ typ
 body-accepts (body_equal h l e r c t) k = body-equal h k ∙ object-accepts l _ ∙ expect-run e _ ∙ object-accepts r _ ∙ expect-run c _ ∙ type-accepts t k
 body-accepts (body_check h o c t) k = body-check h k ∙ object-accepts o _ ∙ expect-run c _ ∙ type-accepts t k
 
-pub item-accepts : {s u : State} {i : PlainItem} → IsItem s i u → (k : List Symbol) → runs (Item ∷ k) s ≡ runs k u
+pub item-accepts : {s u : State} {i : WrittenItem} → IsItem s i u → (k : List Symbol) → runs (Item ∷ k) s ≡ runs k u
 item-accepts {s} (item_all b d) k = item-body s k ∙ body-accepts b _ ∙ expect-run d k
 
 pub ruleset accepts_laws = (mark-run, binder-run, pattern-accepts, patterns-accept, object-accepts, application-accepts, arguments-accept, atom-accepts, expression-accepts, steps-accept, step-accepts, tuple-accepts, tuples-accept, index-accepts, indices-accept, family-accepts, type-accepts, backward-accepts, forward-accepts, sync-accepts, factor-accepts, with-accepts, type_atom-accepts, bound-accepts, implicit-accepts, body-accepts, item-accepts)

@@ -11,7 +11,7 @@ use Rattle.celf_surface.specs.declared.surface.Arrow.{Arrow}
 use Rattle.celf_surface.specs.declared.surface.Bound.{Bound as BoundTree}
 use Rattle.celf_surface.specs.declared.surface.SMode.{SMode}
 use Rattle.celf_surface.specs.declared.surface.SMode.TheVariants.{Bare}
-use Rattle.celf_surface.specs.Surface.{Pattern as PatternTree, Object as ObjectTree, Steps, steps_of, Tuple as TupleTree, Surface, PlainItem, Body as BodyTree}
+use Rattle.celf_surface.specs.Surface.{WrittenPattern as PatternTree, WrittenObject as ObjectTree, WrittenSteps, steps_of, WrittenTuple as TupleTree, WrittenType, WrittenItem, WrittenBody as BodyTree}
 use Rattle.celf_grammar.specs.State.{State, Ends, Takes, Opens, Closes, EndsPart, TakesToken, TakesName, TakesConstant, TakesWord, TakesOne, TakesNumber}
 use Rattle.celf_grammar.specs.Grammar.{is_comma, is_mark, is_let, is_left_bracket, is_amp, is_star, is_forward, is_backward, forward_of, backward_of, begins_argument, begins_index, OpensArrow, IsMark, mark_persistent, mark_affine, mark_none, IsBinder, binder_named, binder_hole, IsPattern, pat_one, pat_entry, pat_list, IsPatterns, pats_first, pats_more, IsObject, obj_lambda, obj_app, IsApplication, app_all, IsArguments, args_none, args_more, IsAtom, atom_name, atom_constant, atom_hole, atom_unit, atom_pair, atom_braces, atom_group, atom_first, atom_second, IsExpression, expr_all, IsSteps, steps_none, steps_more, step_let, IsTuple, tup_one, tup_list, tup_persistent, tup_affine, tup_bare, IsTuples, tups_first, tups_more, IsIndex, index_bare, index_banged, IsIndices, indices_none, indices_more, IsFamilyName, family_name, family_constant, IsType, type_all, IsBackward, back_first, back_more, IsForward, forward_pi, forward_alone, forward_arrow, IsSync, sync_exists, sync_alone, sync_product, IsFactor, factor_persistent, factor_affine, factor_bare, IsWith, with_alone, with_pair, IsTypeAtom, atomty_word, atomty_family, atomty_top, atomty_one, atomty_braces, atomty_group, IsBound, bound_number, bound_star, IsImplicit, implicit_count, implicit_none, IsBody, body_declare, body_query, body_trace, body_equal, body_check, IsItem, item_all}
 use Rattle.celf_grammar.specs.KindNumbers.{same_kind}
@@ -33,27 +33,27 @@ Reads Object s u = (o : ObjectTree) × IsObject s o u
 Reads Application s u = (o : ObjectTree) × IsApplication s o u
 Reads Arguments s u = ((r : State) (xs : List (SMode × ObjectTree)) → IsArguments r xs s → (ys : List (SMode × ObjectTree)) × IsArguments r ys u) × Ends begins_argument u
 Reads Atom s u = (o : ObjectTree) × IsAtom s o u
-Reads Expression s u = (r : State) (xs : List (PatternTree × ObjectTree)) → IsSteps r xs s → (ss : Steps) × (t : TupleTree) × IsExpression r ss t u
+Reads Expression s u = (r : State) (xs : List (PatternTree × ObjectTree)) → IsSteps r xs s → (ss : WrittenSteps) × (t : TupleTree) × IsExpression r ss t u
 Reads LetPattern s u = (p : PatternTree) × (a : State) × (b : State) × Opens token.LeftBrace s a × IsPattern a p b × Closes token.RightBrace s.room b u
 Reads Tuple s u = (t : TupleTree) × IsTuple s t u
 Reads TupleTail s u = ((r : State) (ts : List TupleTree) → IsTuples r ts s → (us : List TupleTree) × IsTuples r us u) × Ends is_comma u
 Reads Index s u = (o : ObjectTree) × IsIndex s o u
 Reads Indices s u = ((r : State) (xs : List ObjectTree) → IsIndices r xs s → (ys : List ObjectTree) × IsIndices r ys u) × Ends begins_index u
 Reads FamilyName s u = (n : List ℕ) × (d : Bool) × IsFamilyName s n d u
-Reads Whole s u = (a : Surface) × IsType s a u
-Reads BackTail s u = ((r : State) (a : Surface) → IsBackward r a s → (b : Surface) × IsBackward r b u) × Ends is_backward u
-Reads Forward s u = (a : Surface) × IsForward s a u
-Reads ForwardTail s u = (r : State) (a : Surface) → IsSync r a s → (b : Surface) × IsForward r b u
-Reads Sync s u = (a : Surface) × IsSync s a u
-Reads StarTail s u = (r : State) (a : Surface) → IsFactor r a s → (b : Surface) × IsSync r b u
-Reads Factor s u = (a : Surface) × IsFactor s a u
-Reads With s u = (a : Surface) × IsWith s a u
-Reads AmpTail s u = (r : State) (a : Surface) → IsTypeAtom r a s → (b : Surface) × IsWith r b u
-Reads TypeAtom s u = (a : Surface) × IsTypeAtom s a u
+Reads Whole s u = (a : WrittenType) × IsType s a u
+Reads BackTail s u = ((r : State) (a : WrittenType) → IsBackward r a s → (b : WrittenType) × IsBackward r b u) × Ends is_backward u
+Reads Forward s u = (a : WrittenType) × IsForward s a u
+Reads ForwardTail s u = (r : State) (a : WrittenType) → IsSync r a s → (b : WrittenType) × IsForward r b u
+Reads Sync s u = (a : WrittenType) × IsSync s a u
+Reads StarTail s u = (r : State) (a : WrittenType) → IsFactor r a s → (b : WrittenType) × IsSync r b u
+Reads Factor s u = (a : WrittenType) × IsFactor s a u
+Reads With s u = (a : WrittenType) × IsWith s a u
+Reads AmpTail s u = (r : State) (a : WrittenType) → IsTypeAtom r a s → (b : WrittenType) × IsWith r b u
+Reads TypeAtom s u = (a : WrittenType) × IsTypeAtom s a u
 Reads Bound s u = (b : BoundTree) × IsBound s b u
 Reads Implicit s u = (i : Option BoundTree) × IsImplicit s i u
 Reads Body s u = (b : BodyTree) × IsBody s b u
-Reads Item s u = (i : PlainItem) × IsItem s i u
+Reads Item s u = (i : WrittenItem) × IsItem s i u
 
 -- Symbols stand one behind another.
 abbrev Derives : List Symbol → State → State → Type 0
@@ -506,6 +506,6 @@ run-derives [] u k room end e = end-derives k room end u e
 run-derives (t ∷ ts) u k room end e = feed-leads t ts end u k room (run-leads t ts end u (λ j r d h. run-derives ts u j r d h) (feed k room t) e)
 
 -- What the machine reads as an item is one.
-pub item-derives : (s u : State) → runs (Item ∷ []) s ≡ accepted u → (i : PlainItem) × IsItem s i u
+pub item-derives : (s u : State) → runs (Item ∷ []) s ≡ accepted u → (i : WrittenItem) × IsItem s i u
 unfolding runs
 item-derives s u e = let d = run-derives s.rest u (Item ∷ []) s.room s.end e in (d.1.0, subst (λ v. IsItem s d.1.0 v) d.2 d.1.1)

@@ -4,7 +4,7 @@ use Rattle.celf_lexer.specs.declared.token.TokenKind.{TokenKind}
 use Rattle.celf_lexer.specs.declared.token.TokenKind.TheVariants as token
 use Rattle.celf_lexer.specs.Tokens.{Lexeme}
 use Rattle.celf_surface.specs.declared.surface.Bound.{Bound}
-use Rattle.celf_surface.specs.Surface.{PlainItem, Body}
+use Rattle.celf_surface.specs.Surface.{WrittenItem, WrittenBody}
 use Rattle.celf_grammar.specs.State.{State, next_kind, TakesDirective}
 use Rattle.celf_grammar.specs.Grammar.{is_left_bracket, IsBound, bound_number, bound_star, IsImplicit, implicit_count, implicit_none, IsBody, body_declare, body_query, body_trace, body_equal, body_check, IsItem, item_all}
 use Rattle.celf_grammar.specs.Faults.{TreeIsOne, BehindIsOne}
@@ -48,21 +48,21 @@ letter_at (t ∷ ts) = letter_in t.kind t.spelling
 directive-letter : {w : List ℕ} {s u : State} → TakesDirective w s u → letter_at s.rest ≡ letter_in token.Directive w
 directive-letter h = ap letter_at h.taken.first ∙ ap (λ c. letter_in c h.token.spelling) h.kind ∙ ap (letter_in token.Directive) h.spelled
 
-abbrev body_form : {s u : State} {b : Body} → IsBody s b u → ℕ
+abbrev body_form : {s u : State} {b : WrittenBody} → IsBody s b u → ℕ
 body_form (body_declare n c i t) = 0
 body_form (body_query h w x y z t) = letter_in token.Directive (codes "#query")
 body_form (body_trace h n t) = letter_in token.Directive (codes "#trace")
 body_form (body_equal h l e r c t) = letter_in token.Directive (codes "#equal")
 body_form (body_check h o c t) = letter_in token.Directive (codes "#check")
 
-body-form : {s u : State} {b : Body} (d : IsBody s b u) → letter_at s.rest ≡ body_form d
+body-form : {s u : State} {b : WrittenBody} (d : IsBody s b u) → letter_at s.rest ≡ body_form d
 body-form (body_declare n c i t) = ap letter_at n.taken.first ∙ ap (λ c. letter_in c n.token.spelling) n.kind
 body-form (body_query h w x y z t) = directive-letter h
 body-form (body_trace h n t) = directive-letter h
 body-form (body_equal h l e r c t) = directive-letter h
 body-form (body_check h o c t) = directive-letter h
 
-body-same : {s r u v : State} {b c : Body} → IsBody s b u → IsBody r c v → s ≡ r → Same b u c v
+body-same : {s r u v : State} {b c : WrittenBody} → IsBody s b u → IsBody r c v → s ≡ r → Same b u c v
 body-same (body_declare n c i t) (body_declare m d j w) e =
     let a = name-same n m e in let b = implicit-same i j (takes-same c d a.1) in let x = type-same t w b.1 in (cc, x.1)
 body-same (body_query h w x y z t) (body_query g k l m n f) e =
@@ -75,7 +75,7 @@ body-same (body_check h o c t) (body_check g p d w) e =
     let a = object-same o p (word-same h g e).1 in let b = type-same t w (takes-same c d a.1) in (cc, b.1)
 body-same d g e = absurd (apart refl (sym (body-form d) ∙ ap (λ (x : State). letter_at x.rest) e ∙ body-form g))
 
-item-same : {s r u v : State} {i j : PlainItem} → IsItem s i u → IsItem r j v → s ≡ r → Same i u j v
+item-same : {s r u v : State} {i j : WrittenItem} → IsItem s i u → IsItem r j v → s ≡ r → Same i u j v
 item-same (item_all b d) (item_all c g) e = let i = body-same b c e in let j = takes-same d g i.1 in (cc, j)
 
 pub tree-one : TreeIsOne

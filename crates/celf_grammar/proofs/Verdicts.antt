@@ -6,7 +6,7 @@ use Rattle.std.proofs.lemmas.List.{append_assoc, append-nil}
 use Rattle.celf_lexer.specs.declared.token.TokenKind.{TokenKind}
 use Rattle.celf_lexer.specs.declared.token.TokenKind.TheVariants as token
 use Rattle.celf_lexer.specs.Tokens.{Lexeme}
-use Rattle.celf_surface.specs.Surface.{PlainItem}
+use Rattle.celf_surface.specs.Surface.{WrittenItem}
 use Rattle.celf_grammar.specs.State.{State}
 use Rattle.celf_grammar.specs.Grammar.{is_let, IsItem}
 use Rattle.celf_grammar.specs.Machine.{Symbol, Item, stops, deep, feed, Verdict, accepted, unexpected, too_deep, lacking, at_end, after_token, runs_on, runs}
@@ -19,7 +19,7 @@ use Rattle.celf_grammar.proofs.Passes.{Passes, passes-run, passes-lift, passes-p
 use Rattle.celf_grammar.proofs.Finishes.{finish, well, well_or_let, Sound, feed-sound, finished, finished-within, at}
 
 -- Where an item stands, the machine accepts it, with what is left behind it.
-pub item-accepted : (s u : State) (i : PlainItem) → IsItem s i u → runs (Item ∷ []) s ≡ accepted u
+pub item-accepted : (s u : State) (i : WrittenItem) → IsItem s i u → runs (Item ∷ []) s ≡ accepted u
 item-accepted s u i h = item-accepts h [] ∙ runs-empty u
 
 state_accepted : (v : Verdict) → is_accepted v ≡ true → (u : State) × (v ≡ accepted u)
@@ -229,7 +229,7 @@ not-both room a x c y h g (inl p) = h.ends (suc room) (subst (λ t. BeginsItem (
 not-both room a x c y h g (inr (inl p)) = h.ends (suc room) (begins-part (suc room) c a x p.0 p.1 (begins-before (suc room) c y g.goes_on))
 not-both room a x c y h g (inr (inr p)) = g.ends (h.within c p.0 y p.1 g.opening)
 
-item-there : (s u : State) (i : PlainItem) → IsItem s i u → HasItem s.room s.rest
+item-there : (s u : State) (i : WrittenItem) → IsItem s i u → HasItem s.room s.rest
 item-there s u i h = record { end = s.end; item = i; behind = u; is = h }
 
 one-verdict : (s : State) (v w : Verdict) → runs (Item ∷ []) s ≡ v → Says s v → Says s w → v ≡ w

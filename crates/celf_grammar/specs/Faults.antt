@@ -3,7 +3,7 @@ use Rattle.std.specs.Prelude.{ℕ, suc, ◌≡◌, Bool, true, false, List, [], 
 use Rattle.celf_lexer.specs.declared.token.TokenKind.{TokenKind}
 use Rattle.celf_lexer.specs.declared.token.TokenKind.TheVariants as token
 use Rattle.celf_lexer.specs.Tokens.{Lexeme}
-use Rattle.celf_surface.specs.Surface.{PlainItem}
+use Rattle.celf_surface.specs.Surface.{WrittenItem}
 use Rattle.celf_grammar.specs.State.{State}
 use Rattle.celf_grammar.specs.Grammar.{IsItem}
 use Rattle.celf_grammar.specs.Machine.{Item, Verdict, accepted, unexpected, too_deep, lacking, runs}
@@ -11,7 +11,7 @@ use Rattle.celf_grammar.specs.Machine.{Item, Verdict, accepted, unexpected, too_
 -- The tokens begin with an item that opens no more than so many parts.
 pub record HasItem (room : ℕ) (ts : List Lexeme) : Type 0 where
   pub end : ℕ
-  pub item : PlainItem
+  pub item : WrittenItem
   pub behind : State
   pub is : IsItem (record { rest = ts; room = room; end = end }) item behind
 
@@ -63,7 +63,7 @@ pub record IsLacking (room : ℕ) (ts : List Lexeme) : Type 0 where
 
 -- what a verdict says of the tokens from a state on
 abbrev pub Says : State → Verdict → Type 0
-Says s (accepted u) = (i : PlainItem) × IsItem s i u
+Says s (accepted u) = (i : WrittenItem) × IsItem s i u
 Says s (unexpected t) = (ts others : List Lexeme) × (s.rest ≡ ts ++ (t ∷ others)) × IsUnexpected s.room ts t
 Says s (too_deep t) = (ts others : List Lexeme) × (s.rest ≡ ts ++ (t ∷ others)) × IsTooDeep s.room ts t
 Says s lacking = IsLacking s.room s.rest
@@ -78,8 +78,8 @@ VerdictIsOnly = (s : State) (v : Verdict) → Says s v → runs (Item ∷ []) s 
 
 -- An item has one tree.
 abbrev pub TreeIsOne : Type 0
-TreeIsOne = (s u v : State) (i j : PlainItem) → IsItem s i u → IsItem s j v → i ≡ j
+TreeIsOne = (s u v : State) (i j : WrittenItem) → IsItem s i u → IsItem s j v → i ≡ j
 
 -- What is left behind an item is determined.
 abbrev pub BehindIsOne : Type 0
-BehindIsOne = (s u v : State) (i j : PlainItem) → IsItem s i u → IsItem s j v → u ≡ v
+BehindIsOne = (s u v : State) (i j : WrittenItem) → IsItem s i u → IsItem s j v → u ≡ v

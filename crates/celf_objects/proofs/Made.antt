@@ -7,10 +7,10 @@ use Rattle.celf_surface.specs.declared.surface.SObjForm.{App}
 use Rattle.celf_surface.specs.declared.surface.SStep.{SStep}
 use Rattle.celf_surface.specs.declared.surface.STuple.{STuple}
 use Rattle.celf_surface.specs.declared.surface.SExpr.{roll-SExpr, fold-roll-SExpr}
-use Rattle.celf_surface.specs.Surface.{Object, app, arguments_of, steps_of, object_tree, form_tree, argument_tree, expression_tree, step_tree, tuple_tree, on_form, on_tuple, on_argument, on_expression, on_object, on_step, form-App}
+use Rattle.celf_surface.specs.Surface.{WrittenObject, app, arguments_of, steps_of, object_tree, form_tree, argument_tree, expression_tree, step_tree, tuple_tree, on_form, on_tuple, on_argument, on_expression, on_object, on_step, form-App}
 use Rattle.celf_grammar.specs.Grammar.{applied}
 
-pub applied-made : (x : Object) (h g : SObj) (xs : List SArg) (s : Span)
+pub applied-made : (x : WrittenObject) (h g : SObj) (xs : List SArg) (s : Span)
     → x ≡ form_tree (App g xs) s → g ≡ h → (xs ≡ [] → ⊥) → x ≡ applied s (object_tree h) (map argument_tree xs)
 applied-made x h g [] s e f k = absurd (k refl)
 applied-made x h g (a ∷ xs) s e f k = e ∙ form-App g (a ∷ xs) s ∙ ap (λ (o : SObj). app s (object_tree o) (arguments_of (map argument_tree (a ∷ xs)))) f

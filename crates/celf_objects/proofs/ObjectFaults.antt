@@ -3,7 +3,7 @@ use Rattle.std.proofs.Common.{◌≡◌, ◌∙◌, inl, inr, ℕ, List, ◌∷�
 use Rattle.celf_lexer.specs.declared.token.TokenKind.{TokenKind}
 use Rattle.celf_lexer.specs.declared.token.TokenKind.TheVariants as token
 use Rattle.celf_surface.specs.declared.surface.SMode.{SMode}
-use Rattle.celf_surface.specs.Surface.{Pattern as PatternTree, Object as ObjectTree, Tuple as TupleTree}
+use Rattle.celf_surface.specs.Surface.{WrittenPattern as PatternTree, WrittenObject as ObjectTree, WrittenTuple as TupleTree}
 use Rattle.celf_grammar.specs.State.{State, next_kind, Ends, Takes, Opens, Closes}
 use Rattle.celf_grammar.specs.Grammar.{IsMark, IsBinder, IsPattern, IsObject, IsApplication, IsArguments, IsAtom, IsExpression, IsSteps, IsTuples, IsIndices, is_comma, is_let, is_left_bracket, is_mark, begins_atom, begins_argument, begins_index}
 use Rattle.celf_grammar.specs.Machine.{Symbol, Expect, Close, Mark, Binder, Pattern, Object, Application, Arguments, Atom, Expression, LetPattern, Tuple, TupleTail, Index, Indices}

@@ -3,7 +3,7 @@ use Rattle.std.proofs.Common.{◌≡◌, ◌∙◌, ℕ, List, ◌∷◌, false,
 use Rattle.celf_lexer.specs.declared.token.TokenKind.{TokenKind}
 use Rattle.celf_lexer.specs.declared.token.TokenKind.TheVariants as token
 use Rattle.celf_surface.specs.declared.surface.SMode.{SMode}
-use Rattle.celf_surface.specs.Surface.{Pattern as PatternTree}
+use Rattle.celf_surface.specs.Surface.{WrittenPattern as PatternTree}
 use Rattle.celf_grammar.specs.State.{State, next_kind, Ends, Takes, Opens}
 use Rattle.celf_grammar.specs.Grammar.{IsMark, mark_none, IsPatterns, is_comma, is_left_bracket, is_mark, is_name_kind}
 use Rattle.celf_grammar.specs.Machine.{Symbol, Close, Mark, Binder, Pattern, PatternTail}

@@ -6,7 +6,7 @@ use Rattle.celf_lexer.specs.declared.token.LexFault.{LexFault}
 use Rattle.celf_lexer.specs.Tokens.{tokens_after, lexeme_of}
 use Rattle.celf_surface.specs.declared.surface.Bound.{Bound as BoundTree}
 use Rattle.celf_surface.specs.declared.surface.Span.{Span}
-use Rattle.celf_surface.specs.Surface.{Object as ObjectTree, Body as BodyTree}
+use Rattle.celf_surface.specs.Surface.{WrittenObject as ObjectTree, WrittenBody as BodyTree}
 use Rattle.celf_grammar.specs.State.{State, next_kind, TakesName, TakesDirective}
 use Rattle.celf_grammar.specs.Grammar.{IsObject, IsBound, IsImplicit, IsBody, body_declare, body_query, body_trace, body_equal, body_check}
 use Rattle.celf_grammar.specs.Machine.{Symbol, Expect, Object, Whole, Bound, Implicit, Body, Item}

@@ -2,7 +2,7 @@
 use Rattle.std.proofs.Common.{◌≡◌, ℕ, List, Bool, Option, refl, ◌∙◌}
 use Rattle.celf_lexer.specs.declared.token.TokenKind.TheVariants.{Number, Directive}
 use Rattle.celf_surface.specs.declared.surface.Bound.{Bound}
-use Rattle.celf_surface.specs.Surface.{Surface, Body}
+use Rattle.celf_surface.specs.Surface.{WrittenType, WrittenBody}
 use Rattle.celf_grammar.specs.State.{State, Takes, TakesNumber, TakesDirective}
 use Rattle.celf_grammar.specs.Grammar.{IsFamilyName, family_name, family_constant, IsType, type_all, IsBackward, back_first, back_more, IsForward, forward_pi, forward_alone, forward_arrow, IsSync, sync_exists, sync_alone, sync_product, IsFactor, factor_persistent, factor_affine, factor_bare, IsWith, with_alone, with_pair, IsTypeAtom, atomty_word, atomty_family, atomty_top, atomty_one, atomty_braces, atomty_group, IsBound, bound_number, bound_star, IsImplicit, implicit_count, implicit_none, IsBody, body_declare, body_query, body_trace, body_equal, body_check}
 use Rattle.celf_cursor.specs.Faults.{last_end}
@@ -20,33 +20,33 @@ family-end (family_name h) = name-end h
 family-end (family_constant h) = constant-end h
 
 mutual
-  pub type-end : {a : Surface} {s u : State} → IsType s a u → last_end s ≡ last_end u
+  pub type-end : {a : WrittenType} {s u : State} → IsType s a u → last_end s ≡ last_end u
   type-end (type_all b e) = backward-end b
 
-  pub backward-end : {a : Surface} {s u : State} → IsBackward s a u → last_end s ≡ last_end u
+  pub backward-end : {a : WrittenType} {s u : State} → IsBackward s a u → last_end s ≡ last_end u
   backward-end (back_first f) = forward-end f
   backward-end (back_more b o f) = backward-end b ∙ opens-end o.sign ∙ forward-end f
 
-  pub forward-end : {a : Surface} {s u : State} → IsForward s a u → last_end s ≡ last_end u
+  pub forward-end : {a : WrittenType} {s u : State} → IsForward s a u → last_end s ≡ last_end u
   forward-end (forward_pi o n c x d y) = opens-end o ∙ name-end n ∙ takes-end c ∙ type-end x ∙ takes-end d ∙ type-end y
   forward-end (forward_alone p e) = sync-end p
   forward-end (forward_arrow p o f) = sync-end p ∙ opens-end o.sign ∙ forward-end f
 
-  pub sync-end : {a : Surface} {s u : State} → IsSync s a u → last_end s ≡ last_end u
+  pub sync-end : {a : WrittenType} {s u : State} → IsSync s a u → last_end s ≡ last_end u
   sync-end (sync_exists o n c x d y) = opens-end o ∙ name-end n ∙ takes-end c ∙ type-end x ∙ takes-end d ∙ sync-end y
   sync-end (sync_alone f e) = factor-end f
   sync-end (sync_product f h p) = factor-end f ∙ takes-end h ∙ sync-end p
 
-  pub factor-end : {a : Surface} {s u : State} → IsFactor s a u → last_end s ≡ last_end u
+  pub factor-end : {a : WrittenType} {s u : State} → IsFactor s a u → last_end s ≡ last_end u
   factor-end (factor_persistent h w) = takes-end h ∙ with-end w
   factor-end (factor_affine h w) = takes-end h ∙ with-end w
   factor-end (factor_bare w) = with-end w
 
-  pub with-end : {a : Surface} {s u : State} → IsWith s a u → last_end s ≡ last_end u
+  pub with-end : {a : WrittenType} {s u : State} → IsWith s a u → last_end s ≡ last_end u
   with-end (with_alone a e) = type_atom-end a
   with-end (with_pair a o w) = type_atom-end a ∙ opens-end o ∙ with-end w
 
-  pub type_atom-end : {a : Surface} {s u : State} → IsTypeAtom s a u → last_end s ≡ last_end u
+  pub type_atom-end : {a : WrittenType} {s u : State} → IsTypeAtom s a u → last_end s ≡ last_end u
   type_atom-end (atomty_word h) = takes-end h
   type_atom-end (atomty_family n is e) = family-end n ∙ indices-end is
   type_atom-end (atomty_top h) = takes-end h
@@ -54,7 +54,7 @@ mutual
   type_atom-end (atomty_braces o x c) = opens-end o ∙ type-end x ∙ closes-end c
   type_atom-end (atomty_group o x c) = opens-end o ∙ type-end x ∙ closes-end c
 
-pub factors-end : {fs : List (State × Surface)} {s u : State} → IsFactors s fs u → last_end s ≡ last_end u
+pub factors-end : {fs : List (State × WrittenType)} {s u : State} → IsFactors s fs u → last_end s ≡ last_end u
 factors-end factors_none = refl
 factors-end (factors_more h f t) = factors-end h ∙ factor-end f ∙ takes-end t
 
@@ -66,7 +66,7 @@ pub implicit-end : {i : Option Bound} {s u : State} → IsImplicit s i u → las
 implicit-end (implicit_count h n c) = takes-end h ∙ number-end n ∙ takes-end c
 implicit-end (implicit_none e) = refl
 
-pub body-end : {b : Body} {s u : State} → IsBody s b u → last_end s ≡ last_end u
+pub body-end : {b : WrittenBody} {s u : State} → IsBody s b u → last_end s ≡ last_end u
 body-end (body_declare n c i t) = name-end n ∙ takes-end c ∙ implicit-end i ∙ type-end t
 body-end (body_query h w x y z t) = directive-end h ∙ bound-end w ∙ bound-end x ∙ bound-end y ∙ bound-end z ∙ type-end t
 body-end (body_trace h n t) = directive-end h ∙ bound-end n ∙ type-end t

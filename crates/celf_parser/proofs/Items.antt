@@ -8,7 +8,7 @@ use Rattle.celf_lexer.proofs.Tokens.{next_token-ok}
 use Rattle.celf_lexer.proofs.Starts.{next_token-start}
 use Rattle.celf_surface.specs.declared.surface.Span.{Span}
 use Rattle.celf_surface.specs.declared.surface.SObj.{SObj}
-use Rattle.celf_surface.specs.Surface.{Body, object_tree}
+use Rattle.celf_surface.specs.Surface.{WrittenBody, object_tree}
 use Rattle.celf_grammar.specs.State.{State, span_to, Takes}
 use Rattle.celf_grammar.specs.Grammar.{IsBody, IsItem, item_all, IsObject}
 use Rattle.celf_cursor.specs.declared.cursor.Cursor.{Cursor}
@@ -25,7 +25,7 @@ pub span-end : (text : List ℕ) (s : State) (c : Cursor) (p : Span) → p ≡ s
 unfolding state_of
 span-end text s c p e = ap (λ (q : Span). q.end) e
 
-pub item-read : (text : List ℕ) (s u : State) (c : Cursor) (b : Body) (p : Span)
+pub item-read : (text : List ℕ) (s u : State) (c : Cursor) (b : WrittenBody) (p : Span)
     → IsCursorOf text c → IsBody s b u → Takes Stop u (state_of text c) → p ≡ span_to s (state_of text c)
     → (at : ℕ) → s ≡ start_at text at → IsItemAt text at (record { span = p; body = b })
 unfolding state_of

@@ -3,7 +3,7 @@ use Rattle.std.proofs.Common.{◌≡◌, ◌∙◌, inl, inr, subst, ℕ, List, 
 use Rattle.celf_lexer.specs.declared.token.TokenKind.{TokenKind}
 use Rattle.celf_lexer.specs.declared.token.TokenKind.TheVariants as token
 use Rattle.celf_surface.specs.declared.surface.Arrow.{Arrow}
-use Rattle.celf_surface.specs.Surface.{Surface}
+use Rattle.celf_surface.specs.Surface.{WrittenType}
 use Rattle.celf_grammar.specs.State.{State, next_kind, Takes, Opens, TakesName}
 use Rattle.celf_grammar.specs.Grammar.{forward_of, backward_of, is_forward, is_backward, is_mark, OpensArrow, IsType, IsBackward, IsSync, IsTypeAtom}
 use Rattle.celf_grammar.specs.Machine.{Symbol, Expect, Close, NameWord, Whole, BackTail, Forward, ForwardTail, Sync, StarTail, Factor, With, AmpTail, TypeAtom, runs}
@@ -42,11 +42,11 @@ forward_opening-fault text c kind a k e h n b m =
 pub type_first-fault : {text : List ℕ} {s : State} {k : List Symbol} {e : Stop} → IsFaultOf text (Forward ∷ BackTail ∷ k) s e → IsFaultOf text (Whole ∷ k) s e
 type_first-fault {s = s} {k} f = fault-moved (type-forward s k) refl f
 
-pub type_sign-fault : {text : List ℕ} {s u : State} {a : Surface} {k : List Symbol} {e : Stop}
+pub type_sign-fault : {text : List ℕ} {s u : State} {a : WrittenType} {k : List Symbol} {e : Stop}
     → IsBackward s a u → IsFaultOf text (BackTail ∷ k) u e → IsFaultOf text (Whole ∷ k) s e
 type_sign-fault {s = s} {k = k} b f = fault-moved (type-forward s k ∙ backward-accepts b k) (backward-end b) f
 
-pub type_next-fault : {text : List ℕ} {s u v : State} {a : Surface} {r : Arrow} {k : List Symbol} {e : Stop}
+pub type_next-fault : {text : List ℕ} {s u v : State} {a : WrittenType} {r : Arrow} {k : List Symbol} {e : Stop}
     → IsBackward s a u → OpensArrow backward_of r u v → IsFaultOf text (Forward ∷ BackTail ∷ k) v e → IsFaultOf text (Whole ∷ k) s e
 type_next-fault {s = s} {k = k} b o f = fault-moved (type-forward s k ∙ backward-accepts b k ∙ back-more o k) (backward-end b ∙ opens-end o.sign) f
 
@@ -54,11 +54,11 @@ pub forward_first-fault : {text : List ℕ} {s : State} {k : List Symbol} {e : S
     → (next_kind s.rest ≡ token.KwPi → ⊥) → IsFaultOf text (Sync ∷ ForwardTail ∷ k) s e → IsFaultOf text (Forward ∷ k) s e
 forward_first-fault {s = s} {k} n f = fault-moved (forward-sync s k (no-pi (next_kind s.rest) n)) refl f
 
-pub forward_sign-fault : {text : List ℕ} {s u : State} {a : Surface} {k : List Symbol} {e : Stop}
+pub forward_sign-fault : {text : List ℕ} {s u : State} {a : WrittenType} {k : List Symbol} {e : Stop}
     → (next_kind s.rest ≡ token.KwPi → ⊥) → IsSync s a u → IsFaultOf text (ForwardTail ∷ k) u e → IsFaultOf text (Forward ∷ k) s e
 forward_sign-fault {s = s} {k = k} n d f = fault-moved (forward-sync s k (no-pi (next_kind s.rest) n) ∙ sync-accepts d (ForwardTail ∷ k)) (sync-end d) f
 
-pub forward_next-fault : {text : List ℕ} {s u v : State} {a : Surface} {r : Arrow} {k : List Symbol} {e : Stop}
+pub forward_next-fault : {text : List ℕ} {s u v : State} {a : WrittenType} {r : Arrow} {k : List Symbol} {e : Stop}
     → (next_kind s.rest ≡ token.KwPi → ⊥) → IsSync s a u → OpensArrow forward_of r u v → IsFaultOf text (Forward ∷ k) v e → IsFaultOf text (Forward ∷ k) s e
 forward_next-fault {s = s} {k = k} n d o f =
     fault-moved (forward-sync s k (no-pi (next_kind s.rest) n) ∙ sync-accepts d (ForwardTail ∷ k) ∙ arrow-more o k) (sync-end d ∙ opens-end o.sign) f
@@ -99,7 +99,7 @@ pub bound-fault : {text : List ℕ} {kind : TokenKind} {n : List ℕ} {j k : Lis
 bound-fault {k = k} o h f =
     fault-moved (o.goes_on h.inside h.opened ∙ name-run h.named (Expect token.Colon ∷ k) ∙ expect-run h.colon k) (opens-end h.opened ∙ name-end h.named ∙ takes-end h.colon) f
 
-pub typed-fault : {text : List ℕ} {a : Surface} {k : List Symbol} {s u : State} {e : Stop} → IsType s a u → IsFaultOf text k u e → IsFaultOf text (Whole ∷ k) s e
+pub typed-fault : {text : List ℕ} {a : WrittenType} {k : List Symbol} {s u : State} {e : Stop} → IsType s a u → IsFaultOf text k u e → IsFaultOf text (Whole ∷ k) s e
 typed-fault {k = k} d f = fault-moved (type-accepts d k) (type-end d) f
 
 pub stop-fault : {text : List ℕ} {kind : TokenKind} {k : List Symbol} {s u : State} {e : Stop} → Takes kind s u → IsFaultOf text k u e → IsFaultOf text (Expect kind ∷ k) s e
@@ -107,15 +107,15 @@ stop-fault {k = k} t f = fault-moved (expect-run t k) (takes-end t) f
 
 -- products
 
-factors-run : {fs : List (State × Surface)} {s u : State} → IsFactors s fs u → (k : List Symbol) → runs (Sync ∷ k) s ≡ runs (Sync ∷ k) u
+factors-run : {fs : List (State × WrittenType)} {s u : State} → IsFactors s fs u → (k : List Symbol) → runs (Sync ∷ k) s ≡ runs (Sync ∷ k) u
 factors-run factors_none k = refl
 factors-run (factors_more {u = u} h g f) k = factors-run h k ∙ sync-factor u k (factor-no_exists g) ∙ factor-accepts g (StarTail ∷ k) ∙ star-more f k
 
-pub product_last-fault : {text : List ℕ} {fs : List (State × Surface)} {k : List Symbol} {s u : State} {e : Stop}
+pub product_last-fault : {text : List ℕ} {fs : List (State × WrittenType)} {k : List Symbol} {s u : State} {e : Stop}
     → IsFactors s fs u → IsFaultOf text (Sync ∷ k) u e → IsFaultOf text (Sync ∷ k) s e
 product_last-fault {k = k} h f = fault-moved (factors-run h k) (factors-end h) f
 
-pub product_factor-fault : {text : List ℕ} {fs : List (State × Surface)} {k : List Symbol} {s u : State} {e : Stop}
+pub product_factor-fault : {text : List ℕ} {fs : List (State × WrittenType)} {k : List Symbol} {s u : State} {e : Stop}
     → IsFactors s fs u → (next_kind u.rest ≡ token.KwExists → ⊥) → IsFaultOf text (Factor ∷ StarTail ∷ k) u e → IsFaultOf text (Sync ∷ k) s e
 product_factor-fault {k = k} {u = u} h n f = fault-moved (factors-run h k ∙ sync-factor u k (no-exists (next_kind u.rest) n)) (factors-end h) f
 
@@ -136,13 +136,13 @@ marked-fault {u = u} o h f = fault-moved (o u h) (takes-end h) f
 pub with_first-fault : {text : List ℕ} {k : List Symbol} {s : State} {e : Stop} → IsFaultOf text (TypeAtom ∷ AmpTail ∷ k) s e → IsFaultOf text (With ∷ k) s e
 with_first-fault {k = k} {s} f = fault-moved (with-atom s k) refl f
 
-pub with_sign-fault : {text : List ℕ} {a : Surface} {k : List Symbol} {s : State} {c : Cursor} {e : Stop}
+pub with_sign-fault : {text : List ℕ} {a : WrittenType} {k : List Symbol} {s : State} {c : Cursor} {e : Stop}
     → IsTypeAtom s a (state_of text c) → IsCursorOf text c → kind_next text c ≡ token.Amp → MissesOpening text token.Amp c e → IsFaultOf text (With ∷ k) s e
 with_sign-fault {text} {k = k} {s} {c} {e} d h n m =
     fault-moved (with-atom s k ∙ type_atom-accepts d (AmpTail ∷ k)) (type_atom-end d)
     (opening-missed text c token.Amp (AmpTail ∷ k) e h n m (amp-deep (state_of text c) k n))
 
-pub with_next-fault : {text : List ℕ} {a : Surface} {k : List Symbol} {s u v : State} {e : Stop}
+pub with_next-fault : {text : List ℕ} {a : WrittenType} {k : List Symbol} {s u v : State} {e : Stop}
     → IsTypeAtom s a u → Opens token.Amp u v → IsFaultOf text (With ∷ k) v e → IsFaultOf text (With ∷ k) s e
 with_next-fault {k = k} {s} d o f = fault-moved (with-atom s k ∙ type_atom-accepts d (AmpTail ∷ k) ∙ amp-more o k) (type_atom-end d ∙ opens-end o) f
 

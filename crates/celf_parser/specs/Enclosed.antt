@@ -3,7 +3,7 @@ use Rattle.std.specs.Prelude.{ℕ, ◌≡◌, List}
 use Rattle.clf_syntax.specs.declared.tree.Mode.{Mode}
 use Rattle.celf_lexer.specs.declared.token.TokenKind.{TokenKind}
 use Rattle.celf_lexer.specs.declared.token.TokenKind.TheVariants.{Colon}
-use Rattle.celf_surface.specs.Surface.{Surface, marked}
+use Rattle.celf_surface.specs.Surface.{WrittenType, marked}
 use Rattle.celf_grammar.specs.State.{State, span_to, Opens, Closes, Takes, TakesName}
 use Rattle.celf_grammar.specs.Grammar.{IsType, IsWith}
 
@@ -16,7 +16,7 @@ pub record Binds (keyword : TokenKind) (s : State) (name : List ℕ) (u : State)
   pub colon : Takes Colon behind u
 
 -- A type between two brackets, which are a nested part.
-pub record Encloses (opening closing : TokenKind) (s : State) (a : Surface) (u : State) : Type 0 where
+pub record Encloses (opening closing : TokenKind) (s : State) (a : WrittenType) (u : State) : Type 0 where
   pub inside : State
   pub behind : State
   pub opened : Opens opening s inside
@@ -24,9 +24,9 @@ pub record Encloses (opening closing : TokenKind) (s : State) (a : Surface) (u :
   pub closed : Closes closing s.room behind u
 
 -- A pair or an atom behind a mark.
-pub record IsMarked (sign : TokenKind) (m : Mode) (s : State) (a : Surface) (u : State) : Type 0 where
+pub record IsMarked (sign : TokenKind) (m : Mode) (s : State) (a : WrittenType) (u : State) : Type 0 where
   pub behind : State
-  pub body : Surface
+  pub body : WrittenType
   pub taken : Takes sign s behind
   pub typed : IsWith behind body u
   pub is : a ≡ marked (span_to s u) m body

@@ -6,7 +6,7 @@ use Rattle.celf_lexer.specs.declared.token.Token.{Token}
 use Rattle.celf_lexer.specs.declared.token.LexFault.{LexFault}
 use Rattle.celf_lexer.specs.Tokens.{Lexeme, tokens_from, next_token, is_end}
 use Rattle.celf_surface.specs.declared.surface.Span.{Span}
-use Rattle.celf_surface.specs.Surface.{Body, declare, PlainItem}
+use Rattle.celf_surface.specs.Surface.{WrittenBody, declare, WrittenItem}
 use Rattle.celf_grammar.specs.State.{State}
 use Rattle.celf_grammar.specs.Grammar.{IsItem}
 use Rattle.celf_grammar.specs.Faults.{IsUnexpected, IsTooDeep, IsLacking}
@@ -22,13 +22,13 @@ abbrev pub start_at : List ℕ → ℕ → State
 start_at text at = record { rest = tokens_from text at; room = nesting; end = at }
 
 -- The item begins at the place, and behind its full stop the tokens of the text stand from its end on.
-pub record IsItemAt (text : List ℕ) (at : ℕ) (item : PlainItem) : Type 0 where
+pub record IsItemAt (text : List ℕ) (at : ℕ) (item : WrittenItem) : Type 0 where
   pub behind : State
   pub parsed : IsItem (start_at text at) item behind
   pub rest : behind.rest ≡ tokens_from text item.span.end
 
 -- A declared name is one that may be declared.
-abbrev pub HasDeclarableName : Body → Type 0
+abbrev pub HasDeclarableName : WrittenBody → Type 0
 HasDeclarableName (declare n i t) = IsTrue (is_declarable n)
 HasDeclarableName _ = Unit {0}
 

@@ -63,7 +63,7 @@ occurs-bare sig v additive_unit h = refl
 occurs-bare sig v (monad s) h = absurd h
 
 -- What is read over a bare signature is bare.
-pub read_type-bare : (sig : PlainSignature) (t : plain.PlainType) (a : PlainType) → IsBareSignature sig → read_type sig t ≡ Some a → IsBareType sig a
+pub read_type-bare : (sig : PlainSignature) (t : plain.DesugaredType) (a : PlainType) → IsBareSignature sig → read_type sig t ≡ Some a → IsBareType sig a
 read_type-bare sig (plain.family s n []) a h at =
     let found = option_map-some (λ k. family k []) (family_named sig n.name) a at in
     rw (← found.2) (family_named-family sig n.name found.0 h found.1, refl)
@@ -77,7 +77,7 @@ read_type-bare sig (plain.both s l r) a h at =
 read_type-bare sig (plain.top s) a h at = let a_is : additive_unit ≡ a = cc in rw (← a_is) tt
 read_type-bare sig (plain.monad s t) a h at = absurd (cc)
 
-pub read_class-bare : (sig : PlainSignature) (t : plain.Class) (c : PlainClass) → IsBareSignature sig → read_class sig t ≡ Some c → IsBareClass sig c
+pub read_class-bare : (sig : PlainSignature) (t : plain.DesugaredClass) (c : PlainClass) → IsBareSignature sig → read_class sig t ≡ Some c → IsBareClass sig c
 read_class-bare sig (plain.of_family plain.end) c h at = let c_is : family_of [] ≡ c = cc in rw (← c_is)
 read_class-bare sig (plain.of_family (plain.binding m n a t)) c h at = absurd (cc)
 read_class-bare sig (plain.of_constant t) c h at =
@@ -85,7 +85,7 @@ read_class-bare sig (plain.of_constant t) c h at =
     rw (← found.2) (read_type-bare sig t found.0 h found.1)
 
 -- and so is the entry that is read
-pub read_entry-bare : (sig : PlainSignature) (count : ℕ) (t : plain.Class) (e : PlainEntry) → IsBareSignature sig → read_entry sig count t ≡ Some e → IsBareEntry sig e
+pub read_entry-bare : (sig : PlainSignature) (count : ℕ) (t : plain.DesugaredClass) (e : PlainEntry) → IsBareSignature sig → read_entry sig count t ≡ Some e → IsBareEntry sig e
 read_entry-bare sig zero t e h at =
     let found = option_map-some fresh_entry (read_class sig t) e at in
     rw (← found.2) (read_class-bare sig t found.0 h found.1, refl)

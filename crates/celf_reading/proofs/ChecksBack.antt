@@ -4,12 +4,12 @@ use Rattle.celf_lexer.specs.declared.token.TokenKind.TheVariants as kind
 use Rattle.celf_lexer.specs.Tokens.{Lexeme, tokens_of}
 use Rattle.celf_lexer.proofs.Spelling.{AreTokens, tokens_of-tokens, tokens-blank, tokens-colon, tokens-stop, tokens-end}
 use Rattle.celf_surface.specs.declared.surface.Span.{Span}
-use Rattle.celf_surface.specs.Surface.{Surface, Object as Written, check}
+use Rattle.celf_surface.specs.Surface.{WrittenType, WrittenObject as Written, check}
 use Rattle.celf_grammar.specs.State.{span_to, Takes, TakesDirective}
 use Rattle.celf_grammar.specs.Grammar.{IsObject, IsType, body_check, IsItem, item_all}
 use Rattle.celf_sugar.specs.Sugar.{object, reading}
 use Rattle.clf_syntax.specs.Simple.{erase}
-use Rattle.clf_syntax.specs.Tree.{Object}
+use Rattle.clf_syntax.specs.Tree.{PlainObject}
 use Rattle.clf_syntax.specs.TypeTree.{PlainType}
 use Rattle.clf_sig.specs.Entry.{PlainSignature}
 use Rattle.clf_kernel.specs.Typing.{HasType}
@@ -35,13 +35,13 @@ colon-ends rest us tokens =
     rw (b.is, b.kind_is) refl
 
 -- What is written asks for the object and the type.
-asks : (sig : PlainSignature) (n : Object) (a : PlainType) (s : Span) (o : Written) (t : Surface) → Means sig [] (Some (erase a)) n o → IsPrinted sig a t
+asks : (sig : PlainSignature) (n : PlainObject) (a : PlainType) (s : Span) (o : Written) (t : WrittenType) → Means sig [] (Some (erase a)) n o → IsPrinted sig a t
     → Asks sig (record { span = s; body = check o t }) n a
 asks sig n a s o t p q =
     (rw (q.no_word false, q.no_product false, p.no_redex, q.no_redex) refl, object o, (reading t).as_type, refl, rw (q.means, p.means) refl)
 
 -- a check whose tokens stand one behind the other
-item-from : (n m l e f : ℕ) (d c s : Lexeme) (ds os cs us vs : List Lexeme) (ts : List Lexeme) (o : Written) (t : Surface)
+item-from : (n m l e f : ℕ) (d c s : Lexeme) (ds os cs us vs : List Lexeme) (ts : List Lexeme) (o : Written) (t : WrittenType)
     → ts ≡ d ∷ ds → d.kind ≡ kind.Directive → d.spelling ≡ codes "#check" → IsObject (state ds n (d.start + length d.spelling)) o (state os m e) → os ≡ c ∷ cs → c.kind ≡ kind.Colon
     → IsType (state cs m (c.start + length c.spelling)) t (state us l f) → us ≡ s ∷ vs → s.kind ≡ kind.Stop
     → IsItem (state ts n 0) (record { span = span_to (state ts n 0) (behind s vs l); body = check o t }) (behind s vs l)
@@ -53,7 +53,7 @@ item-from n m l e f d c s ds os cs us vs ts o t ts_is directive word parse os_is
     item_all (body_check taken_word parse taken_colon type) taken_stop
 
 -- the line of two texts that spell an object and a type
-line-reads : (sig : PlainSignature) (n : Object) (a : PlainType) (x y : List ℕ) → SpellsObject (Means sig [] (Some (erase a)) n) x → Spells sig whole a y
+line-reads : (sig : PlainSignature) (n : PlainObject) (a : PlainType) (x y : List ℕ) → SpellsObject (Means sig [] (Some (erase a)) n) x → Spells sig whole a y
     → ReadsCheck (codes "#check " ++ (x ++ codes " : " ++ y ++ codes ".\n")) sig n a
 line-reads sig n a x y p q =
     let line : List ℕ = codes "#check " ++ (x ++ codes " : " ++ y ++ codes ".\n") in
@@ -85,7 +85,7 @@ line-reads sig n a x y p q =
     )
 
 -- Over a bare signature the printed line of an object of a bare type reads back as both.
-pub checks_read_back : (sig : PlainSignature) (n : Object) (a : PlainType) → IsBareSignature sig → IsBareType sig a → scope_depth n < 2 ^ 64 → HasType sig [] [] n a → ChecksBack sig n a
+pub checks_read_back : (sig : PlainSignature) (n : PlainObject) (a : PlainType) → IsBareSignature sig → IsBareType sig a → scope_depth n < 2 ^ 64 → HasType sig [] [] n a → ChecksBack sig n a
 checks_read_back sig n a formed is_bare small p =
     line-reads sig n a (object_text sig (appearing [] n) 0 n) (type_text sig (appearing_type [] a) 0 whole a) (object_text-spells sig (appearing [] n) n a formed is_bare small p)
     (type_text-spells sig (appearing_type [] a) 0 whole a formed is_bare)

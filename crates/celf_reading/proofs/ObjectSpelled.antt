@@ -5,7 +5,7 @@ use Rattle.celf_lexer.specs.Tokens.{Lexeme}
 use Rattle.celf_lexer.proofs.Spelling.{AreTokens, ends_word, tokens-blank, tokens-stop, tokens-left_paren, tokens-right_paren, tokens-name, tokens-constant_name}
 use Rattle.celf_surface.specs.declared.surface.SMode.{SMode}
 use Rattle.celf_surface.specs.declared.surface.Span.{Span}
-use Rattle.celf_surface.specs.Surface.{Object, lam, named, unit, pair, first, second}
+use Rattle.celf_surface.specs.Surface.{WrittenObject, lam, named, unit, pair, first, second}
 use Rattle.celf_grammar.specs.State.{next_kind}
 use Rattle.celf_grammar.specs.Grammar.{begins_argument, applied}
 use Rattle.clf_syntax.specs.declared.tree.Mode.{Mode}
@@ -32,7 +32,7 @@ abbrev pub EndsObject : List ℕ → Type 0
 EndsObject rest = (us : List Lexeme) → AreTokens us rest → begins_argument (next_kind us) ≡ false
 
 -- The text spells an object, where no argument follows.
-abbrev pub SpellsObject : (Object → Type 0) → List ℕ → Type 0
+abbrev pub SpellsObject : (WrittenObject → Type 0) → List ℕ → Type 0
 SpellsObject P text = (rest : List ℕ) (ts : List Lexeme) → ends_word rest ≡ true → EndsObject rest → AreTokens ts (text ++ rest) → StandsFirst (ObjectStands P) ts rest
 
 paren-ends : (rest : List ℕ) → EndsObject (41 ∷ rest)
@@ -46,25 +46,25 @@ greater-ends rest us tokens = let b = tokens-greater rest us tokens in rw (b.is,
 
 -- ---- atoms
 
-pub spells-name : (P : Object → Type 0) (x : List ℕ) → IsTrue (is_declarable x) → ((s : Span) → P (named s x false)) → Spells (AtomStands P) x
+pub spells-name : (P : WrittenObject → Type 0) (x : List ℕ) → IsTrue (is_declarable x) → ((s : Span) → P (named s x false)) → Spells (AtomStands P) x
 spells-name P x fit has rest ts ends tokens =
     let found = tokens-name x rest ts fit ends tokens in
     let b = found.1 in
     let stands = name-stands P b.first b.others found.0 b.kind_is (rw b.spelled has) in
     record { others = b.others; rest_tokens = b.rest_tokens; stands = rw (← b.is) at stands }
 
-pub spells-constant : (P : Object → Type 0) (x : List ℕ) → IsTrue (is_declarable x) → ((s : Span) → P (named s x true)) → Spells (AtomStands P) (36 ∷ x)
+pub spells-constant : (P : WrittenObject → Type 0) (x : List ℕ) → IsTrue (is_declarable x) → ((s : Span) → P (named s x true)) → Spells (AtomStands P) (36 ∷ x)
 spells-constant P x fit has rest ts ends tokens =
     let b = tokens-constant_name x rest ts fit ends tokens in
     let stands = constant-stands P b.first b.others b.kind_is (rw b.spelled has) in
     record { others = b.others; rest_tokens = b.rest_tokens; stands = rw (← b.is) at stands }
 
-pub spells-unit : (P : Object → Type 0) → ((s : Span) → P (unit s)) → Spells (AtomStands P) (codes "<>")
+pub spells-unit : (P : WrittenObject → Type 0) → ((s : Span) → P (unit s)) → Spells (AtomStands P) (codes "<>")
 spells-unit P has rest ts ends tokens =
     let b = tokens-unit_sign rest ts tokens in
     record { others = b.others; rest_tokens = b.rest_tokens; stands = rw (← b.is) at (unit-stands P b.first b.others b.kind_is has) }
 
-spells-group : (P : Object → Type 0) (x : List ℕ) → SpellsObject P x → Spells (AtomStands P) (40 ∷ x ++ 41 ∷ [])
+spells-group : (P : WrittenObject → Type 0) (x : List ℕ) → SpellsObject P x → Spells (AtomStands P) (40 ∷ x ++ 41 ∷ [])
 spells-group P x s rest ts ends tokens =
     let l = tokens-left_paren (x ++ 41 ∷ rest) ts (rw (append_assoc x (41 ∷ []) rest) at tokens) in
     let inner = s (41 ∷ rest) l.others refl (paren-ends rest) l.rest_tokens in
@@ -75,8 +75,8 @@ spells-group P x s rest ts ends tokens =
       stands = rw (← l.is) at (group-stands P l.first r.first l.others r.others l.kind_is (rw r.is at inner.stands) r.kind_is);
     }
 
-pub spells-pair : (P Q R : Object → Type 0) (x y : List ℕ) → ((rest : List ℕ) → stays_less (x ++ 44 ∷ rest) ≡ true) → SpellsObject P x → SpellsObject Q y
-    → ((s : Span) (a b : Object) → P a → Q b → R (pair s a b)) → Spells (AtomStands R) (codes "<" ++ x ++ codes ", " ++ y ++ codes ">")
+pub spells-pair : (P Q R : WrittenObject → Type 0) (x y : List ℕ) → ((rest : List ℕ) → stays_less (x ++ 44 ∷ rest) ≡ true) → SpellsObject P x → SpellsObject Q y
+    → ((s : Span) (a b : WrittenObject) → P a → Q b → R (pair s a b)) → Spells (AtomStands R) (codes "<" ++ x ++ codes ", " ++ y ++ codes ">")
 spells-pair P Q R x y less p q has rest ts ends tokens =
     let texts : (x ++ codes ", " ++ y ++ codes ">") ++ rest ≡ x ++ (codes ", " ++ (y ++ (62 ∷ rest))) =
     append_assoc (x ++ codes ", " ++ y) (codes ">") rest ∙ (append_assoc (x ++ codes ", ") y (62 ∷ rest) ∙ append_assoc x (codes ", ") (y ++ 62 ∷ rest)) in
@@ -88,7 +88,7 @@ spells-pair P Q R x y less p q has rest ts ends tokens =
     let stands = pair-stands P Q R l.first c.first r.first l.others c.others r.others l.kind_is (rw c.is at left.stands) c.kind_is (rw r.is at right.stands) r.kind_is has in
     record { others = r.others; rest_tokens = r.rest_tokens; stands = rw (← l.is) at stands }
 
-pub spells-first : (P Q : Object → Type 0) (x : List ℕ) → Spells (AtomStands P) x → ((s : Span) (a : Object) → P a → Q (first s a)) → Spells (AtomStands Q) (codes "#1 " ++ x)
+pub spells-first : (P Q : WrittenObject → Type 0) (x : List ℕ) → Spells (AtomStands P) x → ((s : Span) (a : WrittenObject) → P a → Q (first s a)) → Spells (AtomStands Q) (codes "#1 " ++ x)
 spells-first P Q x s has rest ts ends tokens =
     let b = tokens-first (x ++ rest) ts tokens in
     let inner = s rest b.others ends (tokens-blank 32 (x ++ rest) b.others refl b.rest_tokens) in
@@ -98,7 +98,7 @@ spells-first P Q x s has rest ts ends tokens =
       stands = rw (← b.is) at (first-stands P Q b.first b.others inner.others b.kind_is inner.stands has);
     }
 
-pub spells-second : (P Q : Object → Type 0) (x : List ℕ) → Spells (AtomStands P) x → ((s : Span) (a : Object) → P a → Q (second s a)) → Spells (AtomStands Q) (codes "#2 " ++ x)
+pub spells-second : (P Q : WrittenObject → Type 0) (x : List ℕ) → Spells (AtomStands P) x → ((s : Span) (a : WrittenObject) → P a → Q (second s a)) → Spells (AtomStands Q) (codes "#2 " ++ x)
 spells-second P Q x s has rest ts ends tokens =
     let b = tokens-second (x ++ rest) ts tokens in
     let inner = s rest b.others ends (tokens-blank 32 (x ++ rest) b.others refl b.rest_tokens) in
@@ -108,25 +108,25 @@ spells-second P Q x s has rest ts ends tokens =
       stands = rw (← b.is) at (second-stands P Q b.first b.others inner.others b.kind_is inner.stands has);
     }
 
-spells-has : (P R : Object → Type 0) (x : List ℕ) → Spells (AtomStands P) x → ((a : Object) → P a → R a) → Spells (AtomStands R) x
+spells-has : (P R : WrittenObject → Type 0) (x : List ℕ) → Spells (AtomStands P) x → ((a : WrittenObject) → P a → R a) → Spells (AtomStands R) x
 spells-has P R x s has rest ts ends tokens =
     let f = s rest ts ends tokens in
     record { others = f.others; rest_tokens = f.rest_tokens; stands = atom-has P R ts f.others f.stands has }
 
 -- ---- applications
 
-spells-alone : (P : Object → Type 0) (Q : Object → List (SMode × Object) → Type 0) (x : List ℕ) → Spells (AtomStands P) x → ((a : Object) → P a → Q a []) → Spells (ChainStands Q) x
+spells-alone : (P : WrittenObject → Type 0) (Q : WrittenObject → List (SMode × WrittenObject) → Type 0) (x : List ℕ) → Spells (AtomStands P) x → ((a : WrittenObject) → P a → Q a []) → Spells (ChainStands Q) x
 spells-alone P Q x s has rest ts ends tokens =
     let f = s rest ts ends tokens in
     record { others = f.others; rest_tokens = f.rest_tokens; stands = chain-alone P Q ts f.others f.stands has }
 
 -- a mark and an atom
-record MarkedFirst (P : Object → Type 0) (mark : SMode) (ts : List Lexeme) (rest : List ℕ) : Type 0 where
+record MarkedFirst (P : WrittenObject → Type 0) (mark : SMode) (ts : List Lexeme) (rest : List ℕ) : Type 0 where
   middle : List Lexeme
   marked : MarkStands mark ts middle
   atom : StandsFirst (AtomStands P) middle rest
 
-marked-first : (P : Object → Type 0) (m : Mode) (x rest : List ℕ) (ts : List Lexeme) → Spells (AtomStands P) x → ends_word rest ≡ true → AreTokens ts (mark_text m ++ (x ++ rest))
+marked-first : (P : WrittenObject → Type 0) (m : Mode) (x rest : List ℕ) (ts : List Lexeme) → Spells (AtomStands P) x → ends_word rest ≡ true → AreTokens ts (mark_text m ++ (x ++ rest))
     → MarkedFirst P (mark_for m) ts rest
 marked-first P Persistent x rest ts s ends tokens =
     let b = tokens-bang (x ++ rest) ts tokens in
@@ -138,8 +138,8 @@ marked-first P Linear x rest ts s ends tokens =
     let f = s rest ts ends tokens in
     record { middle = ts; marked = no_mark ts f.stands.begins; atom = f }
 
-pub spells-applied : (Q R : Object → List (SMode × Object) → Type 0) (P : Object → Type 0) (m : Mode) (x y : List ℕ) → Spells (ChainStands Q) x → Spells (AtomStands P) y
-    → ((a b : Object) (xs : List (SMode × Object)) → Q a xs → P b → R a (xs ++ (mark_for m, b) ∷ [])) → Spells (ChainStands R) (x ++ (codes " " ++ mark_text m ++ y))
+pub spells-applied : (Q R : WrittenObject → List (SMode × WrittenObject) → Type 0) (P : WrittenObject → Type 0) (m : Mode) (x y : List ℕ) → Spells (ChainStands Q) x → Spells (AtomStands P) y
+    → ((a b : WrittenObject) (xs : List (SMode × WrittenObject)) → Q a xs → P b → R a (xs ++ (mark_for m, b) ∷ [])) → Spells (ChainStands R) (x ++ (codes " " ++ mark_text m ++ y))
 spells-applied Q R P m x y p q has rest ts ends tokens =
     let texts : (x ++ (codes " " ++ mark_text m ++ y)) ++ rest ≡ x ++ (32 ∷ (mark_text m ++ (y ++ rest))) =
     append_assoc x (codes " " ++ mark_text m ++ y) rest ∙ ap (λ z. x ++ z) (append_assoc (codes " " ++ mark_text m) y rest) in
@@ -153,13 +153,13 @@ spells-applied Q R P m x y p q has rest ts ends tokens =
 
 -- ---- objects
 
-spells-chain : (Q : Object → List (SMode × Object) → Type 0) (P : Object → Type 0) (x : List ℕ) → Spells (ChainStands Q) x
-    → ((s : Span) (a : Object) (xs : List (SMode × Object)) → Q a xs → P (applied s a xs)) → SpellsObject P x
+spells-chain : (Q : WrittenObject → List (SMode × WrittenObject) → Type 0) (P : WrittenObject → Type 0) (x : List ℕ) → Spells (ChainStands Q) x
+    → ((s : Span) (a : WrittenObject) (xs : List (SMode × WrittenObject)) → Q a xs → P (applied s a xs)) → SpellsObject P x
 spells-chain Q P x s has rest ts ends follows tokens =
     let f = s rest ts ends tokens in
     record { others = f.others; rest_tokens = f.rest_tokens; stands = chain-object Q P ts f.others f.stands (follows f.others f.rest_tokens) has }
 
-spells-atom : (P : Object → Type 0) (x : List ℕ) → Spells (AtomStands P) x → SpellsObject P x
+spells-atom : (P : WrittenObject → Type 0) (x : List ℕ) → Spells (AtomStands P) x → SpellsObject P x
 spells-atom P x s rest ts ends follows tokens =
     let f = s rest ts ends tokens in
     record { others = f.others; rest_tokens = f.rest_tokens; stands = atom-object P ts f.others f.stands (follows f.others f.rest_tokens) }
@@ -191,8 +191,8 @@ binder-first Linear name rest ts fit ends tokens =
     let marked : MarkStands (mark_for Linear) ts (x.1.first ∷ x.1.others) = name-mark ts x.1.others x.1.first x.0 x.1.is x.1.kind_is in
     record { token = x.1.first; others = x.1.others; capital = x.0; marked = marked; kind_is = x.1.kind_is; spelled = x.1.spelled; rest_tokens = x.1.rest_tokens }
 
-pub spells-lambda : (P R : Object → Type 0) (m : Mode) (level : ℕ) (x : List ℕ) → level + 1 < 2 ^ 64 → SpellsObject P x
-    → ((s : Span) (a : Object) → P a → R (lam s (mark_for m) (Some (variable_text (level + 1))) a)) → SpellsObject R (codes "\\" ++ binder_text level m ++ codes ". " ++ x)
+pub spells-lambda : (P R : WrittenObject → Type 0) (m : Mode) (level : ℕ) (x : List ℕ) → level + 1 < 2 ^ 64 → SpellsObject P x
+    → ((s : Span) (a : WrittenObject) → P a → R (lam s (mark_for m) (Some (variable_text (level + 1))) a)) → SpellsObject R (codes "\\" ++ binder_text level m ++ codes ". " ++ x)
 spells-lambda P R m level x small p has rest ts ends follows tokens =
     let name : List ℕ = variable_text (level + 1) in
     let texts : (binder_text level m ++ codes ". " ++ x) ++ rest ≡ mark_text m ++ (name ++ (46 ∷ 32 ∷ (x ++ rest))) =
@@ -207,34 +207,34 @@ spells-lambda P R m level x small p has rest ts ends follows tokens =
 -- ---- with and without parentheses
 
 -- A neutral is spelled as an application, or as an atom.
-abbrev pub SpellsNeutral : Bool → (Object → List (SMode × Object) → Type 0) → List ℕ → Type 0
+abbrev pub SpellsNeutral : Bool → (WrittenObject → List (SMode × WrittenObject) → Type 0) → List ℕ → Type 0
 SpellsNeutral true Q x = Spells (ChainStands Q) x
 SpellsNeutral false Q x = Spells (AtomStands (λ a. Q a [])) x
 
-pub neutral-chain : (b : Bool) (Q : Object → List (SMode × Object) → Type 0) (x : List ℕ) → SpellsNeutral b Q x → Spells (ChainStands Q) x
+pub neutral-chain : (b : Bool) (Q : WrittenObject → List (SMode × WrittenObject) → Type 0) (x : List ℕ) → SpellsNeutral b Q x → Spells (ChainStands Q) x
 neutral-chain true Q x s = s
 neutral-chain false Q x s = spells-alone (λ a. Q a []) Q x s (λ a h. h)
 
-pub neutral-atom : (b : Bool) (Q : Object → List (SMode × Object) → Type 0) (x : List ℕ) → ((s : Span) (a : Object) (xs : List (SMode × Object)) → Q a xs → Q (applied s a xs) [])
+pub neutral-atom : (b : Bool) (Q : WrittenObject → List (SMode × WrittenObject) → Type 0) (x : List ℕ) → ((s : Span) (a : WrittenObject) (xs : List (SMode × WrittenObject)) → Q a xs → Q (applied s a xs) [])
     → SpellsNeutral b Q x → Spells (AtomStands (λ a. Q a [])) (grouped b x)
 neutral-atom true Q x whole s = spells-group (λ a. Q a []) x (spells-chain Q (λ a. Q a []) x s whole)
 neutral-atom false Q x whole s = rw (append-nil x) s
 
 -- An object is spelled as an atom, or as one that needs parentheses.
-abbrev pub SpellsAs : Bool → (Object → Type 0) → List ℕ → Type 0
+abbrev pub SpellsAs : Bool → (WrittenObject → Type 0) → List ℕ → Type 0
 SpellsAs true P x = Spells (AtomStands P) x
 SpellsAs false P x = SpellsObject P x
 
-pub as-object : (b : Bool) (P : Object → Type 0) (x : List ℕ) → SpellsAs b P x → SpellsObject P x
+pub as-object : (b : Bool) (P : WrittenObject → Type 0) (x : List ℕ) → SpellsAs b P x → SpellsObject P x
 as-object true P x s = spells-atom P x s
 as-object false P x s = s
 
-pub as-atom : (b : Bool) (P : Object → Type 0) (x : List ℕ) → SpellsAs b P x → Spells (AtomStands P) (grouped (not b) x)
+pub as-atom : (b : Bool) (P : WrittenObject → Type 0) (x : List ℕ) → SpellsAs b P x → Spells (AtomStands P) (grouped (not b) x)
 as-atom true P x s = rw (append-nil x) s
 as-atom false P x s = spells-group P x s
 
 -- A neutral as an object.
-pub neutral-as : (b : Bool) (Q : Object → List (SMode × Object) → Type 0) (P : Object → Type 0) (x : List ℕ) → ((s : Span) (a : Object) (xs : List (SMode × Object)) → Q a xs → Q (applied s a xs) [])
-    → ((a : Object) → Q a [] → P a) → SpellsNeutral b Q x → SpellsAs (not b) P x
+pub neutral-as : (b : Bool) (Q : WrittenObject → List (SMode × WrittenObject) → Type 0) (P : WrittenObject → Type 0) (x : List ℕ) → ((s : Span) (a : WrittenObject) (xs : List (SMode × WrittenObject)) → Q a xs → Q (applied s a xs) [])
+    → ((a : WrittenObject) → Q a [] → P a) → SpellsNeutral b Q x → SpellsAs (not b) P x
 neutral-as true Q P x whole has s = spells-chain Q P x s (λ at a xs h. has (applied at a xs) (whole at a xs h))
 neutral-as false Q P x whole has s = spells-has (λ a. Q a []) P x s has

@@ -6,28 +6,28 @@ use Rattle.celf_lexer.specs.Tokens.{Lexeme}
 use Rattle.celf_surface.specs.declared.surface.SMode.{SMode}
 use Rattle.celf_surface.specs.declared.surface.SMode.TheVariants.{Bare, Persistent as PersistentMark, Affine as AffineMark}
 use Rattle.celf_surface.specs.declared.surface.Span.{Span}
-use Rattle.celf_surface.specs.Surface.{Object, lam, named, unit, pair, first, second}
+use Rattle.celf_surface.specs.Surface.{WrittenObject, lam, named, unit, pair, first, second}
 use Rattle.celf_grammar.specs.State.{State, next_kind, Takes, Opens, Closes, EndsPart, TakesName, TakesConstant}
 use Rattle.celf_grammar.specs.Grammar.{is_mark, begins_argument, IsMark, mark_persistent, mark_affine, mark_none, binder_named, applied, IsObject, obj_lambda, obj_app, app_all, IsArguments, args_none, args_more, IsAtom, atom_name, atom_constant, atom_unit, atom_pair, atom_group, atom_first, atom_second}
 use Rattle.celf_reading.proofs.Standing.{state, behind, taken, takes, opens}
 
 -- From a state on an atom is read that has the property, up to the tokens us with so much room.
-pub record IsReadAtom (P : Object → Type 0) (s : State) (us : List Lexeme) (m : ℕ) : Type 0 where
-  pub tree : Object
+pub record IsReadAtom (P : WrittenObject → Type 0) (s : State) (us : List Lexeme) (m : ℕ) : Type 0 where
+  pub tree : WrittenObject
   pub has : P tree
   pub end : ℕ
   pub parse : IsAtom s tree (state us m end)
 
-pub record IsReadObject (P : Object → Type 0) (s : State) (us : List Lexeme) (m : ℕ) : Type 0 where
-  pub tree : Object
+pub record IsReadObject (P : WrittenObject → Type 0) (s : State) (us : List Lexeme) (m : ℕ) : Type 0 where
+  pub tree : WrittenObject
   pub has : P tree
   pub end : ℕ
   pub parse : IsObject s tree (state us m end)
 
 -- an atom and arguments behind it
-pub record IsReadChain (Q : Object → List (SMode × Object) → Type 0) (s : State) (us : List Lexeme) (m : ℕ) : Type 0 where
-  pub tree : Object
-  pub others : List (SMode × Object)
+pub record IsReadChain (Q : WrittenObject → List (SMode × WrittenObject) → Type 0) (s : State) (us : List Lexeme) (m : ℕ) : Type 0 where
+  pub tree : WrittenObject
+  pub others : List (SMode × WrittenObject)
   pub has : Q tree others
   pub middle : State
   pub end : ℕ
@@ -35,18 +35,18 @@ pub record IsReadChain (Q : Object → List (SMode × Object) → Type 0) (s : S
   pub arguments : IsArguments middle others (state us m end)
 
 -- The tokens ts begin with an atom, and the tokens us follow it, however much room is left, as long as it is so deep.
-pub record AtomStands (P : Object → Type 0) (ts us : List Lexeme) : Type 0 where
+pub record AtomStands (P : WrittenObject → Type 0) (ts us : List Lexeme) : Type 0 where
   pub begins : is_mark (next_kind ts) ≡ false
   pub depth : ℕ
   pub read : (m e : ℕ) → depth ≤ m → IsReadAtom P (state ts m e) us m
 
 -- the same of an object, which leaves some parts open
-pub record ObjectStands (P : Object → Type 0) (ts us : List Lexeme) : Type 0 where
+pub record ObjectStands (P : WrittenObject → Type 0) (ts us : List Lexeme) : Type 0 where
   pub depth : ℕ
   pub opened : ℕ
   pub read : (m e : ℕ) → depth ≤ m → IsReadObject P (state ts (opened + m) e) us m
 
-pub record ChainStands (Q : Object → List (SMode × Object) → Type 0) (ts us : List Lexeme) : Type 0 where
+pub record ChainStands (Q : WrittenObject → List (SMode × WrittenObject) → Type 0) (ts us : List Lexeme) : Type 0 where
   pub begins : is_mark (next_kind ts) ≡ false
   pub depth : ℕ
   pub read : (m e : ℕ) → depth ≤ m → IsReadChain Q (state ts m e) us m
@@ -71,7 +71,7 @@ at-mark t us is = record { end = λ e. t.start + length t.spelling; read = λ m 
 
 -- ---- atoms
 
-pub name-stands : (P : Object → Type 0) (t : Lexeme) (us : List Lexeme) (capital : Bool) → t.kind ≡ Name capital → ((s : Span) → P (named s t.spelling false)) → AtomStands P (t ∷ us) us
+pub name-stands : (P : WrittenObject → Type 0) (t : Lexeme) (us : List Lexeme) (capital : Bool) → t.kind ≡ Name capital → ((s : Span) → P (named s t.spelling false)) → AtomStands P (t ∷ us) us
 name-stands P t us capital is has = record { begins = rw is; depth = 0; read = read }
   where
     read : (m e : ℕ) → 0 ≤ m → IsReadAtom P (state (t ∷ us) m e) us m
@@ -80,7 +80,7 @@ name-stands P t us capital is has = record { begins = rw is; depth = 0; read = r
         record { token = t; capital = capital; taken = taken t us m m e; kind = is; spelled = refl } in
         record { tree = named _ t.spelling false; has = has _; end = t.start + length t.spelling; parse = atom_name name }
 
-pub constant-stands : (P : Object → Type 0) (t : Lexeme) (us : List Lexeme) → t.kind ≡ ConstName → ((s : Span) → P (named s (drop 1 t.spelling) true)) → AtomStands P (t ∷ us) us
+pub constant-stands : (P : WrittenObject → Type 0) (t : Lexeme) (us : List Lexeme) → t.kind ≡ ConstName → ((s : Span) → P (named s (drop 1 t.spelling) true)) → AtomStands P (t ∷ us) us
 constant-stands P t us is has = record { begins = rw is; depth = 0; read = read }
   where
     read : (m e : ℕ) → 0 ≤ m → IsReadAtom P (state (t ∷ us) m e) us m
@@ -89,13 +89,13 @@ constant-stands P t us is has = record { begins = rw is; depth = 0; read = read 
         record { token = t; taken = taken t us m m e; kind = is; spelled = refl } in
         record { tree = named _ (drop 1 t.spelling) true; has = has _; end = t.start + length t.spelling; parse = atom_constant name }
 
-pub unit-stands : (P : Object → Type 0) (t : Lexeme) (us : List Lexeme) → t.kind ≡ UnitSign → ((s : Span) → P (unit s)) → AtomStands P (t ∷ us) us
+pub unit-stands : (P : WrittenObject → Type 0) (t : Lexeme) (us : List Lexeme) → t.kind ≡ UnitSign → ((s : Span) → P (unit s)) → AtomStands P (t ∷ us) us
 unit-stands P t us is has = record { begins = rw is; depth = 0; read = read }
   where
     read : (m e : ℕ) → 0 ≤ m → IsReadAtom P (state (t ∷ us) m e) us m
     read m e h = record { tree = unit _; has = has _; end = t.start + length t.spelling; parse = atom_unit (takes UnitSign t us m e is) }
 
-pub group-stands : (P : Object → Type 0) (l r : Lexeme) (us vs : List Lexeme) → l.kind ≡ LeftParen → ObjectStands P us (r ∷ vs) → r.kind ≡ RightParen → AtomStands P (l ∷ us) vs
+pub group-stands : (P : WrittenObject → Type 0) (l r : Lexeme) (us vs : List Lexeme) → l.kind ≡ LeftParen → ObjectStands P us (r ∷ vs) → r.kind ≡ RightParen → AtomStands P (l ∷ us) vs
 group-stands P l r us vs left s right = record { begins = rw left; depth = suc (s.opened + s.depth); read = read }
   where
     read : (m e : ℕ) → suc (s.opened + s.depth) ≤ m → IsReadAtom P (state (l ∷ us) m e) vs m
@@ -108,8 +108,8 @@ group-stands P l r us vs left s right = record { begins = rw left; depth = suc (
         let open_paren : Opens LeftParen (state (l ∷ us) m e) (behind l us (s.opened + inner)) = rw room at (opens LeftParen l us (s.opened + inner) e left) in
         record { tree = body.tree; has = body.has; end = r.start + length r.spelling; parse = atom_group open_paren body.parse closed }
 
-pub pair-stands : (P Q R : Object → Type 0) (l c r : Lexeme) (us vs ws : List Lexeme) → l.kind ≡ Less → ObjectStands P us (c ∷ vs) → c.kind ≡ Comma → ObjectStands Q vs (r ∷ ws) → r.kind ≡ Greater
-    → ((s : Span) (x y : Object) → P x → Q y → R (pair s x y)) → AtomStands R (l ∷ us) ws
+pub pair-stands : (P Q R : WrittenObject → Type 0) (l c r : Lexeme) (us vs ws : List Lexeme) → l.kind ≡ Less → ObjectStands P us (c ∷ vs) → c.kind ≡ Comma → ObjectStands Q vs (r ∷ ws) → r.kind ≡ Greater
+    → ((s : Span) (x y : WrittenObject) → P x → Q y → R (pair s x y)) → AtomStands R (l ∷ us) ws
 pair-stands P Q R l c r us vs ws less x comma y greater has = record { begins = rw less; depth = suc (x.opened + (y.opened + (x.depth + y.depth))); read = read }
   where
     read : (m e : ℕ) → suc (x.opened + (y.opened + (x.depth + y.depth))) ≤ m → IsReadAtom R (state (l ∷ us) m e) ws m
@@ -131,7 +131,7 @@ pair-stands P Q R l c r us vs ws less x comma y greater has = record { begins = 
 ends-part : (us : List Lexeme) (n m e : ℕ) → EndsPart m (state us n e) (state us m e)
 ends-part us n m e = record { rest = refl; room = refl; end = refl }
 
-pub first-stands : (P Q : Object → Type 0) (t : Lexeme) (us vs : List Lexeme) → t.kind ≡ Proj1 → AtomStands P us vs → ((s : Span) (x : Object) → P x → Q (first s x)) → AtomStands Q (t ∷ us) vs
+pub first-stands : (P Q : WrittenObject → Type 0) (t : Lexeme) (us vs : List Lexeme) → t.kind ≡ Proj1 → AtomStands P us vs → ((s : Span) (x : WrittenObject) → P x → Q (first s x)) → AtomStands Q (t ∷ us) vs
 first-stands P Q t us vs is x has = record { begins = rw is; depth = suc x.depth; read = read }
   where
     read : (m e : ℕ) → suc x.depth ≤ m → IsReadAtom Q (state (t ∷ us) m e) vs m
@@ -142,7 +142,7 @@ first-stands P Q t us vs is x has = record { begins = rw is; depth = suc x.depth
         let sign : Opens Proj1 (state (t ∷ us) m e) (behind t us inner) = rw room at (opens Proj1 t us inner e is) in
         record { tree = first _ body.tree; has = has _ body.tree body.has; end = body.end; parse = atom_first sign body.parse (ends-part vs inner m body.end) }
 
-pub second-stands : (P Q : Object → Type 0) (t : Lexeme) (us vs : List Lexeme) → t.kind ≡ Proj2 → AtomStands P us vs → ((s : Span) (x : Object) → P x → Q (second s x)) → AtomStands Q (t ∷ us) vs
+pub second-stands : (P Q : WrittenObject → Type 0) (t : Lexeme) (us vs : List Lexeme) → t.kind ≡ Proj2 → AtomStands P us vs → ((s : Span) (x : WrittenObject) → P x → Q (second s x)) → AtomStands Q (t ∷ us) vs
 second-stands P Q t us vs is x has = record { begins = rw is; depth = suc x.depth; read = read }
   where
     read : (m e : ℕ) → suc x.depth ≤ m → IsReadAtom Q (state (t ∷ us) m e) vs m
@@ -153,7 +153,7 @@ second-stands P Q t us vs is x has = record { begins = rw is; depth = suc x.dept
         let sign : Opens Proj2 (state (t ∷ us) m e) (behind t us inner) = rw room at (opens Proj2 t us inner e is) in
         record { tree = second _ body.tree; has = has _ body.tree body.has; end = body.end; parse = atom_second sign body.parse (ends-part vs inner m body.end) }
 
-pub atom-has : (P R : Object → Type 0) (ts us : List Lexeme) → AtomStands P ts us → ((x : Object) → P x → R x) → AtomStands R ts us
+pub atom-has : (P R : WrittenObject → Type 0) (ts us : List Lexeme) → AtomStands P ts us → ((x : WrittenObject) → P x → R x) → AtomStands R ts us
 atom-has P R ts us x has = record { begins = x.begins; depth = x.depth; read = read }
   where
     read : (m e : ℕ) → x.depth ≤ m → IsReadAtom R (state ts m e) us m
@@ -163,7 +163,7 @@ atom-has P R ts us x has = record { begins = x.begins; depth = x.depth; read = r
 
 -- ---- applications
 
-pub chain-alone : (P : Object → Type 0) (Q : Object → List (SMode × Object) → Type 0) (ts us : List Lexeme) → AtomStands P ts us → ((x : Object) → P x → Q x []) → ChainStands Q ts us
+pub chain-alone : (P : WrittenObject → Type 0) (Q : WrittenObject → List (SMode × WrittenObject) → Type 0) (ts us : List Lexeme) → AtomStands P ts us → ((x : WrittenObject) → P x → Q x []) → ChainStands Q ts us
 chain-alone P Q ts us x has = record { begins = x.begins; depth = x.depth; read = read }
   where
     read : (m e : ℕ) → x.depth ≤ m → IsReadChain Q (state ts m e) us m
@@ -171,8 +171,8 @@ chain-alone P Q ts us x has = record { begins = x.begins; depth = x.depth; read 
         let atom = x.read m e h in
         record { tree = atom.tree; others = []; has = has atom.tree atom.has; middle = state us m atom.end; end = atom.end; atom = atom.parse; arguments = args_none }
 
-pub chain-more : (Q R : Object → List (SMode × Object) → Type 0) (P : Object → Type 0) (mark : SMode) (ts us vs ws : List Lexeme)
-    → ChainStands Q ts us → MarkStands mark us vs → AtomStands P vs ws → ((x y : Object) (xs : List (SMode × Object)) → Q x xs → P y → R x (xs ++ (mark, y) ∷ [])) → ChainStands R ts ws
+pub chain-more : (Q R : WrittenObject → List (SMode × WrittenObject) → Type 0) (P : WrittenObject → Type 0) (mark : SMode) (ts us vs ws : List Lexeme)
+    → ChainStands Q ts us → MarkStands mark us vs → AtomStands P vs ws → ((x y : WrittenObject) (xs : List (SMode × WrittenObject)) → Q x xs → P y → R x (xs ++ (mark, y) ∷ [])) → ChainStands R ts ws
 chain-more Q R P mark ts us vs ws x k y has = record { begins = x.begins; depth = x.depth + y.depth; read = read }
   where
     read : (m e : ℕ) → x.depth + y.depth ≤ m → IsReadChain R (state ts m e) ws m
@@ -191,8 +191,8 @@ chain-more Q R P mark ts us vs ws x k y has = record { begins = x.begins; depth 
 
 -- ---- objects
 
-pub chain-object : (Q : Object → List (SMode × Object) → Type 0) (P : Object → Type 0) (ts us : List Lexeme) → ChainStands Q ts us → begins_argument (next_kind us) ≡ false
-    → ((s : Span) (x : Object) (xs : List (SMode × Object)) → Q x xs → P (applied s x xs)) → ObjectStands P ts us
+pub chain-object : (Q : WrittenObject → List (SMode × WrittenObject) → Type 0) (P : WrittenObject → Type 0) (ts us : List Lexeme) → ChainStands Q ts us → begins_argument (next_kind us) ≡ false
+    → ((s : Span) (x : WrittenObject) (xs : List (SMode × WrittenObject)) → Q x xs → P (applied s x xs)) → ObjectStands P ts us
 chain-object Q P ts us x ends has = record { depth = x.depth; opened = 0; read = read }
   where
     read : (m e : ℕ) → x.depth ≤ m → IsReadObject P (state ts (0 + m) e) us m
@@ -201,12 +201,12 @@ chain-object Q P ts us x ends has = record { depth = x.depth; opened = 0; read =
         let none : 0 + m ≡ m = omega arith in
         rw none (record { tree = applied _ chain.tree chain.others; has = has _ chain.tree chain.others chain.has; end = chain.end; parse = obj_app (app_all chain.atom chain.arguments ends) })
 
-pub atom-object : (P : Object → Type 0) (ts us : List Lexeme) → AtomStands P ts us → begins_argument (next_kind us) ≡ false → ObjectStands P ts us
+pub atom-object : (P : WrittenObject → Type 0) (ts us : List Lexeme) → AtomStands P ts us → begins_argument (next_kind us) ≡ false → ObjectStands P ts us
 atom-object P ts us x ends = chain-object (λ y ys. P y × (ys ≡ [])) P ts us (chain-alone P (λ y ys. P y × (ys ≡ [])) ts us x (λ y h. (h, refl))) ends (λ s y ys h. rw h.1 h.0)
 
-pub lambda-stands : (P R : Object → Type 0) (mark : SMode) (l t d : Lexeme) (us vs ws xs : List Lexeme) (capital : Bool) (name : List ℕ)
+pub lambda-stands : (P R : WrittenObject → Type 0) (mark : SMode) (l t d : Lexeme) (us vs ws xs : List Lexeme) (capital : Bool) (name : List ℕ)
     → l.kind ≡ Backslash → MarkStands mark us (t ∷ vs) → t.kind ≡ Name capital → t.spelling ≡ name → vs ≡ d ∷ ws → d.kind ≡ Stop → ObjectStands P ws xs
-    → ((s : Span) (x : Object) → P x → R (lam s mark (Some name) x)) → ObjectStands R (l ∷ us) xs
+    → ((s : Span) (x : WrittenObject) → P x → R (lam s mark (Some name) x)) → ObjectStands R (l ∷ us) xs
 lambda-stands P R mark l t d us vs ws xs capital name is k is_name spelled stops is_stop x has = record { depth = x.depth; opened = suc x.opened; read = read }
   where
     read : (m e : ℕ) → x.depth ≤ m → IsReadObject R (state (l ∷ us) (suc x.opened + m) e) xs m

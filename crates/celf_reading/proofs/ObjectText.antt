@@ -7,13 +7,13 @@ use Rattle.clf_syntax.specs.declared.tree.Head.{Head}
 use Rattle.clf_syntax.specs.declared.tree.Head.TheVariants.{Const, Var, Meta}
 use Rattle.clf_syntax.specs.Renaming.{up}
 use Rattle.clf_syntax.specs.Simple.{erase}
-use Rattle.clf_syntax.specs.Tree.{Object, lam, pair, unit, monadic, atomic, hole, PlainNeutral, bare, app, fst, snd}
-use Rattle.clf_syntax.specs.TypeTree.{PlainType, family, function, both, base, arrow, product, one}
+use Rattle.clf_syntax.specs.Tree.{PlainObject, lam, pair, unit, monadic, atomic, hole, PlainNeutral, head_alone, app, fst, snd}
+use Rattle.clf_syntax.specs.TypeTree.{PlainType, family, function, both, base, arrow, simple_with, simple_top}
 use Rattle.clf_syntax.specs.Word.{is_variable_word}
 use Rattle.use_contexts.specs.Context.{Context}
 use Rattle.use_contexts.specs.Holding.{Holding}
 use Rattle.clf_sig.specs.Entry.{PlainSignature}
-use Rattle.clf_kernel.specs.Typing.{HeadHasType, HasType, NeutralHasType}
+use Rattle.clf_kernel.specs.Typing.{HeadHasType, HasType, Synthesizes}
 use Rattle.clf_kernel.proofs.WithoutIndices.{renamed-type, same-type}
 use Rattle.clf_printer.specs.Text.{when, variable_text, used_variable_text, place_text, grouped, is_application, is_atom, object_text, neutral_text}
 use Rattle.celf_reading.specs.Bare.{IsBareType, IsBareSignature}
@@ -48,25 +48,25 @@ module _ (sig : PlainSignature) (metas : List ℕ) (formed : IsBareSignature sig
 
   -- ---- heads
   constant-spelled : (g : Context) (c : ℕ) (a : PlainType) → length g < 2 ^ 64 → IsConstantAt sig c a
-      → Spells (AtomStands (λ x. MeansNeutral sig (locals g) (Some (erase a)) (bare (Const c)) x [])) (place_text sig c)
+      → Spells (AtomStands (λ x. MeansNeutral sig (locals g) (Some (erase a)) (head_alone (Const c)) x [])) (place_text sig c)
   constant-spelled g c a small k = rw (place_text-entry sig c k.entry k.found, k.explicit) (go (is_variable_word k.entry.0) refl)
     where
       go : (dollar : Bool) → is_variable_word k.entry.0 ≡ dollar
-          → Spells (AtomStands (λ x. MeansNeutral sig (locals g) (Some (erase a)) (bare (Const c)) x [])) (when dollar (codes "$") ++ k.entry.0)
-      go true is = spells-constant (λ x. MeansNeutral sig (locals g) (Some (erase a)) (bare (Const c)) x []) k.entry.0 k.declarable
+          → Spells (AtomStands (λ x. MeansNeutral sig (locals g) (Some (erase a)) (head_alone (Const c)) x [])) (when dollar (codes "$") ++ k.entry.0)
+      go true is = spells-constant (λ x. MeansNeutral sig (locals g) (Some (erase a)) (head_alone (Const c)) x []) k.entry.0 k.declarable
           (λ s. means-name sig (locals g) (erase a) (Const c) s k.entry.0 true k.means)
-      go false is = spells-name (λ x. MeansNeutral sig (locals g) (Some (erase a)) (bare (Const c)) x []) k.entry.0 k.declarable
+      go false is = spells-name (λ x. MeansNeutral sig (locals g) (Some (erase a)) (head_alone (Const c)) x []) k.entry.0 k.declarable
           (λ s. means-name sig (locals g) (erase a) (Const c) s k.entry.0 false (head-constant sig g c a s small k is))
 
   variable-spelled : (g : Context) (i : ℕ) (e : Mode × PlainType) → length g < 2 ^ 64 → slice_get g i ≡ Some e
-      → Spells (AtomStands (λ x. MeansNeutral sig (locals g) (Some (erase e.1)) (bare (Var i)) x [])) (used_variable_text (length g) i)
+      → Spells (AtomStands (λ x. MeansNeutral sig (locals g) (Some (erase e.1)) (head_alone (Var i)) x [])) (used_variable_text (length g) i)
   variable-spelled g i e small at =
       let within = slice_get_within g i e at in
       let fit = variable-declarable (length g - i) (omega arith) in
-      rw (lt-ltb i (length g) within) (spells-name (λ x. MeansNeutral sig (locals g) (Some (erase e.1)) (bare (Var i)) x []) (variable_text (length g - i)) fit
+      rw (lt-ltb i (length g) within) (spells-name (λ x. MeansNeutral sig (locals g) (Some (erase e.1)) (head_alone (Var i)) x []) (variable_text (length g - i)) fit
       (λ s. means-name sig (locals g) (erase e.1) (Var i) s (variable_text (length g - i)) false (head-variable sig g i e s small at)))
 
-  head-spelled : (g : Context) (h : Holding) (x : Head) (t : PlainType) → length g < 2 ^ 64 → AreBareEntries g → HeadHasType sig g h x t → NeutralSpelled g (bare x) t
+  head-spelled : (g : Context) (h : Holding) (x : Head) (t : PlainType) → length g < 2 ^ 64 → AreBareEntries g → HeadHasType sig g h x t → NeutralSpelled g (head_alone x) t
   head-spelled g h (Const c) t small known p =
       let k = constant-at sig c t formed p.0 in
       record { bare_type = (k.before, k.formed); spells = constant-spelled g c t small k }
@@ -80,8 +80,8 @@ module _ (sig : PlainSignature) (metas : List ℕ) (formed : IsBareSignature sig
 
   -- ---- neutrals and objects
   mutual
-    neutral-spelled : (r : PlainNeutral) (g : Context) (h : Holding) (t : PlainType) → length g + neutral_depth r < 2 ^ 64 → AreBareEntries g → NeutralHasType sig g h r t → NeutralSpelled g r t
-    neutral-spelled (bare x) g h t small known p = head-spelled g h x t (omega arith) known p
+    neutral-spelled : (r : PlainNeutral) (g : Context) (h : Holding) (t : PlainType) → length g + neutral_depth r < 2 ^ 64 → AreBareEntries g → Synthesizes sig g h r t → NeutralSpelled g r t
+    neutral-spelled (head_alone x) g h t small known p = head-spelled g h x t (omega arith) known p
     neutral-spelled (app m r n) g h t small known p =
         let a : PlainType = p.0 in
         let c : PlainType = p.1 in
@@ -103,7 +103,7 @@ module _ (sig : PlainSignature) (metas : List ℕ) (formed : IsBareSignature sig
         let q = neutral-spelled r g h (both t p.0) (omega arith) known p.1 in
         let parts = q.bare_type.1 in
         let x : List ℕ = neutral_text sig metas (length g) r in
-        let Q = MeansNeutral sig (locals g) (Some (product (erase t) (erase p.0))) r in
+        let Q = MeansNeutral sig (locals g) (Some (simple_with (erase t) (erase p.0))) r in
         record {
           bare_type = (q.bare_type.0, parts.0);
           spells = spells-first (λ y. Q y []) (λ y. MeansNeutral sig (locals g) (Some (erase t)) (fst r) y []) (grouped (is_application r) x)
@@ -113,14 +113,14 @@ module _ (sig : PlainSignature) (metas : List ℕ) (formed : IsBareSignature sig
         let q = neutral-spelled r g h (both p.0 t) (omega arith) known p.1 in
         let parts = q.bare_type.1 in
         let x : List ℕ = neutral_text sig metas (length g) r in
-        let Q = MeansNeutral sig (locals g) (Some (product (erase p.0) (erase t))) r in
+        let Q = MeansNeutral sig (locals g) (Some (simple_with (erase p.0) (erase t))) r in
         record {
           bare_type = (q.bare_type.0, parts.1);
           spells = spells-second (λ y. Q y []) (λ y. MeansNeutral sig (locals g) (Some (erase t)) (snd r) y []) (grouped (is_application r) x)
               (neutral-atom (is_application r) Q x (λ s tree xs. means-whole sig (locals g) _ r s tree xs) q.spells) (λ s tree. means-second sig (locals g) (erase p.0) (erase t) r s tree);
         }
 
-    object-spelled : (n : Object) (g : Context) (h : Holding) (t : PlainType) → length g + scope_depth n < 2 ^ 64 → AreBareEntries g → IsBare t → HasType sig g h n t
+    object-spelled : (n : PlainObject) (g : Context) (h : Holding) (t : PlainType) → length g + scope_depth n < 2 ^ 64 → AreBareEntries g → IsBare t → HasType sig g h n t
         → SpellsAs (is_atom n) (Means sig (locals g) (Some (erase t)) n) (object_text sig metas (length g) n)
     object-spelled (lam m b) g h t small known is_bare p =
         let a : PlainType = p.0 in
@@ -142,9 +142,9 @@ module _ (sig : PlainSignature) (metas : List ℕ) (formed : IsBareSignature sig
         let Q = Means sig (locals g) (Some (erase c)) r in
         let left = object-spelled l g h a (omega arith) known (is_bare.0, parts.0) p.3 in
         let right = object-spelled r g h c (omega arith) known (is_bare.0, parts.1) p.4 in
-        rw p.2 (spells-pair P Q (Means sig (locals g) (Some (product (erase a) (erase c))) (pair l r)) x y (λ rest. object-stays sig metas formed l (length g) (44 ∷ rest) refl)
+        rw p.2 (spells-pair P Q (Means sig (locals g) (Some (simple_with (erase a) (erase c))) (pair l r)) x y (λ rest. object-stays sig metas formed l (length g) (44 ∷ rest) refl)
         (as-object (is_atom l) P x left) (as-object (is_atom r) Q y right) (λ s x y. means-pair sig (locals g) (erase a) (erase c) l r s x y))
-    object-spelled unit g h t small known is_bare p = rw p (spells-unit (Means sig (locals g) (Some one) unit) (λ s. means-unit sig (locals g) s))
+    object-spelled unit g h t small known is_bare p = rw p (spells-unit (Means sig (locals g) (Some simple_top) unit) (λ s. means-unit sig (locals g) s))
     object-spelled (monadic e) g h t small known is_bare p = let none = (rw p.1 at is_bare.1) in absurd none
     object-spelled (atomic r) g h t small known is_bare p =
         let f : ℕ = p.0 in
@@ -155,7 +155,7 @@ module _ (sig : PlainSignature) (metas : List ℕ) (formed : IsBareSignature sig
     object-spelled hole g h t small known is_bare p = absurd p
 
 -- The text of an object without free variables, which has a bare type, spells it.
-pub object_text-spells : (sig : PlainSignature) (metas : List ℕ) (n : Object) (a : PlainType) → IsBareSignature sig → IsBareType sig a → scope_depth n < 2 ^ 64 → HasType sig [] [] n a
+pub object_text-spells : (sig : PlainSignature) (metas : List ℕ) (n : PlainObject) (a : PlainType) → IsBareSignature sig → IsBareType sig a → scope_depth n < 2 ^ 64 → HasType sig [] [] n a
     → SpellsObject (Means sig [] (Some (erase a)) n) (object_text sig metas 0 n)
 object_text-spells sig metas n a formed is_bare small p =
     as-object (is_atom n) (Means sig [] (Some (erase a)) n) (object_text sig metas 0 n) (object-spelled sig metas formed n [] [] a (omega arith) tt (sig, is_bare) p)

@@ -2,7 +2,7 @@
 use Rattle.std.proofs.Common.{ℕ, ◌≡◌, ◌==◌, nat_lt, Bool, true, false, ◌||◌, refl, Option, Some, None, List, [], ◌∷◌, ◌++◌, append_assoc, slice_get, codes, IsTrue}
 use Rattle.std.proofs.lemmas.Bool.{and_parts, and_right}
 use Rattle.clf_syntax.specs.declared.tree.Head.TheVariants.{Const, Var, Meta}
-use Rattle.clf_syntax.specs.Tree.{Object, lam, pair, unit, monadic, atomic, hole, PlainNeutral, bare, app, fst, snd}
+use Rattle.clf_syntax.specs.Tree.{PlainObject, lam, pair, unit, monadic, atomic, hole, PlainNeutral, head_alone, app, fst, snd}
 use Rattle.clf_syntax.specs.Word.{begins_word, goes_on, is_word_rest, is_word, is_variable_word, is_declarable}
 use Rattle.clf_sig.specs.Entry.{PlainEntry, PlainSignature}
 use Rattle.celf_lexer.proofs.Spelling.{other_byte, declarable-word}
@@ -38,16 +38,16 @@ place-stays sig c rest formed ends = go (slice_get sig c) refl
 
 module _ (sig : PlainSignature) (metas : List ℕ) (formed : IsBareSignature sig) where
   neutral-stays : (r : PlainNeutral) (level : ℕ) (rest : List ℕ) → begins_greater rest ≡ false → stays_less (neutral_text sig metas level r ++ rest) ≡ true
-  neutral-stays (bare (Const c)) level rest ends = place-stays sig c rest formed ends
-  neutral-stays (bare (Var i)) level rest ends = refl
-  neutral-stays (bare (Meta k)) level rest ends = refl
+  neutral-stays (head_alone (Const c)) level rest ends = place-stays sig c rest formed ends
+  neutral-stays (head_alone (Var i)) level rest ends = refl
+  neutral-stays (head_alone (Meta k)) level rest ends = refl
   neutral-stays (app m r n) level rest ends =
       let argument : List ℕ = argument_text m (is_atom n) (object_text sig metas level n) in
       rw (append_assoc (neutral_text sig metas level r) argument rest) (neutral-stays r level (argument ++ rest) refl)
   neutral-stays (fst r) level rest ends = refl
   neutral-stays (snd r) level rest ends = refl
 
-  pub object-stays : (n : Object) (level : ℕ) (rest : List ℕ) → begins_greater rest ≡ false → stays_less (object_text sig metas level n ++ rest) ≡ true
+  pub object-stays : (n : PlainObject) (level : ℕ) (rest : List ℕ) → begins_greater rest ≡ false → stays_less (object_text sig metas level n ++ rest) ≡ true
   object-stays (lam m b) level rest ends = refl
   object-stays (pair l r) level rest ends = refl
   object-stays unit level rest ends = refl

@@ -6,7 +6,7 @@ use Rattle.clf_syntax.specs.TypeTree.{PlainType, family as family_type, function
 use Rattle.celf_surface.specs.declared.surface.Arrow.{Arrow}
 use Rattle.celf_surface.specs.declared.surface.Arrow.TheVariants.{To, Lolli, Affine as AffineArrow}
 use Rattle.celf_surface.specs.declared.surface.Span.{Span}
-use Rattle.celf_surface.specs.Surface.{Surface, arrow, both, type_word, family, top, declare}
+use Rattle.celf_surface.specs.Surface.{WrittenType, arrow, both, type_word, family, top, declare}
 use Rattle.celf_sugar.specs.Sugar.{reading, is_kind, class}
 use Rattle.celf_sugar.specs.Faults.{kind_places, not_async, type_redexes, first_fault}
 use Rattle.clf_sig.specs.Entry.{PlainClass, family_of, constant_of, PlainEntry, PlainSignature}
@@ -16,7 +16,7 @@ use Rattle.celf_explicit.specs.Entries.{read_class, fresh_entry}
 use Rattle.celf_reading.specs.Reading.{Declares}
 
 -- A surface tree that means a type, stands as one linear entry in a telescope, is no kind and has no fault at any place.
-pub record IsPrinted (sig : PlainSignature) (a : PlainType) (t : Surface) : Type 0 where
+pub record IsPrinted (sig : PlainSignature) (a : PlainType) (t : WrittenType) : Type 0 where
   pub means : read_type sig (reading t).as_type ≡ Some a
   pub alone : (reading t).as_entries ≡ (Linear, None, (reading t).as_type) ∷ []
   pub no_kind : is_kind t ≡ false
@@ -38,7 +38,7 @@ module _ (sig : PlainSignature) where
   pub printed-top : (s : Span) → IsPrinted sig additive_unit (top s)
   printed-top s = record { means = refl; alone = refl; no_kind = refl; no_word = λ ends. refl; no_product = λ may. refl; no_redex = refl }
 
-  pub printed-both : (a b : PlainType) (s : Span) (l r : Surface) → IsPrinted sig a l → IsPrinted sig b r → IsPrinted sig (additive_pair a b) (both s l r)
+  pub printed-both : (a b : PlainType) (s : Span) (l r : WrittenType) → IsPrinted sig a l → IsPrinted sig b r → IsPrinted sig (additive_pair a b) (both s l r)
   printed-both a b s l r p q = record {
     means = rw (p.means, q.means);
     alone = refl;
@@ -48,7 +48,7 @@ module _ (sig : PlainSignature) where
     no_redex = rw (p.no_redex, q.no_redex);
   }
 
-  pub printed-function : (m : Mode) (a b : PlainType) (s : Span) (l r : Surface) → IsPrinted sig a l → IsPrinted sig b r → IsPrinted sig (function m a b) (arrow s (arrow_for m) l r)
+  pub printed-function : (m : Mode) (a b : PlainType) (s : Span) (l r : WrittenType) → IsPrinted sig a l → IsPrinted sig b r → IsPrinted sig (function m a b) (arrow s (arrow_for m) l r)
   printed-function Persistent a b s l r p q = record {
     means = rw (p.means, q.means);
     alone = refl;
@@ -76,20 +76,20 @@ module _ (sig : PlainSignature) where
   }
 
   -- what stands behind the colon of a declaration: no fault of the declaration, and this class
-  pub record IsPrintedClass (c : PlainClass) (t : Surface) : Type 0 where
+  pub record IsPrintedClass (c : PlainClass) (t : WrittenType) : Type 0 where
     pub no_fault : (s : Span) (name : List ℕ) → first_fault (record { span = s; body = declare name None t }) ≡ None
     pub class_is : read_class sig (class t) ≡ Some c
 
   pub printed-word : (s : Span) → IsPrintedClass (family_of []) (type_word s)
   printed-word s = record { no_fault = λ at name. refl; class_is = refl }
 
-  pub printed-constant : (a : PlainType) (t : Surface) → IsPrinted sig a t → IsPrintedClass (constant_of a) t
+  pub printed-constant : (a : PlainType) (t : WrittenType) → IsPrinted sig a t → IsPrintedClass (constant_of a) t
   printed-constant a t p = record {
     no_fault = λ at name. rw (p.no_word true, p.no_product false, p.no_redex);
     class_is = rw (p.no_kind, p.means);
   }
 
-  pub declares-printed : (s : Span) (name : List ℕ) (t : Surface) (entry : PlainEntry) → IsPrintedClass entry.class t → entry.implicit ≡ 0
+  pub declares-printed : (s : Span) (name : List ℕ) (t : WrittenType) (entry : PlainEntry) → IsPrintedClass entry.class t → entry.implicit ≡ 0
       → Declares sig (record { span = s; body = declare name None t }) name entry
   declares-printed s name t entry p none =
       let entry_is : fresh_entry entry.class ≡ entry = subst (λ n. (record { implicit = n; class = entry.class }) ≡ entry) none refl in

@@ -3,7 +3,7 @@ use Rattle.std.proofs.Common.{ℕ, ◌≡◌, ◌+◌, Bool, true, false, refl, 
 use Rattle.celf_lexer.specs.declared.token.TokenKind.TheVariants as kind
 use Rattle.celf_lexer.specs.Tokens.{Lexeme, tokens_of}
 use Rattle.celf_lexer.proofs.Spelling.{AreTokens, tokens_of-tokens, ends_word, tokens-blank, tokens-word, tokens-name, tokens-colon, tokens-stop, tokens-end}
-use Rattle.celf_surface.specs.Surface.{Surface, type_word, declare}
+use Rattle.celf_surface.specs.Surface.{WrittenType, type_word, declare}
 use Rattle.celf_grammar.specs.State.{State, next_kind, span_to, Takes, TakesName}
 use Rattle.celf_grammar.specs.Grammar.{is_left_bracket, is_backward, IsType, type_all, back_first, forward_alone, sync_alone, factor_bare, with_alone, atomty_word, implicit_none, body_declare, IsItem, item_all}
 use Rattle.clf_syntax.specs.Word.{is_declarable}
@@ -19,7 +19,7 @@ use Rattle.celf_reading.proofs.Spelled.{StandsBefore, type_text-spells}
 
 -- From a state on a printed kind or type is read, up to these tokens.
 record IsReadClass (sig : PlainSignature) (c : PlainClass) (s : State) (us : List Lexeme) : Type 0 where
-  tree : Surface
+  tree : WrittenType
   printed : IsPrintedClass sig c tree
   room : ℕ
   end : ℕ
@@ -80,7 +80,7 @@ stop-ends us tokens =
     rw (b.is, b.kind_is) ((refl, refl, refl, refl), refl)
 
 -- a declaration whose tokens stand one behind the other
-item-from : (n m e : ℕ) (x c s : Lexeme) (xs cs ts us vs : List Lexeme) (capital : Bool) (name : List ℕ) (a : Surface)
+item-from : (n m e : ℕ) (x c s : Lexeme) (xs cs ts us vs : List Lexeme) (capital : Bool) (name : List ℕ) (a : WrittenType)
     → ts ≡ x ∷ xs → x.kind ≡ kind.Name capital → x.spelling ≡ name → xs ≡ c ∷ cs → c.kind ≡ kind.Colon → is_left_bracket (next_kind cs) ≡ false
     → IsType (state cs n (c.start + length c.spelling)) a (state us m e) → us ≡ s ∷ vs → s.kind ≡ kind.Stop
     → IsItem (state ts n 0) (record { span = span_to (state ts n 0) (behind s vs m); body = declare name None a }) (behind s vs m)

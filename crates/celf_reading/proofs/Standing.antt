@@ -3,7 +3,7 @@ use Rattle.std.proofs.Common.{ℕ, ◌≡◌, ◌+◌, ◌-◌, ◌≤◌, suc, 
 use Rattle.celf_lexer.specs.declared.token.TokenKind.{TokenKind}
 use Rattle.celf_lexer.specs.declared.token.TokenKind.TheVariants.{Name, ConstName, TopSign, LeftParen, RightParen, Amp}
 use Rattle.celf_lexer.specs.Tokens.{Lexeme}
-use Rattle.celf_surface.specs.Surface.{Surface, arrow, both, family, top}
+use Rattle.celf_surface.specs.Surface.{WrittenType, arrow, both, family, top}
 use Rattle.celf_grammar.specs.State.{State, next_kind, TakesToken, Takes, Opens, Closes, TakesName, TakesConstant}
 use Rattle.celf_grammar.specs.Grammar.{forward_of, is_forward, is_backward, is_amp, is_star, is_left_bracket, begins_index, OpensArrow, IsType, type_all, back_first, IsForward, forward_alone, forward_arrow, sync_alone, factor_bare, IsWith, with_alone, with_pair, indices_none, family_name, family_constant, IsTypeAtom, atomty_family, atomty_top, atomty_group}
 use Rattle.clf_syntax.specs.declared.tree.Mode.{Mode}
@@ -15,7 +15,7 @@ use Rattle.clf_printer.specs.declared.place.Place.TheVariants.{Whole as whole, O
 use Rattle.celf_reading.proofs.Printed.{IsPrinted, printed-family, printed-top, printed-both, printed-function, arrow_for}
 
 -- what a place is in the grammar
-abbrev pub Parse : Place → State → Surface → State → Type 0
+abbrev pub Parse : Place → State → WrittenType → State → Type 0
 Parse whole s t u = IsForward s t u
 Parse operand s t u = IsWith s t u
 Parse factor s t u = IsTypeAtom s t u
@@ -42,7 +42,7 @@ behind t us n = state us n (t.start + length t.spelling)
 
 -- From a state on a printed type is read, up to the tokens us with so much room.
 pub record IsRead (sig : PlainSignature) (p : Place) (a : PlainType) (s : State) (us : List Lexeme) (m : ℕ) : Type 0 where
-  pub tree : Surface
+  pub tree : WrittenType
   pub printed : IsPrinted sig a tree
   pub end : ℕ
   pub parse : Parse p s tree (state us m end)

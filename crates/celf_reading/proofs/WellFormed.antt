@@ -41,5 +41,5 @@ pub bare-signature : (sig : PlainSignature) → IsBareSignature sig → WellForm
 bare-signature sig h = bare-after [] sig h
 
 -- The entry that is read over a bare signature is well formed over it.
-pub read_entry-well_formed : (sig : PlainSignature) (count : ℕ) (t : plain.Class) (e : PlainEntry) → IsBareSignature sig → read_entry sig count t ≡ Some e → WellFormedEntry sig e
+pub read_entry-well_formed : (sig : PlainSignature) (count : ℕ) (t : plain.DesugaredClass) (e : PlainEntry) → IsBareSignature sig → read_entry sig count t ≡ Some e → WellFormedEntry sig e
 read_entry-well_formed sig count t e h at = bare-entry sig e (read_entry-bare sig count t e h at)

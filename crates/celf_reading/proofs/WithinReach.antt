@@ -1,7 +1,7 @@
 -- Bare signatures, and what is read over them, are within what the kernel checks so far.
 use Rattle.std.proofs.Common.{ℕ, ◌≡◌, Bool, true, false, ◌&&◌, if◌then◌else◌, refl, sym, ap, ◌∙◌, subst, List, [], ◌∷◌, Option, Some, None, option_map, option_and_then, slice_get}
 use Rattle.std.proofs.lemmas.Bool.{and_from, and_parts}
-use Rattle.clf_syntax.specs.Tree.{Object, lam, pair, unit, atomic, PlainNeutral, bare, Elimination, arg, first, second, eliminated, spine_on}
+use Rattle.clf_syntax.specs.Tree.{PlainObject, lam, pair, unit, atomic, PlainNeutral, head_alone, PlainElimination, arg, first, second, eliminated, spine_on}
 use Rattle.clf_syntax.specs.TypeTree.{PlainType, PlainKind}
 use Rattle.clf_syntax.specs.Simple.{erase}
 use Rattle.clf_sig.specs.Entry.{PlainClass, family_of, constant_of, PlainSignature, kind_in, family_kind, constant_type, class_at}
@@ -34,77 +34,77 @@ simple-signature sig formed = (
 
 -- ---- no monad is read
 
-abbrev elimination_without_monads : Elimination → Bool
+abbrev elimination_without_monads : PlainElimination → Bool
 elimination_without_monads (arg m o) = without_monads o
 elimination_without_monads first = true
 elimination_without_monads second = true
 
-abbrev spine_without_monads : List Elimination → Bool
+abbrev spine_without_monads : List PlainElimination → Bool
 spine_without_monads [] = true
 spine_without_monads (e ∷ es) = elimination_without_monads e && spine_without_monads es
 
-eliminated-without : (e : Elimination) (r : PlainNeutral) → neutral_without_monads r ≡ true → elimination_without_monads e ≡ true → neutral_without_monads (eliminated e r) ≡ true
+eliminated-without : (e : PlainElimination) (r : PlainNeutral) → neutral_without_monads r ≡ true → elimination_without_monads e ≡ true → neutral_without_monads (eliminated e r) ≡ true
 eliminated-without (arg m o) r a b = and_from (neutral_without_monads r) (without_monads o) a b
 eliminated-without first r a b = a
 eliminated-without second r a b = a
 
-spine_on-without : (es : List Elimination) (r : PlainNeutral) → neutral_without_monads r ≡ true → spine_without_monads es ≡ true → neutral_without_monads (spine_on es r) ≡ true
+spine_on-without : (es : List PlainElimination) (r : PlainNeutral) → neutral_without_monads r ≡ true → spine_without_monads es ≡ true → neutral_without_monads (spine_on es r) ≡ true
 spine_on-without [] r a b = a
 spine_on-without (e ∷ es) r a b =
     let both = and_parts (elimination_without_monads e) (spine_without_monads es) b in
     spine_on-without es (eliminated e r) (eliminated-without e r a both.0) both.1
 
-applied-without : (h : Option Typed) (es : Option (List Elimination)) (n : Object) → ((fs : List Elimination) → es ≡ Some fs → spine_without_monads fs ≡ true) → applied h es ≡ Some n → without_monads n ≡ true
+applied-without : (h : Option Typed) (es : Option (List PlainElimination)) (n : PlainObject) → ((fs : List PlainElimination) → es ≡ Some fs → spine_without_monads fs ≡ true) → applied h es ≡ Some n → without_monads n ≡ true
 applied-without None es n k e = absurd (cc)
 applied-without (Some h) es n k e =
-    let found = option_map-some (λ fs. atomic (spine_on fs (bare h.0))) es n e in
-    subst (λ (o : Object). without_monads o ≡ true) found.2 (spine_on-without found.0 (bare h.0) refl (k found.0 found.1))
+    let found = option_map-some (λ fs. atomic (spine_on fs (head_alone h.0))) es n e in
+    subst (λ (o : PlainObject). without_monads o ≡ true) found.2 (spine_on-without found.0 (head_alone h.0) refl (k found.0 found.1))
 
-stays-some : (b : Bool) (o : Option Object) (n : Object) → (if b then o else None) ≡ Some n → o ≡ Some n
+stays-some : (b : Bool) (o : Option PlainObject) (n : PlainObject) → (if b then o else None) ≡ Some n → o ≡ Some n
 stays-some true o n e = e
 stays-some false o n e = absurd (cc)
 
 module _ (sig : PlainSignature) where
   mutual
-    pub read_object-without : (ls : List Local) (t : Place) (o : plain.Object) (n : Object) → read_object sig ls t o ≡ Some n → without_monads n ≡ true
+    pub read_object-without : (ls : List Local) (t : Place) (o : plain.DesugaredObject) (n : PlainObject) → read_object sig ls t o ≡ Some n → without_monads n ≡ true
     read_object-without ls t (plain.lam s m x b) n e =
         let found = option_map-some (lam (marked m (mode_at t))) (read_object sig ((x, domain t) ∷ ls) (codomain t) b) n e in
-        subst (λ (o : Object). without_monads o ≡ true) found.2 (read_object-without ((x, domain t) ∷ ls) (codomain t) b found.0 found.1)
+        subst (λ (o : PlainObject). without_monads o ≡ true) found.2 (read_object-without ((x, domain t) ∷ ls) (codomain t) b found.0 found.1)
     read_object-without ls t (plain.pair s l r) n e =
         let found = combined-some pair (read_object sig ls (left_part t) l) (read_object sig ls (right_part t) r) n e in
         let left = read_object-without ls (left_part t) l found.0 found.2 in
         let right = read_object-without ls (right_part t) r found.1 found.3 in
-        subst (λ (o : Object). without_monads o ≡ true) found.4 (and_from (without_monads found.0) (without_monads found.1) left right)
-    read_object-without ls t (plain.unit s) n e = let is : unit ≡ n = cc in subst (λ (o : Object). without_monads o ≡ true) is refl
+        subst (λ (o : PlainObject). without_monads o ≡ true) found.4 (and_from (without_monads found.0) (without_monads found.1) left right)
+    read_object-without ls t (plain.unit s) n e = let is : unit ≡ n = cc in subst (λ (o : PlainObject). without_monads o ≡ true) is refl
     read_object-without ls t (plain.monadic s ss u) n e = absurd (cc)
     read_object-without ls t (plain.atomic s h es) n e =
         let whole = stays-some (stays t) (applied (head sig ls h) (read_spine sig ls (place_of_head (head sig ls h)) es)) n e in
         applied-without (head sig ls h) (read_spine sig ls (place_of_head (head sig ls h)) es) n (λ fs f. read_spine-without ls (place_of_head (head sig ls h)) es fs f) whole
     read_object-without ls t (plain.hole s) n e = absurd (cc)
 
-    read_spine-without : (ls : List Local) (t : Place) (es : plain.Spine) (fs : List Elimination) → read_spine sig ls t es ≡ Some fs → spine_without_monads fs ≡ true
-    read_spine-without ls t plain.end_of_spine fs e = let is : [] ≡ fs = cc in subst (λ (gs : List Elimination). spine_without_monads gs ≡ true) is refl
+    read_spine-without : (ls : List Local) (t : Place) (es : plain.DesugaredSpine) (fs : List PlainElimination) → read_spine sig ls t es ≡ Some fs → spine_without_monads fs ≡ true
+    read_spine-without ls t plain.end_of_spine fs e = let is : [] ≡ fs = cc in subst (λ (gs : List PlainElimination). spine_without_monads gs ≡ true) is refl
     read_spine-without ls t (plain.and_then a es) fs e =
         let found = combined-some (◌∷◌) (read_act sig ls t a) (read_spine sig ls (behind t a) es) fs e in
         let one = read_act-without ls t a found.0 found.2 in
         let others = read_spine-without ls (behind t a) es found.1 found.3 in
-        subst (λ (gs : List Elimination). spine_without_monads gs ≡ true) found.4 (and_from (elimination_without_monads found.0) (spine_without_monads found.1) one others)
+        subst (λ (gs : List PlainElimination). spine_without_monads gs ≡ true) found.4 (and_from (elimination_without_monads found.0) (spine_without_monads found.1) one others)
 
-    read_act-without : (ls : List Local) (t : Place) (a : plain.Act) (f : Elimination) → read_act sig ls t a ≡ Some f → elimination_without_monads f ≡ true
+    read_act-without : (ls : List Local) (t : Place) (a : plain.DesugaredAct) (f : PlainElimination) → read_act sig ls t a ≡ Some f → elimination_without_monads f ≡ true
     read_act-without ls t (plain.argument m o) f e =
         let found = option_map-some (arg (marked m (mode_at t))) (read_object sig ls (domain t) o) f e in
-        subst (λ (g : Elimination). elimination_without_monads g ≡ true) found.2 (read_object-without ls (domain t) o found.0 found.1)
-    read_act-without ls t plain.first f e = let is : first ≡ f = cc in subst (λ (g : Elimination). elimination_without_monads g ≡ true) is refl
-    read_act-without ls t plain.second f e = let is : second ≡ f = cc in subst (λ (g : Elimination). elimination_without_monads g ≡ true) is refl
+        subst (λ (g : PlainElimination). elimination_without_monads g ≡ true) found.2 (read_object-without ls (domain t) o found.0 found.1)
+    read_act-without ls t plain.first f e = let is : first ≡ f = cc in subst (λ (g : PlainElimination). elimination_without_monads g ≡ true) is refl
+    read_act-without ls t plain.second f e = let is : second ≡ f = cc in subst (λ (g : PlainElimination). elimination_without_monads g ≡ true) is refl
 
 -- What is read to be checked: the object has no monads, and the type is bare.
-pub read_check-within : (sig : PlainSignature) (o : plain.Object) (t : plain.PlainType) (n : Object) (a : PlainType) → IsBareSignature sig → read_check sig o t ≡ Some (n, a)
+pub read_check-within : (sig : PlainSignature) (o : plain.DesugaredObject) (t : plain.DesugaredType) (n : PlainObject) (a : PlainType) → IsBareSignature sig → read_check sig o t ≡ Some (n, a)
     → (without_monads n ≡ true) × IsBareType sig a
 read_check-within sig o t n a formed e =
     let typed = option_and_then-some (read_against sig o) (read_type sig t) (n, a) e in
     let read = option_map-some (with_type typed.0) (read_object sig [] (Some (erase typed.0)) o) (n, a) typed.2 in
-    let n_is : read.0 ≡ n = ap (λ (p : Object × PlainType). p.0) read.2 in
-    let a_is : typed.0 ≡ a = ap (λ (p : Object × PlainType). p.1) read.2 in (
-      subst (λ (x : Object). without_monads x ≡ true) n_is (read_object-without sig [] (Some (erase typed.0)) o read.0 read.1),
+    let n_is : read.0 ≡ n = ap (λ (p : PlainObject × PlainType). p.0) read.2 in
+    let a_is : typed.0 ≡ a = ap (λ (p : PlainObject × PlainType). p.1) read.2 in (
+      subst (λ (x : PlainObject). without_monads x ≡ true) n_is (read_object-without sig [] (Some (erase typed.0)) o read.0 read.1),
       subst (λ (x : PlainType). IsBareType sig x) a_is (read_type-bare sig t typed.0 formed typed.1),
     )

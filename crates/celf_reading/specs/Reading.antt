@@ -2,7 +2,7 @@
 use Rattle.std.specs.Prelude.{ℕ, ◌≡◌, List, [], ◌∷◌, ◌++◌, Some, None, codes}
 use Rattle.celf_lexer.specs.Tokens.{Lexeme, tokens_from}
 use Rattle.celf_lexer.specs.declared.token.TokenKind.TheVariants.{End}
-use Rattle.celf_surface.specs.Surface.{PlainItem as SurfaceItem}
+use Rattle.celf_surface.specs.Surface.{WrittenItem as SurfaceItem}
 use Rattle.celf_grammar.specs.State.{State}
 use Rattle.celf_grammar.specs.Grammar.{IsItem}
 use Rattle.celf_sugar.specs.PlainTree as plain
@@ -15,7 +15,7 @@ use Rattle.clf_sig.specs.Entry.{PlainEntry, PlainSignature}
 -- An item without a fault declares this name with this entry over the signature.
 abbrev pub Declares : PlainSignature → SurfaceItem → List ℕ → PlainEntry → Type 0
 Declares sig item name entry =
-    (first_fault item ≡ None) × (count : ℕ) × (class : plain.Class) × ((desugared item).body ≡ plain.declare name count class) × (read_entry sig count class ≡ Some entry)
+    (first_fault item ≡ None) × (count : ℕ) × (class : plain.DesugaredClass) × ((desugared item).body ≡ plain.declare name count class) × (read_entry sig count class ≡ Some entry)
 
 -- The text is one item, of any number of nested parts, and nothing but blanks and comments follows it. Over the signature it declares this name with this entry.
 abbrev pub Reads : List ℕ → PlainSignature → List ℕ → PlainEntry → Type 0

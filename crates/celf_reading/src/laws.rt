@@ -6,7 +6,7 @@ ghost use Rattle.clf_printer.specs.Depth.{scope_depth};
 ghost use Rattle.celf_reading.specs.Reading.{ReadsBack};
 ghost use Rattle.clf_kernel.specs.Typing.{HasType};
 ghost use Rattle.clf_sig.specs.Entry.{PlainEntry, PlainSignature};
-ghost use Rattle.clf_syntax.specs.Tree.{Object};
+ghost use Rattle.clf_syntax.specs.Tree.{PlainObject};
 ghost use Rattle.clf_syntax.specs.TypeTree.{PlainType};
 ghost use Rattle.clf_syntax.specs.Word.{is_declarable};
 ghost use Rattle.std.specs.Prelude.{IsTrue, List, [], ℕ, ◌<◌, ◌^◌};
@@ -21,5 +21,5 @@ pub fn reads_back()
 /// whether this object has this type. The type is bare, the object has it by the rules, and no part of the object has 2 ^ 64 or more
 /// variables bound around it: so far are the numbers in their names written whole.
 pub fn checks_read_back()
-    ensures { (sig : PlainSignature) (n : Object) (a : PlainType) → IsBareSignature sig → IsBareType sig a → scope_depth n < 2 ^ 64 → HasType sig [] [] n a → ChecksBack sig n a }
+    ensures { (sig : PlainSignature) (n : PlainObject) (a : PlainType) → IsBareSignature sig → IsBareType sig a → scope_depth n < 2 ^ 64 → HasType sig [] [] n a → ChecksBack sig n a }
 {}

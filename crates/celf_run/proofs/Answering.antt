@@ -7,8 +7,8 @@ use Rattle.clf_sig.specs.Entry.{PlainSignature, place_of}
 use Rattle.clf_sig.specs.Signature.{Declared as Declarations, plain_signature, plain_entry}
 use Rattle.clf_sig.proofs.Names.{plain_signature-append}
 use Rattle.celf_run.specs.declared.answer.Answered.{Answered}
-use Rattle.celf_surface.specs.Surface.{PlainItem as Written}
-use Rattle.celf_sugar.specs.PlainTree.{PlainItem}
+use Rattle.celf_surface.specs.Surface.{WrittenItem as Written}
+use Rattle.celf_sugar.specs.PlainTree.{DesugaredItem}
 use Rattle.celf_sugar.specs.Sugar.{desugared}
 use Rattle.celf_sugar.specs.Faults.{first_fault, fault_start}
 use Rattle.celf_sugar.specs.Answers.{IsFirst}
@@ -56,10 +56,10 @@ pub refused-by : (Allows : Answer → Type 0) (sig : PlainSignature) (at : ℕ) 
 refused-by Allows sig at why line r h e = (refused at why, h, e.1, e.0, refl)
 
 -- What answers a plain item answers the item that it is the plain form of.
-pub plainly-answers : {E : Type 0} (sig new : PlainSignature) (item : Written) (p : PlainItem) (r : Result Answered E) → first_fault item ≡ None → p ≡ desugared item
+pub plainly-answers : {E : Type 0} (sig new : PlainSignature) (item : Written) (p : DesugaredItem) (r : Result Answered E) → first_fault item ≡ None → p ≡ desugared item
     → IfOk r (λ a. AnswersBy (PlainAllowed sig p) sig a.refused a.line.items new)
     → IfOk r (λ a. (text : List ℕ) → AnswersBy (Allowed sig text (written item)) sig a.refused a.line.items new)
-plainly-answers sig new item p (Ok a) clean is (answer, b, l, r, s) = λ text. (answer, plainly clean (subst (λ (q : PlainItem). PlainAllowed sig q answer) is b), l, r, s)
+plainly-answers sig new item p (Ok a) clean is (answer, b, l, r, s) = λ text. (answer, plainly clean (subst (λ (q : DesugaredItem). PlainAllowed sig q answer) is b), l, r, s)
 plainly-answers sig new item p (Err e) clean is n = tt
 
 -- A fault beyond the grammar is refused.

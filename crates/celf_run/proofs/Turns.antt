@@ -1,6 +1,6 @@
 -- How a turn ends, and how a run goes on from it.
 use Rattle.std.proofs.Common.{ℕ, ◌≡◌, ◌≤◌, Bool, true, false, refl, ap, sym, ◌∙◌, subst, Option, Some, None, List, [], ◌∷◌, ◌++◌, length, take, append_assoc, append-nil}
-use Rattle.celf_surface.specs.Surface.{PlainItem as Written}
+use Rattle.celf_surface.specs.Surface.{WrittenItem as Written}
 use Rattle.clf_sig.specs.Entry.{PlainSignature}
 use Rattle.celf_source.specs.Sink.{Appends}
 use Rattle.celf_source.specs.Shelf.{Told, untold, lacking, holding, StandsBehind}

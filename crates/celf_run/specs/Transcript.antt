@@ -4,9 +4,9 @@ use Rattle.std.specs.Fmt.{decimal}
 use Rattle.celf_lexer.specs.Gap.{gap}
 use Rattle.celf_lexer.specs.declared.token.LexFault.TheVariants.{BadByte, LongName}
 use Rattle.clf_syntax.specs.Word.{is_declarable}
-use Rattle.clf_syntax.specs.Tree.{Object}
+use Rattle.clf_syntax.specs.Tree.{PlainObject}
 use Rattle.clf_syntax.specs.TypeTree.{PlainType}
-use Rattle.celf_surface.specs.Surface.{PlainItem as Written}
+use Rattle.celf_surface.specs.Surface.{WrittenItem as Written}
 use Rattle.celf_parser.specs.declared.fault.SyntaxFault.{SyntaxFault}
 use Rattle.celf_parser.specs.declared.fault.SyntaxFault.TheVariants.{Lex, Unexpected, Directive, TooDeep, NoMemory}
 use Rattle.celf_parser.specs.Place.{IsItemAt, IsFaultAt}
@@ -91,12 +91,12 @@ pub data Answer : Type 0 where
   -- the declared name and its entry
   accepted : List ℕ → PlainEntry → Answer
   -- an object and its type
-  typed : Object → PlainType → Answer
+  typed : PlainObject → PlainType → Answer
   -- a byte of the text, and why
   refused : ℕ → List ℕ → Answer
 
 -- the answers to a plain item that declares this, over a signature
-pub data Declared (sig : PlainSignature) (item : plain.PlainItem) (name : List ℕ) (count : ℕ) (class : plain.Class) : Answer → Type 0 where
+pub data Declared (sig : PlainSignature) (item : plain.DesugaredItem) (name : List ℕ) (count : ℕ) (class : plain.DesugaredClass) : Answer → Type 0 where
   duplicate : IsSome (place_of name sig) → Declared sig item name count class (refused item.span.start (codes "duplicate " ++ name))
   full : place_of name sig ≡ None → length sig ≡ room → Declared sig item name count class (refused item.span.start (codes "signature full"))
   unknown : {other : PName} → place_of name sig ≡ None → length sig ≢ room → first_unknown sig item ≡ Some other
@@ -109,7 +109,7 @@ pub data Declared (sig : PlainSignature) (item : plain.PlainItem) (name : List �
       → Declared sig item name count class (accepted name entry)
 
 -- the answers to an object and a type that were read from an item at a byte
-pub data Judged (sig : PlainSignature) (start : ℕ) (n : Object) (a : PlainType) : Answer → Type 0 where
+pub data Judged (sig : PlainSignature) (start : ℕ) (n : PlainObject) (a : PlainType) : Answer → Type 0 where
   -- The rules do not type the object, and at the path stands a part that they refuse for the cause. Of an object that is read there is
   -- one such path with one such cause: the kernel's laws `one_answer` say so.
   has_none : {path : List ℕ} {cause : Cause} → (HasType sig [] [] n a → ⊥) → ExplainedAt sig [] [] n a path cause
@@ -118,15 +118,15 @@ pub data Judged (sig : PlainSignature) (start : ℕ) (n : Object) (a : PlainType
   has_type : HasType sig [] [] n a → ChecksBack sig n a → Judged sig start n a (typed n a)
 
 -- the answers to a plain item that asks whether an object has a type
-pub data Checked (sig : PlainSignature) (item : plain.PlainItem) (object : plain.Object) (type : plain.PlainType) : Answer → Type 0 where
+pub data Checked (sig : PlainSignature) (item : plain.DesugaredItem) (object : plain.DesugaredObject) (type : plain.DesugaredType) : Answer → Type 0 where
   unknown_in : {other : PName} → first_unknown sig item ≡ Some other → Checked sig item object type (refused other.span.start (codes "unknown name " ++ other.name))
   -- it is not answered yet: it has indices, a monad, a hole or an implicit variable, or would be expanded
   unread : first_unknown sig item ≡ None → read_check sig object type ≡ None → Checked sig item object type (refused item.span.start (codes "not yet"))
-  judged : {n : Object} {a : PlainType} {answer : Answer} → first_unknown sig item ≡ None → read_check sig object type ≡ Some (n, a)
+  judged : {n : PlainObject} {a : PlainType} {answer : Answer} → first_unknown sig item ≡ None → read_check sig object type ≡ Some (n, a)
       → Judged sig item.span.start n a answer → Checked sig item object type answer
 
 -- the bodies that are not answered yet: queries, traces and equations
-abbrev pub is_later : plain.PlainBody → Bool
+abbrev pub is_later : plain.DesugaredBody → Bool
 is_later (plain.declare n i c) = false
 is_later (plain.query d e l a t) = true
 is_later (plain.trace n t) = true
@@ -134,10 +134,10 @@ is_later (plain.equal l r t) = true
 is_later (plain.check o t) = false
 
 -- the answers that a plain item may have over a signature
-pub data PlainAllowed (sig : PlainSignature) (item : plain.PlainItem) : Answer → Type 0 where
-  declares : {name : List ℕ} {count : ℕ} {class : plain.Class} {answer : Answer}
+pub data PlainAllowed (sig : PlainSignature) (item : plain.DesugaredItem) : Answer → Type 0 where
+  declares : {name : List ℕ} {count : ℕ} {class : plain.DesugaredClass} {answer : Answer}
       → item.body ≡ plain.declare name count class → Declared sig item name count class answer → PlainAllowed sig item answer
-  checks : {object : plain.Object} {type : plain.PlainType} {answer : Answer}
+  checks : {object : plain.DesugaredObject} {type : plain.DesugaredType} {answer : Answer}
       → item.body ≡ plain.check object type → Checked sig item object type answer → PlainAllowed sig item answer
   has_unknown : {other : PName} → is_later item.body ≡ true → first_unknown sig item ≡ Some other → PlainAllowed sig item (refused other.span.start (codes "unknown name " ++ other.name))
   later : is_later item.body ≡ true → first_unknown sig item ≡ None → PlainAllowed sig item (refused item.span.start (codes "not yet"))

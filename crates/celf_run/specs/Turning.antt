@@ -1,6 +1,6 @@
 -- One turn of a run: an answer that is no refusal takes it on to the item behind.
 use Rattle.std.specs.Prelude.{ℕ, ◌≡◌, false, List, [], ◌++◌, Option}
-use Rattle.celf_surface.specs.Surface.{PlainItem as Written}
+use Rattle.celf_surface.specs.Surface.{WrittenItem as Written}
 use Rattle.clf_sig.specs.Entry.{PlainSignature}
 use Rattle.celf_source.specs.Sink.{Appends}
 use Rattle.celf_run.specs.declared.status.Status.{Status}

@@ -1,9 +1,9 @@
 //! Answers to items.
 ghost use Rattle.std.specs.Prelude.{ℕ, List, ◌≡◌, ◌≢◌, ◌++◌, IfOk, OnOk, OnErr, true, codes};
 ghost use Rattle.clf_sig.specs.Signature.{plain_signature};
-ghost use Rattle.celf_surface.specs.Surface.{plain_item as written_item};
+ghost use Rattle.celf_surface.specs.Surface.{written_item};
 ghost use Rattle.celf_sugar.specs.Sugar.{desugared};
-ghost use Rattle.celf_sugar.specs.Plain.{plain_item};
+ghost use Rattle.celf_sugar.specs.Plain.{desugared_item};
 ghost use Rattle.celf_sugar.specs.Faults.{fault_start};
 ghost use Rattle.celf_reading.specs.Bare.{IsBareSignature};
 ghost use Rattle.celf_run.specs.Transcript.{written, sugar_why, is_later, Allowed, PlainAllowed};
@@ -48,8 +48,8 @@ pub fn answer(alloc: Global, sig: &mut Signature, item: &Item) -> Result<Answere
 /// Answers an item without sugar.
 fn answer_plain(alloc: Global, sig: &mut Signature, plain: &Plain) -> Result<Answered, AllocError>
     requires bare { IsBareSignature (plain_signature sig.old) }
-    requires name { IsDeclarable (plain_item plain.now).body }
-    ensures answered { IfOk result (λ a. AnswersBy (PlainAllowed (plain_signature sig.old) (plain_item plain.now)) (plain_signature sig.old) a.refused a.line.items (plain_signature sig.new)) }
+    requires name { IsDeclarable (desugared_item plain.now).body }
+    ensures answered { IfOk result (λ a. AnswersBy (PlainAllowed (plain_signature sig.old) (desugared_item plain.now)) (plain_signature sig.old) a.refused a.line.items (plain_signature sig.new)) }
     ensures bare { IsBareSignature (plain_signature sig.new) }
     ensures err { OnErr result (sig.new ≡ sig.old) }
 {
@@ -68,8 +68,8 @@ fn answer_plain(alloc: Global, sig: &mut Signature, plain: &Plain) -> Result<Ans
 
 /// Answers what is not answered yet: where all its names have a meaning, that says so.
 fn later(alloc: Global, sig: &Signature, plain: &Plain) -> Result<Answered, AllocError>
-    requires later { is_later (plain_item plain.now).body ≡ true }
-    ensures answered { IfOk result (λ a. AnswersBy (PlainAllowed (plain_signature sig.now) (plain_item plain.now)) (plain_signature sig.now) a.refused a.line.items (plain_signature sig.now)) }
+    requires later { is_later (desugared_item plain.now).body ≡ true }
+    ensures answered { IfOk result (λ a. AnswersBy (PlainAllowed (plain_signature sig.now) (desugared_item plain.now)) (plain_signature sig.now) a.refused a.line.items (plain_signature sig.now)) }
 {
     match first_unknown(alloc, sig, plain)? {
         Some(name) => unknown_name(alloc, name),

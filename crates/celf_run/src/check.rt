@@ -6,7 +6,7 @@ ghost use Rattle.clf_sig.specs.Signature.{plain_signature};
 ghost use Rattle.clf_kernel.specs.Answers.{plain_cause};
 ghost use Rattle.clf_kernel.specs.Reach.{without_monads};
 ghost use Rattle.clf_printer.specs.Depth.{scope_depth};
-ghost use Rattle.celf_sugar.specs.Plain.{plain_item, plain_object, plain_type};
+ghost use Rattle.celf_sugar.specs.Plain.{desugared_item, desugared_object, desugared_type};
 ghost use Rattle.celf_reading.specs.Bare.{IsBareSignature, IsBareType};
 ghost use Rattle.celf_reading.specs.Checks.{check_line as check_line_of};
 ghost use Rattle.celf_run.specs.Transcript.{Checked, Judged};
@@ -34,7 +34,7 @@ pub fn check(
     ty: &PTy,
 ) -> Result<Answered, AllocError>
     requires bare { IsBareSignature (plain_signature sig.now) }
-    ensures answered { IfOk result (λ a. AnswersBy (Checked (plain_signature sig.now) (plain_item plain.now) (plain_object obj.now) (plain_type ty.now)) (plain_signature sig.now) a.refused a.line.items (plain_signature sig.now)) }
+    ensures answered { IfOk result (λ a. AnswersBy (Checked (plain_signature sig.now) (desugared_item plain.now) (desugared_object obj.now) (desugared_type ty.now)) (plain_signature sig.now) a.refused a.line.items (plain_signature sig.now)) }
 {
     if let Some(unknown) = first_unknown(alloc, sig, plain)? {
         return unknown_name(alloc, unknown);

@@ -3,7 +3,7 @@ ghost use Rattle.std.specs.Prelude.{◌≡◌, ◌≢◌, ◌∷◌, [], ◌++�
 ghost use Rattle.clf_syntax.specs.Word.{is_declarable};
 ghost use Rattle.clf_sig.specs.Entry.{place_of};
 ghost use Rattle.clf_sig.specs.Signature.{plain_signature, plain_entry};
-ghost use Rattle.celf_sugar.specs.Plain.{plain_item, class_of as written_class};
+ghost use Rattle.celf_sugar.specs.Plain.{desugared_item, class_of as written_class};
 ghost use Rattle.celf_reading.specs.Bare.{IsBareSignature, IsBareEntry};
 ghost use Rattle.celf_reading.specs.Reading.{entry_line as entry_line_of};
 ghost use Rattle.celf_run.specs.Transcript.{Declared};
@@ -35,7 +35,7 @@ pub fn declare(
 ) -> Result<Answered, AllocError>
     requires bare { IsBareSignature (plain_signature sig.old) }
     requires name { IsTrue (is_declarable name.now) }
-    ensures answered { IfOk result (λ a. AnswersBy (Declared (plain_signature sig.old) (plain_item plain.now) name.now implicit (written_class class.now)) (plain_signature sig.old) a.refused a.line.items (plain_signature sig.new)) }
+    ensures answered { IfOk result (λ a. AnswersBy (Declared (plain_signature sig.old) (desugared_item plain.now) name.now implicit (written_class class.now)) (plain_signature sig.old) a.refused a.line.items (plain_signature sig.new)) }
     ensures bare { IsBareSignature (plain_signature sig.new) }
     ensures err { OnErr result (sig.new ≡ sig.old) }
 {
@@ -54,7 +54,7 @@ fn judged(
     implicit: u32,
     class: &PClass,
 ) -> Result<Declaration, AllocError>
-    ensures { IfOk result (ComesOf (plain_signature sig.now) (plain_item plain.now) name.now implicit (written_class class.now)) }
+    ensures { IfOk result (ComesOf (plain_signature sig.now) (desugared_item plain.now) name.now implicit (written_class class.now)) }
 {
     if sig.find(name).is_some() {
         let answered = refused(alloc, plain.span.start, b"duplicate ", name.as_bytes())?;

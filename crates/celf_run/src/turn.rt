@@ -3,7 +3,7 @@ ghost use Rattle.std.specs.Prelude.{ℕ, List, ◌≡◌, ◌<◌, ◌≤◌, �
 ghost use Rattle.clf_sig.specs.Signature.{plain_signature};
 ghost use Rattle.celf_source.specs.Count.{Rose};
 ghost use Rattle.celf_source.specs.Sink.{Appends};
-ghost use Rattle.celf_surface.specs.Surface.{plain_item as written_item};
+ghost use Rattle.celf_surface.specs.Surface.{written_item};
 ghost use Rattle.celf_sugar.specs.Sugar.{desugared};
 ghost use Rattle.celf_reading.specs.Bare.{IsBareSignature};
 ghost use Rattle.celf_run.specs.Answering.{IsDeclarable};

@@ -2,7 +2,7 @@
 use Rattle.std.specs.Prelude.{◌≡◌, Option, None, Some, List, [], ◌∷◌, ◌++◌, map, Bool, true, false, nat_lt, if◌then◌else◌, refl}
 use Rattle.std.proofs.Common.{ap, sym, ◌∙◌, inl, inr}
 use Rattle.celf_surface.specs.declared.surface.Span.{Span}
-use Rattle.celf_surface.specs.Surface.{Body}
+use Rattle.celf_surface.specs.Surface.{WrittenBody}
 use Rattle.celf_sugar.specs.declared.fault.SugarFault.{SugarFault}
 use Rattle.celf_sugar.specs.declared.fault.SugarFault.TheVariants.{KindPlace, NotAsync, Redex, OutOfRange, BadImplicit, NoMemory}
 use Rattle.celf_sugar.specs.declared.first.Found.{Found}
@@ -24,7 +24,7 @@ earliest-kind : (kind : Span → SugarFault) → ((s : Span) → fault_start (ki
 earliest-kind kind h [] = refl
 earliest-kind kind h (x ∷ xs) = ap (sooner fault_start (Some (kind x))) (earliest-kind kind h xs) ∙ sooner-kind kind h x (earliest start xs)
 
-pub faults-first : (b : Body) (f : Found) → f.kind_place ≡ earliest start (kind_places_of b) → f.not_async ≡ earliest start (not_async_of b) → f.redex ≡ earliest start (redexes_of b) → f.out_of_range ≡ earliest start (out_of_range_of b) → f.bad_implicit ≡ earliest start (bad_implicits_of b) → first_found f ≡ earliest fault_start (faults b)
+pub faults-first : (b : WrittenBody) (f : Found) → f.kind_place ≡ earliest start (kind_places_of b) → f.not_async ≡ earliest start (not_async_of b) → f.redex ≡ earliest start (redexes_of b) → f.out_of_range ≡ earliest start (out_of_range_of b) → f.bad_implicit ≡ earliest start (bad_implicits_of b) → first_found f ≡ earliest fault_start (faults b)
 faults-first b f k n r o i = sym (rw (
   earliest-append fault_start (map KindPlace (kind_places_of b)) (map NotAsync (not_async_of b) ++ (map Redex (redexes_of b) ++ (map OutOfRange (out_of_range_of b) ++ map BadImplicit (bad_implicits_of b)))),
   earliest-append fault_start (map NotAsync (not_async_of b)) (map Redex (redexes_of b) ++ (map OutOfRange (out_of_range_of b) ++ map BadImplicit (bad_implicits_of b))),

@@ -8,81 +8,81 @@ use Rattle.celf_sugar.specs.declared.plain.PBinder.{PBinder}
 
 -- Objects, each with the bytes that it covers. A name None is _.
 mutual
-  pub data Object : Type 0 where
-    lam : Span → SMode → Option (List ℕ) → Object → Object
-    pair : Span → Object → Object → Object
-    unit : Span → Object
-    monadic : Span → Steps → Tuple → Object
-    atomic : Span → PName → Spine → Object
-    hole : Span → Object
+  pub data DesugaredObject : Type 0 where
+    lam : Span → SMode → Option (List ℕ) → DesugaredObject → DesugaredObject
+    pair : Span → DesugaredObject → DesugaredObject → DesugaredObject
+    unit : Span → DesugaredObject
+    monadic : Span → DesugaredSteps → DesugaredTuple → DesugaredObject
+    atomic : Span → PName → DesugaredSpine → DesugaredObject
+    hole : Span → DesugaredObject
 
   -- what is done to a head, the first thing first
-  pub data Spine : Type 0 where
-    end_of_spine : Spine
-    and_then : Act → Spine → Spine
+  pub data DesugaredSpine : Type 0 where
+    end_of_spine : DesugaredSpine
+    and_then : DesugaredAct → DesugaredSpine → DesugaredSpine
 
-  pub data Act : Type 0 where
-    argument : SMode → Object → Act
-    first : Act
-    second : Act
+  pub data DesugaredAct : Type 0 where
+    argument : SMode → DesugaredObject → DesugaredAct
+    first : DesugaredAct
+    second : DesugaredAct
 
   -- let {pattern} = head spine in
-  pub data Steps : Type 0 where
-    no_steps : Steps
-    step : List PBinder → PName → Spine → Steps → Steps
+  pub data DesugaredSteps : Type 0 where
+    no_steps : DesugaredSteps
+    step : List PBinder → PName → DesugaredSpine → DesugaredSteps → DesugaredSteps
 
-  pub data Tuple : Type 0 where
-    end_of_tuple : Tuple
-    entry : SMode → Object → Tuple → Tuple
+  pub data DesugaredTuple : Type 0 where
+    end_of_tuple : DesugaredTuple
+    entry : SMode → DesugaredObject → DesugaredTuple → DesugaredTuple
 
 -- Types, each with the bytes that it covers. A name None binds nothing.
 mutual
-  pub data PlainType : Type 0 where
-    family : Span → PName → List Object → PlainType
-    function : Span → Mode → Option (List ℕ) → PlainType → PlainType → PlainType
-    both : Span → PlainType → PlainType → PlainType
-    top : Span → PlainType
-    monad : Span → Telescope → PlainType
+  pub data DesugaredType : Type 0 where
+    family : Span → PName → List DesugaredObject → DesugaredType
+    function : Span → Mode → Option (List ℕ) → DesugaredType → DesugaredType → DesugaredType
+    both : Span → DesugaredType → DesugaredType → DesugaredType
+    top : Span → DesugaredType
+    monad : Span → DesugaredTelescope → DesugaredType
 
-  pub data Telescope : Type 0 where
-    end : Telescope
-    binding : Mode → Option (List ℕ) → PlainType → Telescope → Telescope
+  pub data DesugaredTelescope : Type 0 where
+    end : DesugaredTelescope
+    binding : Mode → Option (List ℕ) → DesugaredType → DesugaredTelescope → DesugaredTelescope
 
 -- an entry of a telescope: its mode, its name and its type
-abbrev pub Entry : Type 0
-Entry = Mode × Option (List ℕ) × PlainType
+abbrev pub DesugaredEntry : Type 0
+DesugaredEntry = Mode × Option (List ℕ) × DesugaredType
 
 -- lists as parts of a tree
-abbrev pub spine_of : List Act → Spine
+abbrev pub spine_of : List DesugaredAct → DesugaredSpine
 spine_of [] = end_of_spine
 spine_of (a ∷ as_) = and_then a (spine_of as_)
 
-abbrev pub steps_of : List (List PBinder × PName × Spine) → Steps
+abbrev pub steps_of : List (List PBinder × PName × DesugaredSpine) → DesugaredSteps
 steps_of [] = no_steps
 steps_of (s ∷ ss) = step s.0 s.1 s.2 (steps_of ss)
 
-abbrev pub tuple_of : List (SMode × Object) → Tuple
+abbrev pub tuple_of : List (SMode × DesugaredObject) → DesugaredTuple
 tuple_of [] = end_of_tuple
 tuple_of (e ∷ es) = entry e.0 e.1 (tuple_of es)
 
-abbrev pub telescope_of : List Entry → Telescope
+abbrev pub telescope_of : List DesugaredEntry → DesugaredTelescope
 telescope_of [] = end
 telescope_of (e ∷ es) = binding e.0 e.1 e.2 (telescope_of es)
 
 -- a declaration is of a family, by its arguments, or of a constant, by its type
-pub data Class : Type 0 where
-  of_family : Telescope → Class
-  of_constant : PlainType → Class
+pub data DesugaredClass : Type 0 where
+  of_family : DesugaredTelescope → DesugaredClass
+  of_constant : DesugaredType → DesugaredClass
 
 -- What an item says. A number None is *.
-pub data PlainBody : Type 0 where
-  declare : List ℕ → ℕ → Class → PlainBody
-  query : Option ℕ → Option ℕ → Option ℕ → Option ℕ → PlainType → PlainBody
-  trace : Option ℕ → Telescope → PlainBody
-  equal : Object → Object → PlainType → PlainBody
-  check : Object → PlainType → PlainBody
+pub data DesugaredBody : Type 0 where
+  declare : List ℕ → ℕ → DesugaredClass → DesugaredBody
+  query : Option ℕ → Option ℕ → Option ℕ → Option ℕ → DesugaredType → DesugaredBody
+  trace : Option ℕ → DesugaredTelescope → DesugaredBody
+  equal : DesugaredObject → DesugaredObject → DesugaredType → DesugaredBody
+  check : DesugaredObject → DesugaredType → DesugaredBody
 
 -- an item, with the bytes that it covers
-pub record PlainItem : Type 0 where
+pub record DesugaredItem : Type 0 where
   pub span : Span
-  pub body : PlainBody
+  pub body : DesugaredBody

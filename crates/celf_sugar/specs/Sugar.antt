@@ -11,7 +11,7 @@ use Rattle.celf_surface.specs.declared.surface.Span.{Span}
 use Rattle.celf_surface.specs.Surface as written
 use Rattle.celf_sugar.specs.declared.plain.PName.{PName}
 use Rattle.celf_sugar.specs.declared.plain.PBinder.{PBinder}
-use Rattle.celf_sugar.specs.PlainTree.{Object, lam, pair, unit, monadic, atomic, hole, Act, argument, first, second, Steps, no_steps, step, spine_of, tuple_of, PlainType, family, function, both, top, monad, Entry, telescope_of, Class, of_family, of_constant, PlainBody, declare, query, trace, equal, check, PlainItem}
+use Rattle.celf_sugar.specs.PlainTree.{DesugaredObject, lam, pair, unit, monadic, atomic, hole, DesugaredAct, argument, first, second, DesugaredSteps, no_steps, step, spine_of, tuple_of, DesugaredType, family, function, both, top, monad, DesugaredEntry, telescope_of, DesugaredClass, of_family, of_constant, DesugaredBody, declare, query, trace, equal, check, DesugaredItem}
 
 -- a name without bytes, where a head is wanted and none is written
 abbrev pub no_name : Span → PName
@@ -19,17 +19,17 @@ no_name s = record { name = []; dollar = false; span = s }
 
 -- [p, q] and 1: a flat list of entries
 abbrev mutual
-  pub binders : written.Pattern → List PBinder
+  pub binders : written.WrittenPattern → List PBinder
   binders written.pattern_one = []
   binders (written.pattern_entry m n) = record { mode = m; name = n } ∷ []
   binders (written.pattern_list ps) = all_binders ps
 
-  pub all_binders : written.Patterns → List PBinder
+  pub all_binders : written.WrittenPatterns → List PBinder
   all_binders written.no_patterns = []
   all_binders (written.patterns_and p ps) = binders p ++ all_binders ps
 
 -- the head of an object that is applied or projected
-abbrev pub head : written.Object → PName
+abbrev pub head : written.WrittenObject → PName
 head (written.lam s m n b) = no_name s
 head (written.app s h as_) = head h
 head (written.named s n d) = record { name = n; dollar = d; span = s }
@@ -47,7 +47,7 @@ mark Affine = MarkedAffine
 mark Linear = MarkedLinear
 
 abbrev mutual
-  pub object : written.Object → Object
+  pub object : written.WrittenObject → DesugaredObject
   object (written.lam s m n b) = lam s m n (object b)
   object (written.app s h as_) = atomic s (head h) (spine_of (acts h ++ arguments as_))
   object (written.named s n d) = atomic s (record { name = n; dollar = d; span = s }) (spine_of [])
@@ -59,7 +59,7 @@ abbrev mutual
   object (written.second s b) = atomic s (head b) (spine_of (acts b ++ second ∷ []))
 
   -- what is done to the head
-  pub acts : written.Object → List Act
+  pub acts : written.WrittenObject → List DesugaredAct
   acts (written.lam s m n b) = []
   acts (written.app s h as_) = acts h ++ arguments as_
   acts (written.named s n d) = []
@@ -70,44 +70,44 @@ abbrev mutual
   acts (written.first s b) = acts b ++ first ∷ []
   acts (written.second s b) = acts b ++ second ∷ []
 
-  pub arguments : written.Arguments → List Act
+  pub arguments : written.WrittenArguments → List DesugaredAct
   arguments written.no_arguments = []
   arguments (written.argument m o as_) = argument m (object o) ∷ arguments as_
 
-  pub steps : written.Steps → Steps
+  pub steps : written.WrittenSteps → DesugaredSteps
   steps written.no_steps = no_steps
   steps (written.step p o ss) = step (binders p) (head o) (spine_of (acts o)) (steps ss)
 
   -- [M, N] and 1: a flat list of entries
-  pub entries_of_tuple : written.Tuple → List (SMode × Object)
+  pub entries_of_tuple : written.WrittenTuple → List (SMode × DesugaredObject)
   entries_of_tuple written.tuple_one = []
   entries_of_tuple (written.tuple_list ts) = entries_of_tuples ts
   entries_of_tuple (written.tuple_marked m o) = (mark m, object o) ∷ []
   entries_of_tuple (written.tuple_bare o) = (Bare, object o) ∷ []
 
-  pub entries_of_tuples : written.Tuples → List (SMode × Object)
+  pub entries_of_tuples : written.WrittenTuples → List (SMode × DesugaredObject)
   entries_of_tuples written.no_tuples = []
   entries_of_tuples (written.tuples_and t ts) = entries_of_tuple t ++ entries_of_tuples ts
 
 -- One function for each entry, in order, and then a type. Each covers the bytes s.
-abbrev pub functions : Span → List Entry → PlainType → PlainType
+abbrev pub functions : Span → List DesugaredEntry → DesugaredType → DesugaredType
 functions s [] b = b
 functions s (e ∷ es) b = function s e.0 e.1 e.2 (functions s es b)
 
 -- what a written type is: as a type, and as the entries of a telescope
 pub record Reading : Type 0 where
-  pub as_type : PlainType
-  pub as_entries : List Entry
+  pub as_type : DesugaredType
+  pub as_entries : List DesugaredEntry
 
 -- A in a telescope: a linear entry
-abbrev pub alone : PlainType → Reading
+abbrev pub alone : DesugaredType → Reading
 alone t = record { as_type = t; as_entries = (Linear, None, t) ∷ [] }
 
 -- a synchronous type has its entries alone
-abbrev pub synchronous : Span → List Entry → Reading
+abbrev pub synchronous : Span → List DesugaredEntry → Reading
 synchronous s es = record { as_type = top s; as_entries = es }
 
-abbrev pub reading : written.Surface → Reading
+abbrev pub reading : written.WrittenType → Reading
 -- Pi x: A. B: a persistent function that binds x
 reading (written.pi s n d r) = alone (function s Persistent (Some n) (reading d).as_type (reading r).as_type)
 -- Exists x: A. S: a persistent entry that binds x, then those of S
@@ -134,7 +134,7 @@ reading (written.one s) = synchronous s []
 reading (written.braced s b) = alone (monad s (telescope_of (reading b).as_entries))
 
 -- whether a kind is written: persistent arguments and the word type at the end
-abbrev pub is_kind : written.Surface → Bool
+abbrev pub is_kind : written.WrittenType → Bool
 is_kind (written.pi s n d r) = is_kind r
 is_kind (written.exists s n d r) = false
 is_kind (written.arrow s To l r) = is_kind r
@@ -152,7 +152,7 @@ is_kind (written.one s) = false
 is_kind (written.braced s b) = false
 
 -- the arguments of a kind
-abbrev pub kind_arguments : written.Surface → List Entry
+abbrev pub kind_arguments : written.WrittenType → List DesugaredEntry
 kind_arguments (written.pi s n d r) = (Persistent, Some n, (reading d).as_type) ∷ kind_arguments r
 kind_arguments (written.exists s n d r) = []
 kind_arguments (written.arrow s To l r) = (Persistent, None, (reading l).as_type) ∷ kind_arguments r
@@ -169,16 +169,16 @@ kind_arguments (written.top s) = []
 kind_arguments (written.one s) = []
 kind_arguments (written.braced s b) = []
 
-abbrev pub class_by : Bool → written.Surface → Class
+abbrev pub class_by : Bool → written.WrittenType → DesugaredClass
 class_by true t = of_family (telescope_of (kind_arguments t))
 class_by false t = of_constant (reading t).as_type
 
 -- what a declaration declares
-abbrev pub class : written.Surface → Class
+abbrev pub class : written.WrittenType → DesugaredClass
 class t = class_by (is_kind t) t
 
 -- the type of a trace, without the braces around the whole
-abbrev pub unbraced : written.Surface → written.Surface
+abbrev pub unbraced : written.WrittenType → written.WrittenType
 unbraced (written.pi s n d r) = written.pi s n d r
 unbraced (written.exists s n d r) = written.exists s n d r
 unbraced (written.arrow s k l r) = written.arrow s k l r
@@ -202,7 +202,7 @@ implicit None = 0
 implicit (Some (Number v s)) = min v (2 ^ 32 - 1)
 implicit (Some Star) = 0
 
-abbrev pub body : written.Body → PlainBody
+abbrev pub body : written.WrittenBody → DesugaredBody
 body (written.declare n i t) = declare n (implicit i) (class t)
 body (written.query d e l a t) = query (number d) (number e) (number l) (number a) (reading t).as_type
 -- #trace n {S}. is read as #trace n S.
@@ -211,5 +211,5 @@ body (written.equal l r t) = equal (object l) (object r) (reading t).as_type
 body (written.check o t) = check (object o) (reading t).as_type
 
 -- the plain item of an item
-abbrev pub desugared : written.PlainItem → PlainItem
+abbrev pub desugared : written.WrittenItem → DesugaredItem
 desugared i = record { span = i.span; body = body i.body }

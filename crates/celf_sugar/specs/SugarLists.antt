@@ -8,43 +8,43 @@ use Rattle.celf_surface.specs.declared.surface.SExpr.{SExpr, out-SExpr}
 use Rattle.celf_surface.specs.Surface as written
 use Rattle.celf_sugar.specs.declared.plain.PName.{PName}
 use Rattle.celf_sugar.specs.declared.plain.PBinder.{PBinder}
-use Rattle.celf_sugar.specs.PlainTree.{Act, argument, Spine, step, spine_of, steps_of, PlainType, Entry, function}
+use Rattle.celf_sugar.specs.PlainTree.{DesugaredAct, argument, DesugaredSpine, step, spine_of, steps_of, DesugaredType, DesugaredEntry, function}
 use Rattle.celf_sugar.specs.Sugar.{binders, all_binders, head, object, acts, arguments, steps, entries_of_tuple, entries_of_tuples, functions}
 
 -- an argument
-abbrev pub act_of : SMode × written.Object → Act
+abbrev pub act_of : SMode × written.WrittenObject → DesugaredAct
 act_of a = argument a.0 (object a.1)
 
 -- a step
-abbrev pub plain_step_of : written.Pattern × written.Object → List PBinder × PName × Spine
+abbrev pub plain_step_of : written.WrittenPattern × written.WrittenObject → List PBinder × PName × DesugaredSpine
 plain_step_of s = (binders s.0, head s.1, spine_of (acts s.1))
 
-pub arguments-mapped : (as_ : List (SMode × written.Object)) → arguments (written.arguments_of as_) ≡ map act_of as_
+pub arguments-mapped : (as_ : List (SMode × written.WrittenObject)) → arguments (written.arguments_of as_) ≡ map act_of as_
 arguments-mapped [] = refl
 arguments-mapped (a ∷ as_) = ap (λ xs. act_of a ∷ xs) (arguments-mapped as_)
 
-pub steps-mapped : (ss : List (written.Pattern × written.Object)) → steps (written.steps_of ss) ≡ steps_of (map plain_step_of ss)
+pub steps-mapped : (ss : List (written.WrittenPattern × written.WrittenObject)) → steps (written.steps_of ss) ≡ steps_of (map plain_step_of ss)
 steps-mapped [] = refl
 steps-mapped (s ∷ ss) = ap (step (binders s.0) (head s.1) (spine_of (acts s.1))) (steps-mapped ss)
 
-pub tuples-joined : (ts : List written.Tuple) → entries_of_tuples (written.tuples_of ts) ≡ flat_map entries_of_tuple ts
+pub tuples-joined : (ts : List written.WrittenTuple) → entries_of_tuples (written.tuples_of ts) ≡ flat_map entries_of_tuple ts
 tuples-joined [] = refl
 tuples-joined (t ∷ ts) = ap (λ xs. entries_of_tuple t ++ xs) (tuples-joined ts)
 
-pub patterns-joined : (ps : List written.Pattern) → all_binders (written.patterns_of ps) ≡ flat_map binders ps
+pub patterns-joined : (ps : List written.WrittenPattern) → all_binders (written.patterns_of ps) ≡ flat_map binders ps
 patterns-joined [] = refl
 patterns-joined (p ∷ ps) = ap (λ xs. binders p ++ xs) (patterns-joined ps)
 
 -- the last entry of some is the function next to the type
-pub functions-last : (s : Span) (es : List Entry) (e : Entry) (b : PlainType) → functions s (es ++ e ∷ []) b ≡ functions s es (function s e.0 e.1 e.2 b)
+pub functions-last : (s : Span) (es : List DesugaredEntry) (e : DesugaredEntry) (b : DesugaredType) → functions s (es ++ e ∷ []) b ≡ functions s es (function s e.0 e.1 e.2 b)
 functions-last s [] e b = refl
 functions-last s (d ∷ es) e b = ap (function s d.0 d.1 d.2) (functions-last s es e b)
 
 pub expression-steps : (e : SExpr) → (written.expression_tree e).0 ≡ written.steps_of (map written.step_tree (out-SExpr e).steps)
-expression-steps e = ap (λ (p : written.Steps × written.Tuple). p.0) (written.expression-of e)
+expression-steps e = ap (λ (p : written.WrittenSteps × written.WrittenTuple). p.0) (written.expression-of e)
 
 pub expression-result : (e : SExpr) → (written.expression_tree e).1 ≡ written.tuple_tree (out-SExpr e).result
-expression-result e = ap (λ (p : written.Steps × written.Tuple). p.1) (written.expression-of e)
+expression-result e = ap (λ (p : written.WrittenSteps × written.WrittenTuple). p.1) (written.expression-of e)
 
 pub ruleset sugar_laws = (expression-steps, expression-result, arguments-mapped, steps-mapped, tuples-joined, patterns-joined)
 

@@ -1,7 +1,7 @@
 //! Plain items.
 ghost use Rattle.std.specs.Prelude.{◌≡◌, IfOk, IfErr, OnOk, Option, None};
-ghost use Rattle.celf_surface.specs.Surface.{surface, object_tree, plain_item as written_item, body_of as written_body, declare, query as query_of, trace as trace_of, equal as equal_of, check as check_of};
-ghost use Rattle.celf_sugar.specs.Plain.{plain_item, body_of};
+ghost use Rattle.celf_surface.specs.Surface.{surface, object_tree, written_item, body_of as written_body, declare, query as query_of, trace as trace_of, equal as equal_of, check as check_of};
+ghost use Rattle.celf_sugar.specs.Plain.{desugared_item, body_of};
 ghost use Rattle.celf_sugar.specs.Sugar.{desugared, body as plain_body};
 ghost use Rattle.celf_sugar.specs.Faults.{first_of, first_fault};
 ghost use Rattle.celf_sugar.specs.Answers.{IsFirst};
@@ -22,7 +22,7 @@ use std::alloc::Global;
 /// `NoMemory` comes only where memory runs out.
 #[tactic(auto, using(crate::proofs::AnswerLaws::answer_laws))]
 pub fn desugar(alloc: Global, item: &Item) -> Result<Plain, SugarFault>
-    ensures plain { IfOk result (λ p. plain_item p ≡ desugared (written_item item.now)) }
+    ensures plain { IfOk result (λ p. desugared_item p ≡ desugared (written_item item.now)) }
     ensures clean { OnOk result (first_fault (written_item item.now) ≡ None) }
     ensures fault { IfErr result (λ f. IsFirst f (first_fault (written_item item.now))) }
 {

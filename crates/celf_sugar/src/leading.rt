@@ -1,6 +1,6 @@
 //! The persistent functions or arguments that a declaration's class begins with.
 ghost use Rattle.std.specs.Prelude.{◌≡◌, ◌+◌, ◌-◌, ◌^◌, min, MatchOption};
-ghost use Rattle.celf_sugar.specs.Plain.{plain_type, class_of};
+ghost use Rattle.celf_sugar.specs.Plain.{desugared_type, class_of};
 ghost use Rattle.celf_sugar.specs.Faults.{leading as leading_of};
 ghost use Rattle.celf_sugar.specs.ClassLeading.{class_leading as class_leading_of};
 
@@ -19,7 +19,7 @@ pub fn class_leading(class: &PClass) -> u64
 }
 
 fn leading(ty: &PTy) -> u64
-    ensures { result ≡ min (leading_of (plain_type ty.now)) (2 ^ 64 - 1) }
+    ensures { result ≡ min (leading_of (desugared_type ty.now)) (2 ^ 64 - 1) }
 {
     let mut count: u64 = 0;
     let mut rest = ty;
@@ -33,7 +33,7 @@ fn leading(ty: &PTy) -> u64
 /// The type behind the persistent function that a type begins with.
 #[tactic(auto, using(crate::specs::Plain::plain_laws))]
 fn behind_persistent(ty: &PTy) -> Option<&PTy>
-    ensures { MatchOption result (leading_of (plain_type ty.now) ≡ 0) (λ next. leading_of (plain_type ty.now) ≡ leading_of (plain_type next.now) + 1) }
+    ensures { MatchOption result (leading_of (desugared_type ty.now) ≡ 0) (λ next. leading_of (desugared_type ty.now) ≡ leading_of (desugared_type next.now) + 1) }
 {
     match &ty.form {
         PTyForm::Fun {

@@ -1,6 +1,6 @@
 //! Numbers and their ranges.
 ghost use Rattle.std.specs.Prelude.{◌≡◌, ◌-◌, ◌^◌, min, ℕ};
-ghost use Rattle.celf_surface.specs.Surface.{Surface};
+ghost use Rattle.celf_surface.specs.Surface.{WrittenType};
 ghost use Rattle.celf_sugar.specs.Earliest.{earliest};
 ghost use Rattle.celf_sugar.specs.Faults.{start, outside as outside_of, leading as leading_of, too_many as too_many_of, implicit_outside as implicit_outside_of};
 ghost use Rattle.celf_sugar.specs.Sugar.{number as number_of, implicit as implicit_of, reading};
@@ -35,7 +35,7 @@ pub fn implicit_outside(implicit: Option<Bound>) -> Option<Span>
 
 /// The span of a number of implicit arguments greater than `leading`, the number of persistent functions or arguments that the type or kind begins with.
 pub fn too_many(implicit: Option<Bound>, leading: u64) -> Option<Span>
-    ensures { (t : Surface) → min (leading_of (reading t).as_type) (2 ^ 64 - 1) ≡ leading → result ≡ earliest start (too_many_of implicit t) }
+    ensures { (t : WrittenType) → min (leading_of (reading t).as_type) (2 ^ 64 - 1) ≡ leading → result ≡ earliest start (too_many_of implicit t) }
 {
     match implicit {
         None | Some(Bound::Star) => None,

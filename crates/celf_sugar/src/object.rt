@@ -4,7 +4,7 @@ ghost use Rattle.std.specs.List.{flat_map};
 ghost use Rattle.celf_surface.specs.declared.surface.SObj.{out-SObj};
 ghost use Rattle.celf_surface.specs.Surface.{object_tree, argument_tree, step_tree, tuple_tree, expression_tree, pattern_tree};
 ghost use Rattle.celf_sugar.specs.PlainTree.{tuple_of};
-ghost use Rattle.celf_sugar.specs.Plain.{plain_object, plain_form, plain_elim, plain_step, plain_marked, plain_expression};
+ghost use Rattle.celf_sugar.specs.Plain.{desugared_object, desugared_form, desugared_elim, desugared_step, desugared_marked, desugared_expression};
 ghost use Rattle.celf_sugar.specs.Sugar.{object as object_of, head as head_of, acts as acts_of, steps as steps_of, entries_of_tuple, binders as binders_of, mark as mark_of};
 ghost use Rattle.celf_sugar.specs.SugarLists.{act_of, plain_step_of};
 
@@ -18,7 +18,7 @@ use std::alloc::{AllocError, Global};
 #[cycle(object)]
 #[tactic(auto, using(crate::specs::Plain::object_laws))]
 pub fn object(alloc: Global, obj: &SObj) -> Result<PObj, AllocError>
-    ensures { IfOk result (λ o. plain_object o ≡ object_of (object_tree obj.now)) }
+    ensures { IfOk result (λ o. desugared_object o ≡ object_of (object_tree obj.now)) }
 {
     Ok(PObj {
         span: obj.span,
@@ -29,7 +29,7 @@ pub fn object(alloc: Global, obj: &SObj) -> Result<PObj, AllocError>
 /// The plain object of an object, in a box.
 #[cycle(object)]
 pub fn boxed_object(alloc: Global, obj: &SObj) -> Result<Boxed<PObj>, AllocError>
-    ensures { IfOk result (λ o. plain_object o ≡ object_of (object_tree obj.now)) }
+    ensures { IfOk result (λ o. desugared_object o ≡ object_of (object_tree obj.now)) }
 {
     Boxed::new(alloc, object(alloc, obj)?)
 }
@@ -37,7 +37,7 @@ pub fn boxed_object(alloc: Global, obj: &SObj) -> Result<Boxed<PObj>, AllocError
 #[cycle(object)]
 #[tactic(auto, using(crate::specs::SugarLists::written_object_laws, crate::specs::Plain::form_laws))]
 fn object_form(alloc: Global, obj: &SObj) -> Result<PObjForm, AllocError>
-    ensures { IfOk result (λ f. plain_form f (out-SObj obj.now).span ≡ object_of (object_tree obj.now)) }
+    ensures { IfOk result (λ f. desugared_form f (out-SObj obj.now).span ≡ object_of (object_tree obj.now)) }
 {
     match &obj.form {
         SObjForm::Lam { mode, name, body } => {
@@ -100,7 +100,7 @@ fn head_name(alloc: Global, obj: &SObj) -> Result<PName, AllocError>
 #[cycle(object)]
 #[tactic(auto, using(crate::specs::SugarLists::written_object_laws, crate::specs::Plain::elim_laws, crate::specs::SugarLists::sugar_laws))]
 fn spine_of_head(alloc: Global, obj: &SObj) -> Result<Items<PElim>, AllocError>
-    ensures { IfOk result (λ es. map plain_elim es ≡ acts_of (object_tree obj.now)) }
+    ensures { IfOk result (λ es. map desugared_elim es ≡ acts_of (object_tree obj.now)) }
 {
     match &obj.form {
         SObjForm::App { head, args } => {
@@ -120,7 +120,7 @@ fn spine_of_head(alloc: Global, obj: &SObj) -> Result<Items<PElim>, AllocError>
 
 /// A spine with more behind it.
 fn joined(spine: Items<PElim>, more: Items<PElim>) -> Result<Items<PElim>, AllocError>
-    ensures { IfOk result (λ es. map plain_elim es ≡ map plain_elim spine ++ map plain_elim more) }
+    ensures { IfOk result (λ es. map desugared_elim es ≡ map desugared_elim spine ++ map desugared_elim more) }
 {
     let mut spine = spine;
     spine.append(more)?;
@@ -129,7 +129,7 @@ fn joined(spine: Items<PElim>, more: Items<PElim>) -> Result<Items<PElim>, Alloc
 
 /// A spine with a projection behind it.
 fn projected(spine: Items<PElim>, projection: PElim) -> Result<Items<PElim>, AllocError>
-    ensures { IfOk result (λ es. map plain_elim es ≡ map plain_elim spine ++ plain_elim projection ∷ []) }
+    ensures { IfOk result (λ es. map desugared_elim es ≡ map desugared_elim spine ++ desugared_elim projection ∷ []) }
 {
     let mut spine = spine;
     spine.push(projection)?;
@@ -138,7 +138,7 @@ fn projected(spine: Items<PElim>, projection: PElim) -> Result<Items<PElim>, All
 
 #[cycle(object)]
 fn arguments(alloc: Global, args: &[SArg]) -> Result<Items<PElim>, AllocError>
-    ensures { IfOk result (λ es. map plain_elim es ≡ map act_of (map argument_tree args.now)) }
+    ensures { IfOk result (λ es. map desugared_elim es ≡ map act_of (map argument_tree args.now)) }
 {
     let mut elims = Items::new(alloc);
     for arg in args {
@@ -150,7 +150,7 @@ fn arguments(alloc: Global, args: &[SArg]) -> Result<Items<PElim>, AllocError>
 #[cycle(object)]
 #[tactic(auto, using(crate::specs::SugarLists::written_part_laws, crate::specs::Plain::elim_laws))]
 fn argument(alloc: Global, arg: &SArg) -> Result<PElim, AllocError>
-    ensures { IfOk result (λ e. plain_elim e ≡ act_of (argument_tree arg.now)) }
+    ensures { IfOk result (λ e. desugared_elim e ≡ act_of (argument_tree arg.now)) }
 {
     Ok(PElim::Arg {
         mode: arg.mode,
@@ -161,7 +161,7 @@ fn argument(alloc: Global, arg: &SArg) -> Result<PElim, AllocError>
 #[cycle(object)]
 #[tactic(auto, using(crate::specs::Plain::expression_laws, crate::specs::SugarLists::sugar_laws))]
 fn expression(alloc: Global, expr: &SExpr) -> Result<PExpr, AllocError>
-    ensures { IfOk result (λ e. plain_expression e ≡ (steps_of (expression_tree expr.now).0, tuple_of (entries_of_tuple (expression_tree expr.now).1))) }
+    ensures { IfOk result (λ e. desugared_expression e ≡ (steps_of (expression_tree expr.now).0, tuple_of (entries_of_tuple (expression_tree expr.now).1))) }
 {
     let steps = steps(alloc, expr.steps.as_slice())?;
     Ok(PExpr {
@@ -172,7 +172,7 @@ fn expression(alloc: Global, expr: &SExpr) -> Result<PExpr, AllocError>
 
 #[cycle(object)]
 fn steps(alloc: Global, steps: &[SStep]) -> Result<Items<PStep>, AllocError>
-    ensures { IfOk result (λ ss. map plain_step ss ≡ map plain_step_of (map step_tree steps.now)) }
+    ensures { IfOk result (λ ss. map desugared_step ss ≡ map plain_step_of (map step_tree steps.now)) }
 {
     let mut plain = Items::new(alloc);
     for written in steps {
@@ -184,7 +184,7 @@ fn steps(alloc: Global, steps: &[SStep]) -> Result<Items<PStep>, AllocError>
 #[cycle(object)]
 #[tactic(auto, using(crate::specs::SugarLists::written_part_laws, crate::specs::Plain::step_laws))]
 fn step(alloc: Global, step: &SStep) -> Result<PStep, AllocError>
-    ensures { IfOk result (λ s. plain_step s ≡ plain_step_of (step_tree step.now)) }
+    ensures { IfOk result (λ s. desugared_step s ≡ plain_step_of (step_tree step.now)) }
 {
     let pattern = binders(alloc, &step.pattern)?;
     let head = head_name(alloc, &step.rhs)?;
@@ -199,7 +199,7 @@ fn step(alloc: Global, step: &SStep) -> Result<PStep, AllocError>
 #[cycle(object)]
 #[tactic(auto, using(crate::specs::SugarLists::written_tuple_laws, crate::specs::SugarLists::sugar_laws))]
 fn tuple(alloc: Global, tuple: &STuple) -> Result<Items<PMarked>, AllocError>
-    ensures { IfOk result (λ es. map plain_marked es ≡ entries_of_tuple (tuple_tree tuple.now)) }
+    ensures { IfOk result (λ es. map desugared_marked es ≡ entries_of_tuple (tuple_tree tuple.now)) }
 {
     match tuple {
         STuple::One => Ok(Items::new(alloc)),
@@ -211,7 +211,7 @@ fn tuple(alloc: Global, tuple: &STuple) -> Result<Items<PMarked>, AllocError>
 
 #[cycle(object)]
 fn tuples(alloc: Global, tuples: &[STuple]) -> Result<Items<PMarked>, AllocError>
-    ensures { IfOk result (λ es. map plain_marked es ≡ flat_map entries_of_tuple (map tuple_tree tuples.now)) }
+    ensures { IfOk result (λ es. map desugared_marked es ≡ flat_map entries_of_tuple (map tuple_tree tuples.now)) }
 {
     let mut entries = Items::new(alloc);
     for part in tuples {
@@ -224,7 +224,7 @@ fn tuples(alloc: Global, tuples: &[STuple]) -> Result<Items<PMarked>, AllocError
 #[cycle(object)]
 #[tactic(auto, using(crate::specs::Plain::marked_laws))]
 fn marked(alloc: Global, mode: SMode, obj: &SObj) -> Result<Items<PMarked>, AllocError>
-    ensures { IfOk result (λ es. map plain_marked es ≡ (mode, object_of (object_tree obj.now)) ∷ []) }
+    ensures { IfOk result (λ es. map desugared_marked es ≡ (mode, object_of (object_tree obj.now)) ∷ []) }
 {
     let mut entries = Items::new(alloc);
     entries.push(PMarked {

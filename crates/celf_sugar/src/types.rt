@@ -2,7 +2,7 @@
 ghost use Rattle.std.specs.Prelude.{◌≡◌, ◌∷◌, ◌++◌, [], IfOk, map, Some, None};
 ghost use Rattle.clf_syntax.specs.declared.tree.Mode.TheVariants.{Persistent};
 ghost use Rattle.celf_surface.specs.Surface.{surface, object_tree};
-ghost use Rattle.celf_sugar.specs.Plain.{plain_type, plain_entry, plain_object, class_of};
+ghost use Rattle.celf_sugar.specs.Plain.{desugared_type, desugared_entry, desugared_object, class_of};
 ghost use Rattle.celf_sugar.specs.Sugar.{reading, functions as functions_of, is_kind as is_kind_of, kind_arguments as kind_arguments_of, class as class_of_type, object as object_of, unbraced as unbraced_of};
 ghost use Rattle.celf_sugar.specs.PlainTree.{function, both, family, monad, top, telescope_of};
 
@@ -17,7 +17,7 @@ use std::alloc::{AllocError, Global};
 #[cycle(types)]
 #[tactic(auto, using(crate::specs::SugarLists::written_type_laws))]
 pub fn plain_type_of(alloc: Global, ty: &SType) -> Result<PTy, AllocError>
-    ensures { IfOk result (λ t. plain_type t ≡ (reading (surface ty.now)).as_type) }
+    ensures { IfOk result (λ t. desugared_type t ≡ (reading (surface ty.now)).as_type) }
 {
     match &ty.form {
         STypeForm::Pi { name, dom, rest } => {
@@ -73,7 +73,7 @@ pub fn plain_type_of(alloc: Global, ty: &SType) -> Result<PTy, AllocError>
 /// The plain type of a type, in a box.
 #[cycle(types)]
 fn boxed_type(alloc: Global, ty: &SType) -> Result<Boxed<PTy>, AllocError>
-    ensures { IfOk result (λ t. plain_type t ≡ (reading (surface ty.now)).as_type) }
+    ensures { IfOk result (λ t. desugared_type t ≡ (reading (surface ty.now)).as_type) }
 {
     Boxed::new(alloc, plain_type_of(alloc, ty)?)
 }
@@ -87,7 +87,7 @@ fn pi_type(
     name: &Name,
     dom: Boxed<PTy>,
 ) -> Result<PTy, AllocError>
-    ensures { IfOk result (λ t. plain_type t ≡ function span Persistent (Some name.now) (plain_type dom) (reading (surface cod.now)).as_type) }
+    ensures { IfOk result (λ t. desugared_type t ≡ function span Persistent (Some name.now) (desugared_type dom) (reading (surface cod.now)).as_type) }
 {
     let cod = boxed_type(alloc, cod)?;
     let name = name.copy(alloc)?;
@@ -103,7 +103,7 @@ fn arrow_type(
     mode: Mode,
     dom: Boxed<PTy>,
 ) -> Result<PTy, AllocError>
-    ensures { IfOk result (λ t. plain_type t ≡ function span mode None (plain_type dom) (reading (surface cod.now)).as_type) }
+    ensures { IfOk result (λ t. desugared_type t ≡ function span mode None (desugared_type dom) (reading (surface cod.now)).as_type) }
 {
     let cod = boxed_type(alloc, cod)?;
     Ok(function_type(span, mode, None, dom, cod))
@@ -117,7 +117,7 @@ fn lolli_type(
     span: Span,
     doms: Items<PEntry>,
 ) -> Result<PTy, AllocError>
-    ensures { IfOk result (λ t. plain_type t ≡ functions_of span (map plain_entry doms) (reading (surface cod.now)).as_type) }
+    ensures { IfOk result (λ t. desugared_type t ≡ functions_of span (map desugared_entry doms) (reading (surface cod.now)).as_type) }
 {
     let cod = boxed_type(alloc, cod)?;
     functions(alloc, span, doms, cod)
@@ -126,7 +126,7 @@ fn lolli_type(
 /// A type, given the left one of the two that it is both of.
 #[cycle(types)]
 fn with_type(alloc: Global, right: &SType, span: Span, left: Boxed<PTy>) -> Result<PTy, AllocError>
-    ensures { IfOk result (λ t. plain_type t ≡ both span (plain_type left) (reading (surface right.now)).as_type) }
+    ensures { IfOk result (λ t. desugared_type t ≡ both span (desugared_type left) (reading (surface right.now)).as_type) }
 {
     let right = boxed_type(alloc, right)?;
     Ok(both_type(span, left, right))
@@ -136,7 +136,7 @@ fn with_type(alloc: Global, right: &SType, span: Span, left: Boxed<PTy>) -> Resu
 #[cycle(types)]
 #[tactic(auto, using(crate::specs::SugarLists::written_type_laws))]
 pub fn entries(alloc: Global, ty: &SType) -> Result<Items<PEntry>, AllocError>
-    ensures { IfOk result (λ es. map plain_entry es ≡ (reading (surface ty.now)).as_entries) }
+    ensures { IfOk result (λ es. map desugared_entry es ≡ (reading (surface ty.now)).as_entries) }
 {
     match &ty.form {
         STypeForm::Exists { name, dom, rest } => {
@@ -174,7 +174,7 @@ fn entries_behind(
     name: Name,
     dom: PTy,
 ) -> Result<Items<PEntry>, AllocError>
-    ensures { IfOk result (λ es. map plain_entry es ≡ (Persistent, Some name, plain_type dom) ∷ (reading (surface rest.now)).as_entries) }
+    ensures { IfOk result (λ es. map desugared_entry es ≡ (Persistent, Some name, desugared_type dom) ∷ (reading (surface rest.now)).as_entries) }
 {
     let bound = bound_entry(alloc, name, dom)?;
     joined(bound, entries(alloc, rest)?)
@@ -188,7 +188,7 @@ fn entries_of_factors(
     factors: &SType,
     first: Items<PEntry>,
 ) -> Result<Items<PEntry>, AllocError>
-    ensures { IfOk result (λ es. map plain_entry es ≡ map plain_entry first ++ (reading (surface factors.now)).as_entries) }
+    ensures { IfOk result (λ es. map desugared_entry es ≡ map desugared_entry first ++ (reading (surface factors.now)).as_entries) }
 {
     let mut found = first;
     let mut rest = factors;
@@ -201,7 +201,7 @@ fn entries_of_factors(
 
 /// Some entries, and more behind them.
 fn joined(entries: Items<PEntry>, more: Items<PEntry>) -> Result<Items<PEntry>, AllocError>
-    ensures { IfOk result (λ es. map plain_entry es ≡ map plain_entry entries ++ map plain_entry more) }
+    ensures { IfOk result (λ es. map desugared_entry es ≡ map desugared_entry entries ++ map desugared_entry more) }
 {
     let mut entries = entries;
     entries.append(more)?;
@@ -210,7 +210,7 @@ fn joined(entries: Items<PEntry>, more: Items<PEntry>) -> Result<Items<PEntry>, 
 
 /// One persistent entry alone, which binds a name.
 fn bound_entry(alloc: Global, name: Name, ty: PTy) -> Result<Items<PEntry>, AllocError>
-    ensures { IfOk result (λ es. map plain_entry es ≡ (Persistent, Some name, plain_type ty) ∷ []) }
+    ensures { IfOk result (λ es. map desugared_entry es ≡ (Persistent, Some name, desugared_type ty) ∷ []) }
 {
     one_entry(alloc, Mode::Persistent, Some(name), ty)
 }
@@ -223,7 +223,7 @@ fn one_entry(
     name: Option<Name>,
     ty: PTy,
 ) -> Result<Items<PEntry>, AllocError>
-    ensures { IfOk result (λ es. map plain_entry es ≡ (mode, name, plain_type ty) ∷ []) }
+    ensures { IfOk result (λ es. map desugared_entry es ≡ (mode, name, desugared_type ty) ∷ []) }
 {
     let mut entries = Items::new(alloc);
     entries.push(PEntry { mode, name, ty })?;
@@ -237,7 +237,7 @@ fn function_type(
     dom: Boxed<PTy>,
     cod: Boxed<PTy>,
 ) -> PTy
-    ensures { plain_type result ≡ function span mode name (plain_type dom) (plain_type cod) }
+    ensures { desugared_type result ≡ function span mode name (desugared_type dom) (desugared_type cod) }
 {
     PTy {
         span,
@@ -251,7 +251,7 @@ fn function_type(
 }
 
 fn both_type(span: Span, left: Boxed<PTy>, right: Boxed<PTy>) -> PTy
-    ensures { plain_type result ≡ both span (plain_type left) (plain_type right) }
+    ensures { desugared_type result ≡ both span (desugared_type left) (desugared_type right) }
 {
     PTy {
         span,
@@ -267,7 +267,7 @@ fn family_type(
     at: Span,
     indices: &[SObj],
 ) -> Result<PTy, AllocError>
-    ensures { IfOk result (λ t. plain_type t ≡ family span (record { name = name.now; dollar = dollar; span = at }) (map object_of (map object_tree indices.now))) }
+    ensures { IfOk result (λ t. desugared_type t ≡ family span (record { name = name.now; dollar = dollar; span = at }) (map object_of (map object_tree indices.now))) }
 {
     let head = PName {
         name: name.copy(alloc)?,
@@ -282,7 +282,7 @@ fn family_type(
 }
 
 fn monad_type(span: Span, entries: Items<PEntry>) -> PTy
-    ensures { plain_type result ≡ monad span (telescope_of (map plain_entry entries)) }
+    ensures { desugared_type result ≡ monad span (telescope_of (map desugared_entry entries)) }
 {
     let tele = PTele { entries };
     PTy {
@@ -292,7 +292,7 @@ fn monad_type(span: Span, entries: Items<PEntry>) -> PTy
 }
 
 fn top_type(span: Span) -> PTy
-    ensures { plain_type result ≡ top span }
+    ensures { desugared_type result ≡ top span }
 {
     PTy {
         span,
@@ -307,7 +307,7 @@ fn functions(
     doms: Items<PEntry>,
     cod: Boxed<PTy>,
 ) -> Result<PTy, AllocError>
-    ensures { IfOk result (λ t. plain_type t ≡ functions_of span (map plain_entry doms) (plain_type cod)) }
+    ensures { IfOk result (λ t. desugared_type t ≡ functions_of span (map desugared_entry doms) (desugared_type cod)) }
 {
     let mut doms = doms;
     let mut cod = cod;
@@ -324,7 +324,7 @@ fn function_of_entry(
     entry: PEntry,
     cod: Boxed<PTy>,
 ) -> Result<Boxed<PTy>, AllocError>
-    ensures { IfOk result (λ t. plain_type t ≡ function span (plain_entry entry).0 (plain_entry entry).1 (plain_entry entry).2 (plain_type cod)) }
+    ensures { IfOk result (λ t. desugared_type t ≡ function span (desugared_entry entry).0 (desugared_entry entry).1 (desugared_entry entry).2 (desugared_type cod)) }
 {
     let PEntry { mode, name, ty } = entry;
     let dom = Boxed::new(alloc, ty)?;
@@ -332,7 +332,7 @@ fn function_of_entry(
 }
 
 fn plain_objects(alloc: Global, objs: &[SObj]) -> Result<Items<PObj>, AllocError>
-    ensures { IfOk result (λ os. map plain_object os ≡ map object_of (map object_tree objs.now)) }
+    ensures { IfOk result (λ os. map desugared_object os ≡ map object_of (map object_tree objs.now)) }
 {
     let mut plain = Items::new(alloc);
     for obj in objs {
@@ -386,7 +386,7 @@ fn is_kind(ty: &SType) -> bool
 #[cycle(kind_arguments)]
 #[tactic(auto, using(crate::specs::SugarLists::written_type_laws))]
 fn kind_arguments(alloc: Global, ty: &SType) -> Result<Items<PEntry>, AllocError>
-    ensures { IfOk result (λ es. map plain_entry es ≡ kind_arguments_of (surface ty.now)) }
+    ensures { IfOk result (λ es. map desugared_entry es ≡ kind_arguments_of (surface ty.now)) }
 {
     match &ty.form {
         STypeForm::Pi { name, dom, rest } => {
@@ -418,7 +418,7 @@ fn arguments_behind(
     name: Option<Name>,
     dom: &SType,
 ) -> Result<Items<PEntry>, AllocError>
-    ensures { IfOk result (λ es. map plain_entry es ≡ (Persistent, name, (reading (surface dom.now)).as_type) ∷ kind_arguments_of (surface rest.now)) }
+    ensures { IfOk result (λ es. map desugared_entry es ≡ (Persistent, name, (reading (surface dom.now)).as_type) ∷ kind_arguments_of (surface rest.now)) }
 {
     let dom = plain_type_of(alloc, dom)?;
     let argument = one_entry(alloc, Mode::Persistent, name, dom)?;

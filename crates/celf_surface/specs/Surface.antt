@@ -26,87 +26,87 @@ use denote.Hole.Carrier.{roll}
 
 -- what a let binds; a name None is _
 mutual
-  pub data Pattern : Type 0 where
-    pattern_one : Pattern
-    pattern_entry : SMode → Option (List ℕ) → Pattern
-    pattern_list : Patterns → Pattern
+  pub data WrittenPattern : Type 0 where
+    pattern_one : WrittenPattern
+    pattern_entry : SMode → Option (List ℕ) → WrittenPattern
+    pattern_list : WrittenPatterns → WrittenPattern
 
-  pub data Patterns : Type 0 where
-    no_patterns : Patterns
-    patterns_and : Pattern → Patterns → Patterns
+  pub data WrittenPatterns : Type 0 where
+    no_patterns : WrittenPatterns
+    patterns_and : WrittenPattern → WrittenPatterns → WrittenPatterns
 
 -- Objects, each with the bytes that it covers. A name None is _, and the Bool of a name tells that it is written $c.
 mutual
-  pub data Object : Type 0 where
-    lam : Span → SMode → Option (List ℕ) → Object → Object
-    app : Span → Object → Arguments → Object
-    named : Span → List ℕ → Bool → Object
-    hole : Span → Object
-    unit : Span → Object
-    pair : Span → Object → Object → Object
-    braces : Span → Steps → Tuple → Object
-    first : Span → Object → Object
-    second : Span → Object → Object
+  pub data WrittenObject : Type 0 where
+    lam : Span → SMode → Option (List ℕ) → WrittenObject → WrittenObject
+    app : Span → WrittenObject → WrittenArguments → WrittenObject
+    named : Span → List ℕ → Bool → WrittenObject
+    hole : Span → WrittenObject
+    unit : Span → WrittenObject
+    pair : Span → WrittenObject → WrittenObject → WrittenObject
+    braces : Span → WrittenSteps → WrittenTuple → WrittenObject
+    first : Span → WrittenObject → WrittenObject
+    second : Span → WrittenObject → WrittenObject
 
-  pub data Arguments : Type 0 where
-    no_arguments : Arguments
-    argument : SMode → Object → Arguments → Arguments
+  pub data WrittenArguments : Type 0 where
+    no_arguments : WrittenArguments
+    argument : SMode → WrittenObject → WrittenArguments → WrittenArguments
 
   -- let {pattern} = object in
-  pub data Steps : Type 0 where
-    no_steps : Steps
-    step : Pattern → Object → Steps → Steps
+  pub data WrittenSteps : Type 0 where
+    no_steps : WrittenSteps
+    step : WrittenPattern → WrittenObject → WrittenSteps → WrittenSteps
 
-  pub data Tuple : Type 0 where
-    tuple_one : Tuple
-    tuple_list : Tuples → Tuple
-    tuple_marked : Mode → Object → Tuple
-    tuple_bare : Object → Tuple
+  pub data WrittenTuple : Type 0 where
+    tuple_one : WrittenTuple
+    tuple_list : WrittenTuples → WrittenTuple
+    tuple_marked : Mode → WrittenObject → WrittenTuple
+    tuple_bare : WrittenObject → WrittenTuple
 
-  pub data Tuples : Type 0 where
-    no_tuples : Tuples
-    tuples_and : Tuple → Tuples → Tuples
+  pub data WrittenTuples : Type 0 where
+    no_tuples : WrittenTuples
+    tuples_and : WrittenTuple → WrittenTuples → WrittenTuples
 
 -- Types, each with the bytes that it covers. The second span of a family is that of its name, with its $.
-pub data Surface : Type 0 where
-  pi : Span → List ℕ → Surface → Surface → Surface
-  exists : Span → List ℕ → Surface → Surface → Surface
-  arrow : Span → Arrow → Surface → Surface → Surface
-  tensor : Span → Surface → Surface → Surface
-  marked : Span → Mode → Surface → Surface
-  both : Span → Surface → Surface → Surface
-  type_word : Span → Surface
-  family : Span → List ℕ → Bool → Span → List Object → Surface
-  top : Span → Surface
-  one : Span → Surface
-  braced : Span → Surface → Surface
+pub data WrittenType : Type 0 where
+  pi : Span → List ℕ → WrittenType → WrittenType → WrittenType
+  exists : Span → List ℕ → WrittenType → WrittenType → WrittenType
+  arrow : Span → Arrow → WrittenType → WrittenType → WrittenType
+  tensor : Span → WrittenType → WrittenType → WrittenType
+  marked : Span → Mode → WrittenType → WrittenType
+  both : Span → WrittenType → WrittenType → WrittenType
+  type_word : Span → WrittenType
+  family : Span → List ℕ → Bool → Span → List WrittenObject → WrittenType
+  top : Span → WrittenType
+  one : Span → WrittenType
+  braced : Span → WrittenType → WrittenType
 
 -- lists as parts of a tree
-abbrev pub patterns_of : List Pattern → Patterns
+abbrev pub patterns_of : List WrittenPattern → WrittenPatterns
 patterns_of [] = no_patterns
 patterns_of (p ∷ ps) = patterns_and p (patterns_of ps)
 
-abbrev pub arguments_of : List (SMode × Object) → Arguments
+abbrev pub arguments_of : List (SMode × WrittenObject) → WrittenArguments
 arguments_of [] = no_arguments
 arguments_of (a ∷ as_) = argument a.0 a.1 (arguments_of as_)
 
-abbrev pub steps_of : List (Pattern × Object) → Steps
+abbrev pub steps_of : List (WrittenPattern × WrittenObject) → WrittenSteps
 steps_of [] = no_steps
 steps_of (s ∷ ss) = step s.0 s.1 (steps_of ss)
 
-abbrev pub tuples_of : List Tuple → Tuples
+abbrev pub tuples_of : List WrittenTuple → WrittenTuples
 tuples_of [] = no_tuples
 tuples_of (t ∷ ts) = tuples_and t (tuples_of ts)
 
-abbrev pub on_pattern : pat_layer.SPat-F Pattern → Pattern
+abbrev pub on_pattern : pat_layer.SPat-F WrittenPattern → WrittenPattern
 on_pattern pat_layer.One = pattern_one
 on_pattern (pat_layer.Entry m n) = pattern_entry m n
 on_pattern (pat_layer.List ps) = pattern_list (patterns_of ps)
 
-unfoldable pub pattern_tree : SPat → Pattern
-pattern_tree = fold-SPat Pattern on_pattern
+unfoldable pub pattern_tree : SPat → WrittenPattern
+pattern_tree = fold-SPat WrittenPattern on_pattern
 
-abbrev pub on_form : layer.SObjForm-F (Span → Object) Tuple (SMode × Object) (Steps × Tuple) Object (Pattern × Object) → Span → Object
+abbrev pub on_form : layer.SObjForm-F (Span → WrittenObject) WrittenTuple (SMode × WrittenObject) (WrittenSteps × WrittenTuple) WrittenObject (WrittenPattern × WrittenObject) → Span → WrittenObject
 on_form (layer.Lam m n b) s = lam s m n b
 on_form (layer.App h as_) s = app s h (arguments_of as_)
 on_form (layer.Named n d) s = named s n d
@@ -117,43 +117,43 @@ on_form (layer.Braces e) s = braces s e.0 e.1
 on_form (layer.First b) s = first s b
 on_form (layer.Second b) s = second s b
 
-abbrev pub on_tuple : layer.STuple-F (Span → Object) Tuple (SMode × Object) (Steps × Tuple) Object (Pattern × Object) → Tuple
+abbrev pub on_tuple : layer.STuple-F (Span → WrittenObject) WrittenTuple (SMode × WrittenObject) (WrittenSteps × WrittenTuple) WrittenObject (WrittenPattern × WrittenObject) → WrittenTuple
 on_tuple layer.One = tuple_one
 on_tuple (layer.List ts) = tuple_list (tuples_of ts)
 on_tuple (layer.Marked m o) = tuple_marked m o
 on_tuple (layer.Bare o) = tuple_bare o
 
-abbrev pub on_argument : layer.SArg-F (Span → Object) Tuple (SMode × Object) (Steps × Tuple) Object (Pattern × Object) → SMode × Object
+abbrev pub on_argument : layer.SArg-F (Span → WrittenObject) WrittenTuple (SMode × WrittenObject) (WrittenSteps × WrittenTuple) WrittenObject (WrittenPattern × WrittenObject) → SMode × WrittenObject
 on_argument a = (a.mode, a.obj)
 
-abbrev pub on_expression : layer.SExpr-F (Span → Object) Tuple (SMode × Object) (Steps × Tuple) Object (Pattern × Object) → Steps × Tuple
+abbrev pub on_expression : layer.SExpr-F (Span → WrittenObject) WrittenTuple (SMode × WrittenObject) (WrittenSteps × WrittenTuple) WrittenObject (WrittenPattern × WrittenObject) → WrittenSteps × WrittenTuple
 on_expression e = (steps_of e.steps, e.result)
 
-abbrev pub on_object : layer.SObj-F (Span → Object) Tuple (SMode × Object) (Steps × Tuple) Object (Pattern × Object) → Object
+abbrev pub on_object : layer.SObj-F (Span → WrittenObject) WrittenTuple (SMode × WrittenObject) (WrittenSteps × WrittenTuple) WrittenObject (WrittenPattern × WrittenObject) → WrittenObject
 on_object o = o.form o.span
 
-abbrev pub on_step : layer.SStep-F (Span → Object) Tuple (SMode × Object) (Steps × Tuple) Object (Pattern × Object) → Pattern × Object
+abbrev pub on_step : layer.SStep-F (Span → WrittenObject) WrittenTuple (SMode × WrittenObject) (WrittenSteps × WrittenTuple) WrittenObject (WrittenPattern × WrittenObject) → WrittenPattern × WrittenObject
 on_step s = (pattern_tree s.pattern, s.rhs)
 
-unfoldable pub form_tree : SObjForm → Span → Object
-form_tree = fold-SObjForm (Span → Object) Tuple (SMode × Object) (Steps × Tuple) Object (Pattern × Object) on_form on_tuple on_argument on_expression on_object on_step
+unfoldable pub form_tree : SObjForm → Span → WrittenObject
+form_tree = fold-SObjForm (Span → WrittenObject) WrittenTuple (SMode × WrittenObject) (WrittenSteps × WrittenTuple) WrittenObject (WrittenPattern × WrittenObject) on_form on_tuple on_argument on_expression on_object on_step
 
-unfoldable pub tuple_tree : STuple → Tuple
-tuple_tree = fold-STuple (Span → Object) Tuple (SMode × Object) (Steps × Tuple) Object (Pattern × Object) on_form on_tuple on_argument on_expression on_object on_step
+unfoldable pub tuple_tree : STuple → WrittenTuple
+tuple_tree = fold-STuple (Span → WrittenObject) WrittenTuple (SMode × WrittenObject) (WrittenSteps × WrittenTuple) WrittenObject (WrittenPattern × WrittenObject) on_form on_tuple on_argument on_expression on_object on_step
 
-unfoldable pub argument_tree : SArg → SMode × Object
-argument_tree = fold-SArg (Span → Object) Tuple (SMode × Object) (Steps × Tuple) Object (Pattern × Object) on_form on_tuple on_argument on_expression on_object on_step
+unfoldable pub argument_tree : SArg → SMode × WrittenObject
+argument_tree = fold-SArg (Span → WrittenObject) WrittenTuple (SMode × WrittenObject) (WrittenSteps × WrittenTuple) WrittenObject (WrittenPattern × WrittenObject) on_form on_tuple on_argument on_expression on_object on_step
 
-unfoldable pub expression_tree : SExpr → Steps × Tuple
-expression_tree = fold-SExpr (Span → Object) Tuple (SMode × Object) (Steps × Tuple) Object (Pattern × Object) on_form on_tuple on_argument on_expression on_object on_step
+unfoldable pub expression_tree : SExpr → WrittenSteps × WrittenTuple
+expression_tree = fold-SExpr (Span → WrittenObject) WrittenTuple (SMode × WrittenObject) (WrittenSteps × WrittenTuple) WrittenObject (WrittenPattern × WrittenObject) on_form on_tuple on_argument on_expression on_object on_step
 
-unfoldable pub object_tree : SObj → Object
-object_tree = fold-SObj (Span → Object) Tuple (SMode × Object) (Steps × Tuple) Object (Pattern × Object) on_form on_tuple on_argument on_expression on_object on_step
+unfoldable pub object_tree : SObj → WrittenObject
+object_tree = fold-SObj (Span → WrittenObject) WrittenTuple (SMode × WrittenObject) (WrittenSteps × WrittenTuple) WrittenObject (WrittenPattern × WrittenObject) on_form on_tuple on_argument on_expression on_object on_step
 
-unfoldable pub step_tree : SStep → Pattern × Object
-step_tree = fold-SStep (Span → Object) Tuple (SMode × Object) (Steps × Tuple) Object (Pattern × Object) on_form on_tuple on_argument on_expression on_object on_step
+unfoldable pub step_tree : SStep → WrittenPattern × WrittenObject
+step_tree = fold-SStep (Span → WrittenObject) WrittenTuple (SMode × WrittenObject) (WrittenSteps × WrittenTuple) WrittenObject (WrittenPattern × WrittenObject) on_form on_tuple on_argument on_expression on_object on_step
 
-abbrev pub on_type_form : type_layer.STypeForm-F (Span → Surface) Surface → Span → Surface
+abbrev pub on_type_form : type_layer.STypeForm-F (Span → WrittenType) WrittenType → Span → WrittenType
 on_type_form (type_layer.Pi n d r) s = pi s n d r
 on_type_form (type_layer.Exists n d r) s = exists s n d r
 on_type_form (type_layer.Arrow k l r) s = arrow s k l r
@@ -166,50 +166,50 @@ on_type_form type_layer.Top s = top s
 on_type_form type_layer.One s = one s
 on_type_form (type_layer.Braces b) s = braced s b
 
-abbrev pub on_type : type_layer.SType-F (Span → Surface) Surface → Surface
+abbrev pub on_type : type_layer.SType-F (Span → WrittenType) WrittenType → WrittenType
 on_type t = t.form t.span
 
-unfoldable pub type_form_tree : STypeForm → Span → Surface
-type_form_tree = fold-STypeForm (Span → Surface) Surface on_type_form on_type
+unfoldable pub type_form_tree : STypeForm → Span → WrittenType
+type_form_tree = fold-STypeForm (Span → WrittenType) WrittenType on_type_form on_type
 
-unfoldable pub surface : SType → Surface
-surface = fold-SType (Span → Surface) Surface on_type_form on_type
+unfoldable pub surface : SType → WrittenType
+surface = fold-SType (Span → WrittenType) WrittenType on_type_form on_type
 
 pub form-Lam : (m : SMode) (n : Option (List ℕ)) (b : SObj) (s : Span) → form_tree (Lam m n b) s ≡ lam s m n (object_tree b)
 unfolding form_tree tuple_tree argument_tree expression_tree object_tree step_tree roll-SObjForm roll-STuple roll
-form-Lam m n b s = ap (λ (f : Span → Object). f s) (fold-roll-SObjForm _ _ _ _ _ _ on_form on_tuple on_argument on_expression on_object on_step (layer.Lam m n b))
+form-Lam m n b s = ap (λ (f : Span → WrittenObject). f s) (fold-roll-SObjForm _ _ _ _ _ _ on_form on_tuple on_argument on_expression on_object on_step (layer.Lam m n b))
 
 pub form-App : (h : SObj) (as_ : List SArg) (s : Span) → form_tree (App h as_) s ≡ app s (object_tree h) (arguments_of (map argument_tree as_))
 unfolding form_tree tuple_tree argument_tree expression_tree object_tree step_tree roll-SObjForm roll-STuple roll
-form-App h as_ s = ap (λ (f : Span → Object). f s) (fold-roll-SObjForm _ _ _ _ _ _ on_form on_tuple on_argument on_expression on_object on_step (layer.App h as_))
+form-App h as_ s = ap (λ (f : Span → WrittenObject). f s) (fold-roll-SObjForm _ _ _ _ _ _ on_form on_tuple on_argument on_expression on_object on_step (layer.App h as_))
 
 pub form-Named : (n : List ℕ) (d : Bool) (s : Span) → form_tree (Named n d) s ≡ named s n d
 unfolding form_tree tuple_tree argument_tree expression_tree object_tree step_tree roll-SObjForm roll-STuple roll
-form-Named n d s = ap (λ (f : Span → Object). f s) (fold-roll-SObjForm _ _ _ _ _ _ on_form on_tuple on_argument on_expression on_object on_step (layer.Named n d))
+form-Named n d s = ap (λ (f : Span → WrittenObject). f s) (fold-roll-SObjForm _ _ _ _ _ _ on_form on_tuple on_argument on_expression on_object on_step (layer.Named n d))
 
 pub form-Hole : (s : Span) → form_tree Hole s ≡ hole s
 unfolding form_tree tuple_tree argument_tree expression_tree object_tree step_tree roll-SObjForm roll-STuple roll
-form-Hole s = ap (λ (f : Span → Object). f s) (fold-roll-SObjForm _ _ _ _ _ _ on_form on_tuple on_argument on_expression on_object on_step (layer.Hole))
+form-Hole s = ap (λ (f : Span → WrittenObject). f s) (fold-roll-SObjForm _ _ _ _ _ _ on_form on_tuple on_argument on_expression on_object on_step (layer.Hole))
 
 pub form-Unit : (s : Span) → form_tree UnitForm s ≡ unit s
 unfolding form_tree tuple_tree argument_tree expression_tree object_tree step_tree roll-SObjForm roll-STuple roll
-form-Unit s = ap (λ (f : Span → Object). f s) (fold-roll-SObjForm _ _ _ _ _ _ on_form on_tuple on_argument on_expression on_object on_step (layer.Unit))
+form-Unit s = ap (λ (f : Span → WrittenObject). f s) (fold-roll-SObjForm _ _ _ _ _ _ on_form on_tuple on_argument on_expression on_object on_step (layer.Unit))
 
 pub form-Pair : (l : SObj) (r : SObj) (s : Span) → form_tree (Pair l r) s ≡ pair s (object_tree l) (object_tree r)
 unfolding form_tree tuple_tree argument_tree expression_tree object_tree step_tree roll-SObjForm roll-STuple roll
-form-Pair l r s = ap (λ (f : Span → Object). f s) (fold-roll-SObjForm _ _ _ _ _ _ on_form on_tuple on_argument on_expression on_object on_step (layer.Pair l r))
+form-Pair l r s = ap (λ (f : Span → WrittenObject). f s) (fold-roll-SObjForm _ _ _ _ _ _ on_form on_tuple on_argument on_expression on_object on_step (layer.Pair l r))
 
 pub form-Braces : (e : SExpr) (s : Span) → form_tree (Braces e) s ≡ braces s (expression_tree e).0 (expression_tree e).1
 unfolding form_tree tuple_tree argument_tree expression_tree object_tree step_tree roll-SObjForm roll-STuple roll
-form-Braces e s = ap (λ (f : Span → Object). f s) (fold-roll-SObjForm _ _ _ _ _ _ on_form on_tuple on_argument on_expression on_object on_step (layer.Braces e))
+form-Braces e s = ap (λ (f : Span → WrittenObject). f s) (fold-roll-SObjForm _ _ _ _ _ _ on_form on_tuple on_argument on_expression on_object on_step (layer.Braces e))
 
 pub form-First : (b : SObj) (s : Span) → form_tree (First b) s ≡ first s (object_tree b)
 unfolding form_tree tuple_tree argument_tree expression_tree object_tree step_tree roll-SObjForm roll-STuple roll
-form-First b s = ap (λ (f : Span → Object). f s) (fold-roll-SObjForm _ _ _ _ _ _ on_form on_tuple on_argument on_expression on_object on_step (layer.First b))
+form-First b s = ap (λ (f : Span → WrittenObject). f s) (fold-roll-SObjForm _ _ _ _ _ _ on_form on_tuple on_argument on_expression on_object on_step (layer.First b))
 
 pub form-Second : (b : SObj) (s : Span) → form_tree (Second b) s ≡ second s (object_tree b)
 unfolding form_tree tuple_tree argument_tree expression_tree object_tree step_tree roll-SObjForm roll-STuple roll
-form-Second b s = ap (λ (f : Span → Object). f s) (fold-roll-SObjForm _ _ _ _ _ _ on_form on_tuple on_argument on_expression on_object on_step (layer.Second b))
+form-Second b s = ap (λ (f : Span → WrittenObject). f s) (fold-roll-SObjForm _ _ _ _ _ _ on_form on_tuple on_argument on_expression on_object on_step (layer.Second b))
 
 pub object-of : (o : SObj) → object_tree o ≡ form_tree (out-SObj o).form (out-SObj o).span
 unfolding form_tree tuple_tree argument_tree expression_tree object_tree step_tree roll-SObjForm roll-STuple roll
@@ -257,47 +257,47 @@ pattern-List ps = fold-roll-SPat _ on_pattern (pat_layer.List ps)
 
 pub type-Pi : (n : List ℕ) (d : SType) (r : SType) (s : Span) → type_form_tree (Pi n d r) s ≡ pi s n (surface d) (surface r)
 unfolding surface type_form_tree roll-STypeForm roll
-type-Pi n d r s = ap (λ (f : Span → Surface). f s) (fold-roll-STypeForm _ _ on_type_form on_type (type_layer.Pi n d r))
+type-Pi n d r s = ap (λ (f : Span → WrittenType). f s) (fold-roll-STypeForm _ _ on_type_form on_type (type_layer.Pi n d r))
 
 pub type-Exists : (n : List ℕ) (d : SType) (r : SType) (s : Span) → type_form_tree (Exists n d r) s ≡ exists s n (surface d) (surface r)
 unfolding surface type_form_tree roll-STypeForm roll
-type-Exists n d r s = ap (λ (f : Span → Surface). f s) (fold-roll-STypeForm _ _ on_type_form on_type (type_layer.Exists n d r))
+type-Exists n d r s = ap (λ (f : Span → WrittenType). f s) (fold-roll-STypeForm _ _ on_type_form on_type (type_layer.Exists n d r))
 
 pub type-Arrow : (k : Arrow) (l : SType) (r : SType) (s : Span) → type_form_tree (ArrowForm k l r) s ≡ arrow s k (surface l) (surface r)
 unfolding surface type_form_tree roll-STypeForm roll
-type-Arrow k l r s = ap (λ (f : Span → Surface). f s) (fold-roll-STypeForm _ _ on_type_form on_type (type_layer.Arrow k l r))
+type-Arrow k l r s = ap (λ (f : Span → WrittenType). f s) (fold-roll-STypeForm _ _ on_type_form on_type (type_layer.Arrow k l r))
 
 pub type-Tensor : (l : SType) (r : SType) (s : Span) → type_form_tree (Tensor l r) s ≡ tensor s (surface l) (surface r)
 unfolding surface type_form_tree roll-STypeForm roll
-type-Tensor l r s = ap (λ (f : Span → Surface). f s) (fold-roll-STypeForm _ _ on_type_form on_type (type_layer.Tensor l r))
+type-Tensor l r s = ap (λ (f : Span → WrittenType). f s) (fold-roll-STypeForm _ _ on_type_form on_type (type_layer.Tensor l r))
 
 pub type-Marked : (m : Mode) (b : SType) (s : Span) → type_form_tree (Marked m b) s ≡ marked s m (surface b)
 unfolding surface type_form_tree roll-STypeForm roll
-type-Marked m b s = ap (λ (f : Span → Surface). f s) (fold-roll-STypeForm _ _ on_type_form on_type (type_layer.Marked m b))
+type-Marked m b s = ap (λ (f : Span → WrittenType). f s) (fold-roll-STypeForm _ _ on_type_form on_type (type_layer.Marked m b))
 
 pub type-With : (l : SType) (r : SType) (s : Span) → type_form_tree (With l r) s ≡ both s (surface l) (surface r)
 unfolding surface type_form_tree roll-STypeForm roll
-type-With l r s = ap (λ (f : Span → Surface). f s) (fold-roll-STypeForm _ _ on_type_form on_type (type_layer.With l r))
+type-With l r s = ap (λ (f : Span → WrittenType). f s) (fold-roll-STypeForm _ _ on_type_form on_type (type_layer.With l r))
 
 pub type-TypeWord : (s : Span) → type_form_tree TypeWord s ≡ type_word s
 unfolding surface type_form_tree roll-STypeForm roll
-type-TypeWord s = ap (λ (f : Span → Surface). f s) (fold-roll-STypeForm _ _ on_type_form on_type (type_layer.TypeWord))
+type-TypeWord s = ap (λ (f : Span → WrittenType). f s) (fold-roll-STypeForm _ _ on_type_form on_type (type_layer.TypeWord))
 
 pub type-Family : (n : List ℕ) (d : Bool) (a : Span) (is : List SObj) (s : Span) → type_form_tree (Family n d a is) s ≡ family s n d a (map object_tree is)
 unfolding surface type_form_tree roll-STypeForm roll
-type-Family n d a is s = ap (λ (f : Span → Surface). f s) (fold-roll-STypeForm _ _ on_type_form on_type (type_layer.Family n d a is))
+type-Family n d a is s = ap (λ (f : Span → WrittenType). f s) (fold-roll-STypeForm _ _ on_type_form on_type (type_layer.Family n d a is))
 
 pub type-Top : (s : Span) → type_form_tree Top s ≡ top s
 unfolding surface type_form_tree roll-STypeForm roll
-type-Top s = ap (λ (f : Span → Surface). f s) (fold-roll-STypeForm _ _ on_type_form on_type (type_layer.Top))
+type-Top s = ap (λ (f : Span → WrittenType). f s) (fold-roll-STypeForm _ _ on_type_form on_type (type_layer.Top))
 
 pub type-One : (s : Span) → type_form_tree One s ≡ one s
 unfolding surface type_form_tree roll-STypeForm roll
-type-One s = ap (λ (f : Span → Surface). f s) (fold-roll-STypeForm _ _ on_type_form on_type (type_layer.One))
+type-One s = ap (λ (f : Span → WrittenType). f s) (fold-roll-STypeForm _ _ on_type_form on_type (type_layer.One))
 
 pub type-Braces : (b : SType) (s : Span) → type_form_tree (BracesType b) s ≡ braced s (surface b)
 unfolding surface type_form_tree roll-STypeForm roll
-type-Braces b s = ap (λ (f : Span → Surface). f s) (fold-roll-STypeForm _ _ on_type_form on_type (type_layer.Braces b))
+type-Braces b s = ap (λ (f : Span → WrittenType). f s) (fold-roll-STypeForm _ _ on_type_form on_type (type_layer.Braces b))
 
 pub type-of : (t : SType) → surface t ≡ type_form_tree (out-SType t).form (out-SType t).span
 unfolding surface type_form_tree roll-STypeForm roll
@@ -306,24 +306,24 @@ type-of t = fold_out-SType _ _ on_type_form on_type t
 pub ruleset surface_laws = (form-Lam, form-App, form-Named, form-Hole, form-Unit, form-Pair, form-Braces, form-First, form-Second, object-of, argument-of, expression-of, step-of, tuple-One, tuple-List, tuple-Marked, tuple-Bare, pattern-One, pattern-Entry, pattern-List, type-Pi, type-Exists, type-Arrow, type-Tensor, type-Marked, type-With, type-TypeWord, type-Family, type-Top, type-One, type-Braces, type-of)
 
 -- What an item says.
-pub data Body : Type 0 where
-  declare : List ℕ → Option Bound → Surface → Body
-  query : Bound → Bound → Bound → Bound → Surface → Body
-  trace : Bound → Surface → Body
-  equal : Object → Object → Surface → Body
-  check : Object → Surface → Body
+pub data WrittenBody : Type 0 where
+  declare : List ℕ → Option Bound → WrittenType → WrittenBody
+  query : Bound → Bound → Bound → Bound → WrittenType → WrittenBody
+  trace : Bound → WrittenType → WrittenBody
+  equal : WrittenObject → WrittenObject → WrittenType → WrittenBody
+  check : WrittenObject → WrittenType → WrittenBody
 
 -- an item, with the bytes that it covers
-pub record PlainItem : Type 0 where
+pub record WrittenItem : Type 0 where
   pub span : Span
-  pub body : Body
+  pub body : WrittenBody
 
-abbrev pub body_of : ItemBody → Body
+abbrev pub body_of : ItemBody → WrittenBody
 body_of (Declare n i t) = declare n i (surface t)
 body_of (Query d e l a t) = query d e l a (surface t)
 body_of (Trace n t) = trace n (surface t)
 body_of (Equal l r t) = equal (object_tree l) (object_tree r) (surface t)
 body_of (Check o t) = check (object_tree o) (surface t)
 
-abbrev pub plain_item : Item → PlainItem
-plain_item i = record { span = i.span; body = body_of i.body }
+abbrev pub written_item : Item → WrittenItem
+written_item i = record { span = i.span; body = body_of i.body }

@@ -6,20 +6,20 @@ use Rattle.clf_syntax.specs.declared.tree.Mode.{Mode}
 use Rattle.clf_syntax.specs.declared.tree.Mode.TheVariants.{Persistent, Affine, Linear}
 use Rattle.clf_syntax.specs.declared.tree.Head.{Head}
 use Rattle.clf_syntax.specs.declared.tree.Head.TheVariants.{Const, Var, Meta}
-use Rattle.clf_syntax.specs.Tree.{Object, lam, pair, unit, monadic, atomic, hole, PlainNeutral, bare, app, fst, snd}
+use Rattle.clf_syntax.specs.Tree.{PlainObject, lam, pair, unit, monadic, atomic, hole, PlainNeutral, head_alone, app, fst, snd}
 use Rattle.clf_syntax.specs.TypeTree.{PlainType, family, function, both, top, monad}
 use Rattle.clf_syntax.specs.Renaming.{ren_type, up}
 use Rattle.use_contexts.specs.Context.{Context, modes}
-use Rattle.use_contexts.specs.Holding.{Holding, WellMarked, Split, Uses, is_weak, is_linear, is_persistent, persistent_alone, part}
-use Rattle.use_contexts.specs.Rows.{IsPart, Answer, Agrees, Shared, joined, joined_unless, left_in_both, newest_difference, taken, closed, is_unused, now, later, allowed, outside, slack_outside, without_linear}
+use Rattle.use_contexts.specs.Holding.{Holding, WellMarked, Split, Uses, is_weak, is_linear, is_persistent, persistent_alone, may_use}
+use Rattle.use_contexts.specs.Rows.{IsSubholding, Answer, Agrees, Shared, paired, paired_unless, left_in_both, newest_difference, taken, closed, is_unused, newest, older, allowed, outside, slack_outside, without_linear}
 use Rattle.use_contexts.proofs.Bits.{and-left, and-right}
-use Rattle.use_contexts.proofs.RowLaws.{agrees-same, pair-agrees, IsPart-first}
-use Rattle.use_contexts.proofs.UseLaws.{IsPart-self, WellMarked-part, unit-agrees, idle-agrees, take-refused, take-agrees, scope-agrees}
+use Rattle.use_contexts.proofs.RowLaws.{agrees-same, pair-agrees, IsSubholding-first}
+use Rattle.use_contexts.proofs.UseLaws.{IsSubholding-self, WellMarked-part, unit-agrees, idle-agrees, take-refused, take-agrees, scope-agrees}
 use Rattle.use_contexts.proofs.ArgumentLaws.{argument-agrees}
 use Rattle.hered_subst.specs.Substitution.{single, SubstitutedType}
 use Rattle.trace_equal.specs.Exchange.{JoinedEach}
 use Rattle.clf_sig.specs.Entry.{PlainSignature, constant_type}
-use Rattle.clf_kernel.specs.Typing.{HeadHasType, HasType, NeutralHasType}
+use Rattle.clf_kernel.specs.Typing.{HeadHasType, HasType, Synthesizes}
 use Rattle.clf_kernel.specs.Refusal.{unused, mode_differs, family_differs, Outcome, passed, refused, at_part, and_then, Leftover, eliminations}
 use Rattle.clf_kernel.specs.Checking.{answer_of, same_mode, constant_left, held_left, variable_left, head_left, closed_scope, lambda_left, joined_left, pair_left, unit_left, found_left, atomic_left, argument_left, first_left, second_left, checked, inferred}
 use Rattle.clf_kernel.specs.Reach.{without_indices, IsSimpleSignature, IsSimpleContext, without_monads, neutral_without_monads}
@@ -70,9 +70,9 @@ moved P {a = a} {d = d} e f p = subst (λ z. P a z) (sym f) (subst (λ z. P z d)
 -- ---- lambda
 closed-answer : (m : Mode) (g : Context) (j : ℕ) (r : Outcome Leftover) → answer_of (and_then (at_part j r) (closed_scope m g)) ≡ closed m (answer_of r)
 closed-answer m g j (refused path cause) = refl
-closed-answer m g j (passed a) = by (is_unused m (now a.0) a.1)
+closed-answer m g j (passed a) = by (is_unused m (newest a.0) a.1)
   where
-    by : (b : Bool) → answer_of (if b then refused [] (unused (suc (length g))) else passed (later a.0, a.1)) ≡ (if b then None else Some (later a.0, a.1))
+    by : (b : Bool) → answer_of (if b then refused [] (unused (suc (length g))) else passed (older a.0, a.1)) ≡ (if b then None else Some (older a.0, a.1))
     by true = refl
     by false = refl
 
@@ -115,12 +115,12 @@ lambda-agrees m g h (monad s) body P e f = no-lambda m g h (monad s) P (λ a c q
 
 -- ---- pairs
 joined-answer : (g : Context) (x y : Outcome Leftover)
-    → answer_of (and_then (at_part 0 x) (λ a. and_then (at_part 1 y) (λ b. joined_left g a b (newest_difference (modes g) a.0 a.1 b.0 b.1)))) ≡ joined (modes g) (answer_of x) (answer_of y)
+    → answer_of (and_then (at_part 0 x) (λ a. and_then (at_part 1 y) (λ b. joined_left g a b (newest_difference (modes g) a.0 a.1 b.0 b.1)))) ≡ paired (modes g) (answer_of x) (answer_of y)
 joined-answer g (refused path cause) y = refl
 joined-answer g (passed a) (refused path cause) = refl
 joined-answer g (passed a) (passed b) = by (newest_difference (modes g) a.0 a.1 b.0 b.1)
   where
-    by : (o : Option ℕ) → answer_of (joined_left g a b o) ≡ joined_unless o (left_in_both a.0 b.0, a.1 && b.1)
+    by : (o : Option ℕ) → answer_of (joined_left g a b o) ≡ paired_unless o (left_in_both a.0 b.0, a.1 && b.1)
     by None = refl
     by (Some i) = refl
 
@@ -138,7 +138,7 @@ pair-left-agrees : (g : Context) (h : Holding) (t : PlainType) (left right : Pla
     → Agrees (modes g) h (answer_of (pair_left g t left right)) (PairHas P Q t)
 pair-left-agrees g h (both a c) left right P Q e x y =
     subst (λ (z : Answer). Agrees (modes g) h z (PairHas P Q (both a c))) (sym (joined-answer g (left a) (right c)))
-    (agrees-same (modes g) h (joined (modes g) (answer_of (left a)) (answer_of (right c))) (λ p. P a p × Q c p) (PairHas P Q (both a c))
+    (agrees-same (modes g) h (paired (modes g) (answer_of (left a)) (answer_of (right c))) (λ p. P a p × Q c p) (PairHas P Q (both a c))
     (λ p z. (a, c, refl, z.0, z.1))
     (λ p z. moved (λ d b. P d p × Q b p) (both-left z.2) (both-right z.2) (z.3, z.4))
     (pair-agrees (modes g) h (answer_of (left a)) (answer_of (right c)) (P a) (Q c)
@@ -151,7 +151,7 @@ pair-left-agrees g h (monad s) left right P Q e x y = no-pair g h (monad s) P Q 
 -- ---- unit
 unit-left-agrees : (g : Context) (h : Holding) (t : PlainType) → WellMarked (modes g) h → Agrees (modes g) h (answer_of (unit_left h t)) (λ p. t ≡ top)
 unit-left-agrees g h top w =
-    agrees-same (modes g) h (Some (h, true)) (λ p. Unit {0}) (λ p. top ≡ top) (λ p x. refl) (λ p x. tt) (unit-agrees (modes g) h (IsPart-self (modes g) h w))
+    agrees-same (modes g) h (Some (h, true)) (λ p. Unit {0}) (λ p. top ≡ top) (λ p x. refl) (λ p x. tt) (unit-agrees (modes g) h (IsSubholding-self (modes g) h w))
 unit-left-agrees g h (family i ns) w = λ p u e. absurd (cc)
 unit-left-agrees g h (function m a c) w = λ p u e. absurd (cc)
 unit-left-agrees g h (both a c) w = λ p u e. absurd (cc)
@@ -160,12 +160,12 @@ unit-left-agrees g h (monad s) w = λ p u e. absurd (cc)
 -- ---- atomic objects
 -- the rule of an atomic object, of any property of its neutral
 abbrev AtomicHas : (Holding → PlainType → Type 0) → PlainType → Holding → Type 0
-AtomicHas P t p = (f : ℕ) × (ns os : List Object) × (t ≡ family f ns) × P p (family f os) × JoinedEach os ns
+AtomicHas P t p = (f : ℕ) × (ns os : List PlainObject) × (t ≡ family f ns) × P p (family f os) × JoinedEach os ns
 
 pub other-number : (i v : ℕ) → (i == v) ≡ false → i ≡ v → ⊥
 other-number i v e q = grind arith
 
-family-number : {f i : ℕ} {ns os : List Object} → family f ns ≡ family i os → f ≡ i
+family-number : {f i : ℕ} {ns os : List PlainObject} → family f ns ≡ family i os → f ≡ i
 family-number e = cc
 
 same-family-agrees : (g : Context) (h : Holding) (wanted found : ℕ) (b : Bool) → (wanted == found) ≡ b → (a : Leftover) (P : Holding → PlainType → Type 0)
@@ -179,10 +179,10 @@ same-family-agrees g h wanted found true e a P x one =
 same-family-agrees g h wanted found false e a P x one = λ p w y.
     other-number wanted found e (family-number y.3 ∙ family-number (one p (family y.0 y.2) y.4))
 
-no-atomic : (g : Context) (h : Holding) (t : PlainType) (P : Holding → PlainType → Type 0) → ((p : Holding) (f : ℕ) (os : List Object) → IsPart (modes g) h p → P p (family f os) → ⊥) → Agrees (modes g) h None (AtomicHas P t)
+no-atomic : (g : Context) (h : Holding) (t : PlainType) (P : Holding → PlainType → Type 0) → ((p : Holding) (f : ℕ) (os : List PlainObject) → IsSubholding (modes g) h p → P p (family f os) → ⊥) → Agrees (modes g) h None (AtomicHas P t)
 no-atomic g h t P n = λ p w y. n p y.0 y.2 w y.4
 
-no-place : (g : Context) (h : Holding) (t : PlainType) (P : Holding → PlainType → Type 0) → ((f : ℕ) (ns : List Object) → t ≡ family f ns → ⊥) → Agrees (modes g) h None (AtomicHas P t)
+no-place : (g : Context) (h : Holding) (t : PlainType) (P : Holding → PlainType → Type 0) → ((f : ℕ) (ns : List PlainObject) → t ≡ family f ns → ⊥) → Agrees (modes g) h None (AtomicHas P t)
 no-place g h t P n = λ p w y. n y.0 y.1 y.3
 
 found-agrees : (g : Context) (h : Holding) (wanted : ℕ) (t : PlainType) (a : Leftover) (P : Holding → PlainType → Type 0)
@@ -226,38 +226,38 @@ allowed-marked Affine ms l w = weak-marked ms l w
 allowed-marked Linear ms l w = w
 
 -- the rule of an application, of any properties of its function and its argument
-abbrev ApplicationHas : Mode → Context → Object → (Holding → PlainType → Type 0) → (PlainType → Holding → Type 0) → Holding → PlainType → Type 0
-ApplicationHas m g n P Q p t = (a c : PlainType) × (h1 h2 : Holding) × Split (modes g) p h1 h2 × P h1 (function m a c) × (part m (modes g) h2 ≡ true) × Q a h2
+abbrev ApplicationHas : Mode → Context → PlainObject → (Holding → PlainType → Type 0) → (PlainType → Holding → Type 0) → Holding → PlainType → Type 0
+ApplicationHas m g n P Q p t = (a c : PlainType) × (h1 h2 : Holding) × Split (modes g) p h1 h2 × P h1 (function m a c) × (may_use m (modes g) h2 ≡ true) × Q a h2
     × SubstitutedType (single n 0) c t
 
 -- the parts of the function and of its argument, where the function has the one type
 abbrev SharedAt : Mode → Context → PlainType → PlainType → (Holding → PlainType → Type 0) → (PlainType → Holding → Type 0) → Holding → Type 0
-SharedAt m g a c P Q p = Shared (modes g) (λ q. P q (function m a c)) (λ k. (part m (modes g) k ≡ true) × Q a k) p
+SharedAt m g a c P Q p = Shared (modes g) (λ q. P q (function m a c)) (λ k. (may_use m (modes g) k ≡ true) × Q a k) p
 
-shared-at : (m : Mode) (g : Context) (n : Object) (a c : PlainType) (P : Holding → PlainType → Type 0) (Q : PlainType → Holding → Type 0)
+shared-at : (m : Mode) (g : Context) (n : PlainObject) (a c : PlainType) (P : Holding → PlainType → Type 0) (Q : PlainType → Holding → Type 0)
     → ((p : Holding) (b : PlainType) → P p b → b ≡ function m a c)
     → (p : Holding) (t : PlainType) → ApplicationHas m g n P Q p t → SharedAt m g a c P Q p
 shared-at m g n a c P Q one p t y =
     let e = one y.2 (function m y.0 y.1) y.5 in
     (y.2, y.3, y.4, subst (P y.2) e y.5, (y.6, subst (λ d. Q d y.3) (function-argument e) y.7))
 
-application-type : (m : Mode) (g : Context) (n : Object) (a c : PlainType) (P : Holding → PlainType → Type 0) (Q : PlainType → Holding → Type 0)
+application-type : (m : Mode) (g : Context) (n : PlainObject) (a c : PlainType) (P : Holding → PlainType → Type 0) (Q : PlainType → Holding → Type 0)
     → without_indices c ≡ true → ((p : Holding) (b : PlainType) → P p b → b ≡ function m a c)
     → (p : Holding) (t : PlainType) → ApplicationHas m g n P Q p t → t ≡ c
 application-type m g n a c P Q w one p t y =
     let e : y.1 ≡ c = function-result (one y.2 (function m y.0 y.1) y.5) in
     same-type y.8 (subst (λ d. without_indices d ≡ true) (sym e) w) ∙ e
 
-application-same : (m : Mode) (g : Context) (h : Holding) (place : ℕ) (n : Object) (a c : PlainType) (x : Leftover) (r : Outcome Leftover)
+application-same : (m : Mode) (g : Context) (h : Holding) (place : ℕ) (n : PlainObject) (a c : PlainType) (x : Leftover) (r : Outcome Leftover)
     (P : Holding → PlainType → Type 0) (Q : PlainType → Holding → Type 0)
     → AgreesWithType g h (passed (function m a c, x)) P → Agrees (modes g) (allowed m (modes g) x.0) (answer_of r) (Q a)
     → AgreesWithType g h (and_then (at_part place r) (λ y. passed (c, (outside m (modes g) x.0 y.0, x.1 || slack_outside m y.1)))) (ApplicationHas m g n P Q)
 application-same m g h place n a c x (refused path cause) P Q u v =
-    let self = IsPart-self (modes g) x.0 (WellMarked-part (modes g) h x.0 u.1.0) in
+    let self = IsSubholding-self (modes g) x.0 (WellMarked-part (modes g) h x.0 u.1.0) in
     let none = argument-agrees m (modes g) h x.0 x.1 None (λ q. P q (function m a c)) (Q a) self u.1 v in
     λ p t w y. none p w (shared-at m g n a c P Q u.2 p t y)
 application-same m g h place n a c x (passed b) P Q u v =
-    let self = IsPart-self (modes g) x.0 (WellMarked-part (modes g) h x.0 u.1.0) in
+    let self = IsSubholding-self (modes g) x.0 (WellMarked-part (modes g) h x.0 u.1.0) in
     let some = argument-agrees m (modes g) h x.0 x.1 (Some b) (λ q. P q (function m a c)) (Q a) self u.1 v in
     let simple = and-right (without_indices a) (without_indices c) u.0 in (
       simple,
@@ -268,7 +268,7 @@ application-same m g h place n a c x (passed b) P Q u v =
       application-type m g n a c P Q simple u.2,
     )
 
-application-function : (m k : Mode) (b : Bool) → same_mode m k ≡ b → (g : Context) (h : Holding) (place : ℕ) (n : Object) (a c : PlainType) (x : Leftover) (r : Outcome Leftover)
+application-function : (m k : Mode) (b : Bool) → same_mode m k ≡ b → (g : Context) (h : Holding) (place : ℕ) (n : PlainObject) (a c : PlainType) (x : Leftover) (r : Outcome Leftover)
     (P : Holding → PlainType → Type 0) (Q : PlainType → Holding → Type 0)
     → AgreesWithType g h (passed (function k a c, x)) P → Agrees (modes g) (allowed m (modes g) x.0) (answer_of r) (Q a)
     → AgreesWithType g h (if b then and_then (at_part place r) (λ y. passed (c, (outside m (modes g) x.0 y.0, x.1 || slack_outside m y.1))) else refused (place ∷ []) (mode_differs k m))
@@ -278,7 +278,7 @@ application-function m k true e g h place n a c x r P Q u v =
 application-function m k false e g h place n a c x r P Q u v = λ p t w y.
     other-mode m k e (sym (function-mode (u.2 y.2 (function m y.0 y.1) y.5)))
 
-argument-left-agrees : (m : Mode) (g : Context) (h : Holding) (place : ℕ) (n : Object) (f : PlainType) (x : Leftover) (argument : Holding → PlainType → Outcome Leftover)
+argument-left-agrees : (m : Mode) (g : Context) (h : Holding) (place : ℕ) (n : PlainObject) (f : PlainType) (x : Leftover) (argument : Holding → PlainType → Outcome Leftover)
     (P : Holding → PlainType → Type 0) (Q : PlainType → Holding → Type 0)
     → AgreesWithType g h (passed (f, x)) P
     → ((row : Holding) (a : PlainType) → WellMarked (modes g) row → without_indices a ≡ true → Agrees (modes g) row (answer_of (argument row a)) (Q a))
@@ -292,12 +292,12 @@ argument-left-agrees m g h place n (both a c) x argument P Q u v = λ p t w y. l
 argument-left-agrees m g h place n top x argument P Q u v = λ p t w y. let e = u.2 y.2 (function m y.0 y.1) y.5 in absurd (cc)
 argument-left-agrees m g h place n (monad s) x argument P Q u v = λ p t w y. let e = u.2 y.2 (function m y.0 y.1) y.5 in absurd (cc)
 
-application-agrees : (m : Mode) (g : Context) (h : Holding) (place : ℕ) (n : Object) (r : Outcome (PlainType × Leftover)) (argument : Holding → PlainType → Outcome Leftover)
+application-agrees : (m : Mode) (g : Context) (h : Holding) (place : ℕ) (n : PlainObject) (r : Outcome (PlainType × Leftover)) (argument : Holding → PlainType → Outcome Leftover)
     (P : Holding → PlainType → Type 0) (Q : PlainType → Holding → Type 0)
     → AgreesWithType g h r P
     → ((row : Holding) (a : PlainType) → WellMarked (modes g) row → without_indices a ≡ true → Agrees (modes g) row (answer_of (argument row a)) (Q a))
     → AgreesWithType g h (and_then r (λ f. argument_left m g place f argument)) (ApplicationHas m g n P Q)
-application-agrees m g h place n (refused path cause) argument P Q u v = λ p t w y. u y.2 (function m y.0 y.1) (IsPart-first (modes g) h p y.2 y.3 y.4 w) y.5
+application-agrees m g h place n (refused path cause) argument P Q u v = λ p t w y. u y.2 (function m y.0 y.1) (IsSubholding-first (modes g) h p y.2 y.3 y.4 w) y.5
 application-agrees m g h place n (passed f) argument P Q u v = argument-left-agrees m g h place n f.0 f.1 argument P Q u v
 
 -- ---- projections
@@ -341,7 +341,7 @@ constant-agrees sig s g h w c None e = λ p a u y. none-some a (sym e ∙ y.0)
 constant-agrees sig s g h w c (Some a) e = (
   s.0 c a e,
   agrees-same (modes g) h (Some (h, false)) (λ p. is_weak (modes g) p ≡ true) (λ p. HeadHasType sig g p (Const c) a) (λ p y. (e, y)) (λ p y. y.1)
-      (idle-agrees (modes g) h (IsPart-self (modes g) h w)),
+      (idle-agrees (modes g) h (IsSubholding-self (modes g) h w)),
   (λ p b y. same_Some b a (sym y.0 ∙ e)),
 )
 
@@ -353,7 +353,7 @@ held-agrees sig g s h w i e q (Some true) x =
       agrees-same (modes g) h (Some (taken (modes g) i h, false)) (λ p. Uses (modes g) p i) (λ p. HeadHasType sig g p (Var i) e.1)
           (λ p y. (y, (e.0, e.1, q, sym (renamed-type (up (i + 1)) e.1 simple))))
           (λ p y. y.0)
-          (take-agrees (modes g) h i (IsPart-self (modes g) h w) x),
+          (take-agrees (modes g) h i (IsSubholding-self (modes g) h w) x),
       (λ p a y.
           let b = y.1.1 in
           let same : (y.1.0, b) ≡ e = same_Some (y.1.0, b) e (sym y.1.2 ∙ q) in
@@ -377,7 +377,7 @@ head-agrees sig s g c h w (Meta k) = λ p a u y. y
 -- ---- all objects and neutrals
 module _ (sig : PlainSignature) (s : IsSimpleSignature sig) where
   mutual
-    pub object-agrees : (n : Object) (g : Context) (h : Holding) (t : PlainType) → IsSimpleContext g → WellMarked (modes g) h → without_monads n ≡ true → without_indices t ≡ true
+    pub object-agrees : (n : PlainObject) (g : Context) (h : Holding) (t : PlainType) → IsSimpleContext g → WellMarked (modes g) h → without_monads n ≡ true → without_indices t ≡ true
         → Agrees (modes g) h (answer_of (checked sig g h n t)) (λ p. HasType sig g p n t)
     object-agrees (lam m b) g h t c w n e =
         lambda-agrees m g h t (λ a d. checked sig ((m, a) ∷ g) (true ∷ h) b d) (λ a d p. HasType sig ((m, a) ∷ g) p b d) e
@@ -388,18 +388,18 @@ module _ (sig : PlainSignature) (s : IsSimpleSignature sig) where
         (λ d x. object-agrees r g h d c w (and-right (without_monads l) (without_monads r) n) x)
     object-agrees unit g h t c w n e = unit-left-agrees g h t w
     object-agrees (monadic x) g h t c w n e = absurd (cc)
-    object-agrees (atomic r) g h t c w n e = atomic-agrees g h t (inferred sig g h r) (λ p a. NeutralHasType sig g p r a) e (neutral-agrees r g h c w n)
+    object-agrees (atomic r) g h t c w n e = atomic-agrees g h t (inferred sig g h r) (λ p a. Synthesizes sig g p r a) e (neutral-agrees r g h c w n)
     object-agrees hole g h t c w n e = λ p u y. y
 
     pub neutral-agrees : (r : PlainNeutral) (g : Context) (h : Holding) → IsSimpleContext g → WellMarked (modes g) h → neutral_without_monads r ≡ true
-        → AgreesWithType g h (inferred sig g h r) (λ p a. NeutralHasType sig g p r a)
-    neutral-agrees (bare x) g h c w n = head-agrees sig s g c h w x
+        → AgreesWithType g h (inferred sig g h r) (λ p a. Synthesizes sig g p r a)
+    neutral-agrees (head_alone x) g h c w n = head-agrees sig s g c h w x
     neutral-agrees (app m r o) g h c w n =
-        application-agrees m g h (eliminations r) o (inferred sig g h r) (λ row a. checked sig g row o a) (λ p a. NeutralHasType sig g p r a) (λ a p. HasType sig g p o a)
+        application-agrees m g h (eliminations r) o (inferred sig g h r) (λ row a. checked sig g row o a) (λ p a. Synthesizes sig g p r a) (λ a p. HasType sig g p o a)
         (neutral-agrees r g h c w (and-left (neutral_without_monads r) (without_monads o) n))
         (λ row a x y. object-agrees o g row a c x (and-right (neutral_without_monads r) (without_monads o) n) y)
-    neutral-agrees (fst r) g h c w n = first-agrees g h (eliminations r) (inferred sig g h r) (λ p a. NeutralHasType sig g p r a) (neutral-agrees r g h c w n)
-    neutral-agrees (snd r) g h c w n = second-agrees g h (eliminations r) (inferred sig g h r) (λ p a. NeutralHasType sig g p r a) (neutral-agrees r g h c w n)
+    neutral-agrees (fst r) g h c w n = first-agrees g h (eliminations r) (inferred sig g h r) (λ p a. Synthesizes sig g p r a) (neutral-agrees r g h c w n)
+    neutral-agrees (snd r) g h c w n = second-agrees g h (eliminations r) (inferred sig g h r) (λ p a. Synthesizes sig g p r a) (neutral-agrees r g h c w n)
 
 pub checks_exactly : ChecksExactly
 checks_exactly sig g h n t s c w m e = object-agrees sig s n g h t c w m e

@@ -5,16 +5,16 @@ use Rattle.clf_syntax.specs.declared.tree.Mode.{Mode}
 use Rattle.clf_syntax.specs.declared.tree.Mode.TheVariants.{Persistent, Affine, Linear}
 use Rattle.clf_syntax.specs.declared.tree.Head.{Head}
 use Rattle.clf_syntax.specs.declared.tree.Head.TheVariants.{Const, Var, Meta}
-use Rattle.clf_syntax.specs.Tree.{Object, lam, pair, unit, monadic, atomic, hole, PlainNeutral, bare, app, fst, snd}
+use Rattle.clf_syntax.specs.Tree.{PlainObject, lam, pair, unit, monadic, atomic, hole, PlainNeutral, head_alone, app, fst, snd}
 use Rattle.clf_syntax.specs.TypeTree.{PlainType, family, function, both, top, monad}
 use Rattle.use_contexts.specs.Context.{Context, modes}
 use Rattle.use_contexts.specs.Holding.{Holding, WellMarked}
-use Rattle.use_contexts.specs.Rows.{implies, within, stands, differs, IsPart, EachWithin, EachStands, Stands, Agrees, newest_difference, is_unused, now, later, allowed, outside, slack_outside}
+use Rattle.use_contexts.specs.Rows.{implies, within, stands, differs, IsSubholding, EachWithin, EachStands, Stands, Agrees, newest_difference, is_unused, newest, older, allowed, outside, slack_outside}
 use Rattle.use_contexts.proofs.Bits.{at_entry, given, given_3, and-left, and-right, and-both}
-use Rattle.use_contexts.proofs.RowLaws.{IsPart-stands}
+use Rattle.use_contexts.proofs.RowLaws.{IsSubholding-stands}
 use Rattle.use_contexts.proofs.UseLaws.{WellMarked-part}
 use Rattle.clf_sig.specs.Entry.{PlainSignature, constant_type}
-use Rattle.clf_kernel.specs.Typing.{HasType, NeutralHasType}
+use Rattle.clf_kernel.specs.Typing.{HasType, Synthesizes}
 use Rattle.clf_kernel.specs.Refusal.{Cause, unused, mode_differs, family_differs, Outcome, passed, refused, at_part, and_then, Leftover, eliminations}
 use Rattle.clf_kernel.specs.Checking.{answer_of, same_mode, constant_left, held_left, variable_left, head_left, closed_scope, lambda_left, joined_left, pair_left, unit_left, found_left, atomic_left, argument_left, first_left, second_left, checked, inferred}
 use Rattle.clf_kernel.specs.Reach.{without_indices, IsSimpleSignature, IsSimpleContext, without_monads, neutral_without_monads}
@@ -35,37 +35,37 @@ used_stands m h l s a =
 
 abbrev pub used_of : List Mode → Holding → Holding → Holding
 used_of [] h l = []
-used_of (m ∷ ms) h l = used m (now h) (now l) ∷ used_of ms (later h) (later l)
+used_of (m ∷ ms) h l = used m (newest h) (newest l) ∷ used_of ms (older h) (older l)
 
 length-used_of : (ms : List Mode) (h l : Holding) → length (used_of ms h l) ≡ length ms
 length-used_of [] h l = refl
-length-used_of (m ∷ ms) h l = ap suc (length-used_of ms (later h) (later l))
+length-used_of (m ∷ ms) h l = ap suc (length-used_of ms (older h) (older l))
 
 each-used_of : (ms : List Mode) (h l : Holding) (s : Bool) → EachWithin ms h l → EachStands ms h l s (used_of ms h l)
 each-used_of [] h l s w = tt
-each-used_of (m ∷ ms) h l s w = (used_stands m (now h) (now l) s w.0, each-used_of ms (later h) (later l) s w.1)
+each-used_of (m ∷ ms) h l s w = (used_stands m (newest h) (newest l) s w.0, each-used_of ms (older h) (older l) s w.1)
 
 -- what has an answer holds of that part
-pub used-part : (ms : List Mode) (h : Holding) (a : Leftover) (P : Holding → Type 0) → Agrees ms h (Some a) P → IsPart ms h (used_of ms h a.0) × P (used_of ms h a.0)
+pub used-part : (ms : List Mode) (h : Holding) (a : Leftover) (P : Holding → Type 0) → Agrees ms h (Some a) P → IsSubholding ms h (used_of ms h a.0) × P (used_of ms h a.0)
 used-part ms h a P x =
     let p = used_of ms h a.0 in
     let s : Stands ms h a.0 a.1 p = (length-used_of ms h a.0, each-used_of ms h a.0 a.1 x.0.1) in
-    let w = IsPart-stands ms h a.0 a.1 p s in
+    let w = IsSubholding-stands ms h a.0 a.1 p s in
     (w, x.2 p w s)
 
-pub some-part : (ms : List Mode) (h : Holding) (a : Leftover) (P : Holding → Type 0) → Agrees ms h (Some a) P → (p : Holding) × IsPart ms h p × P p
+pub some-part : (ms : List Mode) (h : Holding) (a : Leftover) (P : Holding → Type 0) → Agrees ms h (Some a) P → (p : Holding) × IsSubholding ms h p × P p
 some-part ms h a P x = let p = used-part ms h a P x in (used_of ms h a.0, p.0, p.1)
 
 -- ---- entries of parts
-get-now : (p : Holding) (n : ℕ) (b : Bool) → length p ≡ suc n → now p ≡ b → slice_get p 0 ≡ Some b
+get-now : (p : Holding) (n : ℕ) (b : Bool) → length p ≡ suc n → newest p ≡ b → slice_get p 0 ≡ Some b
 get-now [] n b e q = absurd (omega arith)
 get-now (x ∷ p) n b e q = ap Some q
 
-get-later : (p : Holding) (n i : ℕ) (b : Bool) → length p ≡ suc n → slice_get (later p) i ≡ Some b → slice_get p (suc i) ≡ Some b
+get-later : (p : Holding) (n i : ℕ) (b : Bool) → length p ≡ suc n → slice_get (older p) i ≡ Some b → slice_get p (suc i) ≡ Some b
 get-later [] n i b e q = absurd (omega arith)
 get-later (x ∷ p) n i b e q = q
 
-length-later : (p : Holding) (n : ℕ) → length p ≡ suc n → length (later p) ≡ n
+length-later : (p : Holding) (n : ℕ) → length p ≡ suc n → length (older p) ≡ n
 length-later [] n e = absurd (omega arith)
 length-later (x ∷ p) n e = omega arith
 
@@ -98,20 +98,20 @@ DifferAt ms h l s r t i = (held : Bool) × (slice_get ms i ≡ Some Linear)
     × ((p : Holding) → Stands ms h r t p → slice_get p i ≡ Some (not held))
 
 differ-here : (m : Mode) (ms : List Mode) (h l : Holding) (s : Bool) (r : Holding) (t : Bool) → EachWithin (m ∷ ms) h l → EachWithin (m ∷ ms) h r
-    → differs m (now l) s (now r) t ≡ true → DifferAt (m ∷ ms) h l s r t 0
+    → differs m (newest l) s (newest r) t ≡ true → DifferAt (m ∷ ms) h l s r t 0
 differ-here m ms h l s r t a b e = (
-  now r,
-  ap Some (difference_linear m (now l) s (now r) t e),
-  (λ p x. get-now p (length ms) (now r) x.0 (first_holds m (now h) (now l) s (now r) t (now p) e x.1.0 b.0)),
-  (λ p x. get-now p (length ms) (not (now r)) x.0 (second_holds m (now h) (now l) s (now r) t (now p) e x.1.0 a.0)),
+  newest r,
+  ap Some (difference_linear m (newest l) s (newest r) t e),
+  (λ p x. get-now p (length ms) (newest r) x.0 (first_holds m (newest h) (newest l) s (newest r) t (newest p) e x.1.0 b.0)),
+  (λ p x. get-now p (length ms) (not (newest r)) x.0 (second_holds m (newest h) (newest l) s (newest r) t (newest p) e x.1.0 a.0)),
 )
 
-differ-later : (m : Mode) (ms : List Mode) (h l : Holding) (s : Bool) (r : Holding) (t : Bool) (i : ℕ) → DifferAt ms (later h) (later l) s (later r) t i → DifferAt (m ∷ ms) h l s r t (suc i)
+differ-later : (m : Mode) (ms : List Mode) (h l : Holding) (s : Bool) (r : Holding) (t : Bool) (i : ℕ) → DifferAt ms (older h) (older l) s (older r) t i → DifferAt (m ∷ ms) h l s r t (suc i)
 differ-later m ms h l s r t i d = (
   d.0,
   d.1,
-  (λ p x. get-later p (length ms) i d.0 x.0 (d.2 (later p) (length-later p (length ms) x.0, x.1.1))),
-  (λ p x. get-later p (length ms) i (not d.0) x.0 (d.3 (later p) (length-later p (length ms) x.0, x.1.1))),
+  (λ p x. get-later p (length ms) i d.0 x.0 (d.2 (older p) (length-later p (length ms) x.0, x.1.1))),
+  (λ p x. get-later p (length ms) i (not d.0) x.0 (d.3 (older p) (length-later p (length ms) x.0, x.1.1))),
 )
 
 pub differ-at : (ms : List Mode) (h l : Holding) (s : Bool) (r : Holding) (t : Bool) (i : ℕ) → newest_difference ms l s r t ≡ Some i → EachWithin ms h l → EachWithin ms h r → DifferAt ms h l s r t i
@@ -119,10 +119,10 @@ differ-at [] h l s r t i e a b = absurd (cc)
 differ-at (m ∷ ms) h [] s r t i e a b = absurd (cc)
 differ-at (m ∷ ms) h (x ∷ l) s [] t i e a b = absurd (cc)
 differ-at (m ∷ ms) h (x ∷ l) s (y ∷ r) t i e a b =
-    by (differs m x s y t) refl (newest_difference ms l s r t) i e (λ k q. differ-at ms (later h) l s r t k q a.1 b.1)
+    by (differs m x s y t) refl (newest_difference ms l s r t) i e (λ k q. differ-at ms (older h) l s r t k q a.1 b.1)
   where
     by : (d : Bool) → differs m x s y t ≡ d → (o : Option ℕ) → (i : ℕ) → (if d then Some 0 else option_map suc o) ≡ Some i
-        → ((k : ℕ) → o ≡ Some k → DifferAt ms (later h) l s r t k) → DifferAt (m ∷ ms) h (x ∷ l) s (y ∷ r) t i
+        → ((k : ℕ) → o ≡ Some k → DifferAt ms (older h) l s r t k) → DifferAt (m ∷ ms) h (x ∷ l) s (y ∷ r) t i
     by true f o zero n rest = differ-here m ms h (x ∷ l) s (y ∷ r) t a b f
     by true f o (suc i) n rest = absurd (cc)
     by false f None i n rest = absurd (cc)
@@ -158,28 +158,28 @@ found-here : (m : Mode) (ms : List Mode) (h : Holding) (x : Bool) (l : Holding) 
 found-here Persistent ms h x l s y r t a b d = let e = d.1 in cc
 found-here Affine ms h x l s y r t a b d = let e = d.1 in cc
 found-here Linear ms h x l s y r t a b d =
-    let p = used_of ms (later h) l in
-    let q = used_of ms (later h) r in
-    let np : length (true ∷ p) ≡ length (Linear ∷ ms) = ap suc (length-used_of ms (later h) l) in
-    let nq : length (true ∷ q) ≡ length (Linear ∷ ms) = ap suc (length-used_of ms (later h) r) in
-    let ep = each-used_of ms (later h) l s a.1 in
-    let eq = each-used_of ms (later h) r t b.1 in
-    let one = d.2 (used Linear (now h) x ∷ p) (np, (used_stands Linear (now h) x s a.0, ep)) in
-    let two = d.2 (most (now h) x s ∷ p) (np, (most_stands (now h) x s a.0, ep)) in
-    let three = d.3 (used Linear (now h) y ∷ q) (nq, (used_stands Linear (now h) y t b.0, eq)) in
-    let four = d.3 (most (now h) y t ∷ q) (nq, (most_stands (now h) y t b.0, eq)) in
-    opposite_differs (now h) x s y t d.0
-    (and-both (beq (used Linear (now h) x) d.0 && beq (most (now h) x s) d.0) (beq (used Linear (now h) y) (not d.0) && beq (most (now h) y t) (not d.0))
-    (and-both (beq (used Linear (now h) x) d.0) (beq (most (now h) x s) d.0) (beq_from_same (used Linear (now h) x) d.0 one) (beq_from_same (most (now h) x s) d.0 two))
-    (and-both (beq (used Linear (now h) y) (not d.0)) (beq (most (now h) y t) (not d.0)) (beq_from_same (used Linear (now h) y) (not d.0) three) (beq_from_same (most (now h) y t) (not d.0) four)))
+    let p = used_of ms (older h) l in
+    let q = used_of ms (older h) r in
+    let np : length (true ∷ p) ≡ length (Linear ∷ ms) = ap suc (length-used_of ms (older h) l) in
+    let nq : length (true ∷ q) ≡ length (Linear ∷ ms) = ap suc (length-used_of ms (older h) r) in
+    let ep = each-used_of ms (older h) l s a.1 in
+    let eq = each-used_of ms (older h) r t b.1 in
+    let one = d.2 (used Linear (newest h) x ∷ p) (np, (used_stands Linear (newest h) x s a.0, ep)) in
+    let two = d.2 (most (newest h) x s ∷ p) (np, (most_stands (newest h) x s a.0, ep)) in
+    let three = d.3 (used Linear (newest h) y ∷ q) (nq, (used_stands Linear (newest h) y t b.0, eq)) in
+    let four = d.3 (most (newest h) y t ∷ q) (nq, (most_stands (newest h) y t b.0, eq)) in
+    opposite_differs (newest h) x s y t d.0
+    (and-both (beq (used Linear (newest h) x) d.0 && beq (most (newest h) x s) d.0) (beq (used Linear (newest h) y) (not d.0) && beq (most (newest h) y t) (not d.0))
+    (and-both (beq (used Linear (newest h) x) d.0) (beq (most (newest h) x s) d.0) (beq_from_same (used Linear (newest h) x) d.0 one) (beq_from_same (most (newest h) x s) d.0 two))
+    (and-both (beq (used Linear (newest h) y) (not d.0)) (beq (most (newest h) y t) (not d.0)) (beq_from_same (used Linear (newest h) y) (not d.0) three) (beq_from_same (most (newest h) y t) (not d.0) four)))
 
 found-later : (m : Mode) (ms : List Mode) (h : Holding) (x : Bool) (l : Holding) (s y : Bool) (r : Holding) (t : Bool) (j : ℕ) → EachWithin (m ∷ ms) h (x ∷ l) → EachWithin (m ∷ ms) h (y ∷ r)
-    → DifferAt (m ∷ ms) h (x ∷ l) s (y ∷ r) t (suc j) → DifferAt ms (later h) l s r t j
+    → DifferAt (m ∷ ms) h (x ∷ l) s (y ∷ r) t (suc j) → DifferAt ms (older h) l s r t j
 found-later m ms h x l s y r t j a b d = (
   d.0,
   d.1,
-  (λ p w. d.2 (used m (now h) x ∷ p) (ap suc w.0, (used_stands m (now h) x s a.0, w.1))),
-  (λ p w. d.3 (used m (now h) y ∷ p) (ap suc w.0, (used_stands m (now h) y t b.0, w.1))),
+  (λ p w. d.2 (used m (newest h) x ∷ p) (ap suc w.0, (used_stands m (newest h) x s a.0, w.1))),
+  (λ p w. d.3 (used m (newest h) y ∷ p) (ap suc w.0, (used_stands m (newest h) y t b.0, w.1))),
 )
 
 -- Where two rows' parts differ at an entry, the newest difference is there, or is newer.
@@ -189,27 +189,27 @@ differ-found [] h l s r t j n k a b d = let e = d.1 in absurd (cc)
 differ-found (m ∷ ms) h [] s r t j n k a b d = absurd (omega arith)
 differ-found (m ∷ ms) h (x ∷ l) s [] t j n k a b d = absurd (omega arith)
 differ-found (m ∷ ms) h (x ∷ l) s (y ∷ r) t j n k a b d =
-    by (differs m x s y t) refl (newest_difference ms l s r t) j d (λ i e. differ-found ms (later h) l s r t i (omega arith) (omega arith) a.1 b.1 e)
+    by (differs m x s y t) refl (newest_difference ms l s r t) j d (λ i e. differ-found ms (older h) l s r t i (omega arith) (omega arith) a.1 b.1 e)
   where
     by : (z : Bool) → differs m x s y t ≡ z → (o : Option ℕ) → (j : ℕ) → DifferAt (m ∷ ms) h (x ∷ l) s (y ∷ r) t j
-        → ((i : ℕ) → DifferAt ms (later h) l s r t i → (f : ℕ) × (o ≡ Some f) × (f ≤ i)) → (f : ℕ) × ((if z then Some 0 else option_map suc o) ≡ Some f) × (f ≤ j)
+        → ((i : ℕ) → DifferAt ms (older h) l s r t i → (f : ℕ) × (o ≡ Some f) × (f ≤ i)) → (f : ℕ) × ((if z then Some 0 else option_map suc o) ≡ Some f) × (f ≤ j)
     by true f o j e rest = (0, refl, omega arith)
     by false f o zero e rest = let g = found-here m ms h x l s y r t a b e in absurd (cc)
     by false f o (suc j) e rest = let g = rest j (found-later m ms h x l s y r t j a b e) in (suc g.0, ap (option_map suc) g.1, omega (arith, g.2))
 
 -- what differs at an entry of a pair, said of the rows that its parts leave
-pub rows-differ : (sig : PlainSignature) (g : Context) (h : Holding) (l : Object) (a : PlainType) (r : Object) (c : PlainType) (u v : Leftover) (i : ℕ)
+pub rows-differ : (sig : PlainSignature) (g : Context) (h : Holding) (l : PlainObject) (a : PlainType) (r : PlainObject) (c : PlainType) (u v : Leftover) (i : ℕ)
     → Agrees (modes g) h (Some u) (λ p. HasType sig g p l a) → Agrees (modes g) h (Some v) (λ p. HasType sig g p r c)
     → DiffersAt sig g h l a r c i → DifferAt (modes g) h u.0 u.1 v.0 v.1 i
 rows-differ sig g h l a r c u v i x y d = (
   d.0,
   d.1,
-  (λ p s. let w = IsPart-stands (modes g) h u.0 u.1 p s in d.2 p w (x.2 p w s)),
-  (λ p s. let w = IsPart-stands (modes g) h v.0 v.1 p s in d.3 p w (y.2 p w s)),
+  (λ p s. let w = IsSubholding-stands (modes g) h u.0 u.1 p s in d.2 p w (x.2 p w s)),
+  (λ p s. let w = IsSubholding-stands (modes g) h v.0 v.1 p s in d.3 p w (y.2 p w s)),
 )
 
 -- and back
-pub parts-differ : (sig : PlainSignature) (g : Context) (h : Holding) (l : Object) (a : PlainType) (r : Object) (c : PlainType) (u v : Leftover) (i : ℕ)
+pub parts-differ : (sig : PlainSignature) (g : Context) (h : Holding) (l : PlainObject) (a : PlainType) (r : PlainObject) (c : PlainType) (u v : Leftover) (i : ℕ)
     → Agrees (modes g) h (Some u) (λ p. HasType sig g p l a) → Agrees (modes g) h (Some v) (λ p. HasType sig g p r c)
     → DifferAt (modes g) h u.0 u.1 v.0 v.1 i → DiffersAt sig g h l a r c i
 parts-differ sig g h l a r c u v i x y d = (d.0, d.1, (λ p w t. d.2 p (x.1 p w t)), (λ p w t. d.3 p (y.1 p w t)))
@@ -219,7 +219,7 @@ not-newer i j o e l f = let same : Some i ≡ Some f.0 = sym e ∙ f.1 in let k 
 
 -- ---- outcomes
 -- A refusal has a part at its path that is refused for its cause.
-abbrev Explained : PlainSignature → Context → Holding → Object → PlainType → Outcome Leftover → Type 0
+abbrev Explained : PlainSignature → Context → Holding → PlainObject → PlainType → Outcome Leftover → Type 0
 Explained sig g h n t (passed a) = Unit {0}
 Explained sig g h n t (refused path why) = ExplainedAt sig g h n t path why
 
@@ -235,9 +235,9 @@ unheld true false true e q = cc
 unheld false s true e q = cc
 
 module _ (sig : PlainSignature) (g : Context) (h : Holding) where
-  scope-explained : (m : Mode) (b : Object) (a c : PlainType) (y : Leftover) (x : Bool) → is_unused m (now y.0) y.1 ≡ x
+  scope-explained : (m : Mode) (b : PlainObject) (a c : PlainType) (y : Leftover) (x : Bool) → is_unused m (newest y.0) y.1 ≡ x
       → Agrees (m ∷ modes g) (true ∷ h) (Some y) (λ p. HasType sig ((m, a) ∷ g) p b c)
-      → Explained sig g h (lam m b) (function m a c) (if x then refused [] (unused (suc (length g))) else passed (later y.0, y.1))
+      → Explained sig g h (lam m b) (function m a c) (if x then refused [] (unused (suc (length g))) else passed (older y.0, y.1))
   scope-explained m b a c y false e u = tt
   scope-explained Persistent b a c y true e u = absurd (cc)
   scope-explained Affine b a c y true e u = absurd (cc)
@@ -247,17 +247,17 @@ module _ (sig : PlainSignature) (g : Context) (h : Holding) where
     object_at (lam Linear b) (function Linear a c),
     whole,
     variable_unused (some-part (Linear ∷ modes g) (true ∷ h) y (λ p. HasType sig ((Linear, a) ∷ g) p b c) u)
-        (λ p w t. get-now p (length (modes g)) false w.0 (unheld (now y.0) y.1 (now p) e (u.1 p w t).1.0)),
+        (λ p w t. get-now p (length (modes g)) false w.0 (unheld (newest y.0) y.1 (newest p) e (u.1 p w t).1.0)),
   )
 
-  body-explained : (m : Mode) (b : Object) (a c : PlainType) (r : Outcome Leftover)
+  body-explained : (m : Mode) (b : PlainObject) (a c : PlainType) (r : Outcome Leftover)
       → Agrees (m ∷ modes g) (true ∷ h) (answer_of r) (λ p. HasType sig ((m, a) ∷ g) p b c)
       → Explained sig ((m, a) ∷ g) (true ∷ h) b c r
       → Explained sig g h (lam m b) (function m a c) (and_then (at_part 0 r) (closed_scope m g))
   body-explained m b a c (refused path why) u v = (v.0, v.1, v.2, in_body v.3, v.4)
-  body-explained m b a c (passed y) u v = scope-explained m b a c y (is_unused m (now y.0) y.1) refl u
+  body-explained m b a c (passed y) u v = scope-explained m b a c y (is_unused m (newest y.0) y.1) refl u
 
-  function-explained : (m k : Mode) (x : Bool) → same_mode m k ≡ x → (b : Object) (a c : PlainType) (r : Outcome Leftover)
+  function-explained : (m k : Mode) (x : Bool) → same_mode m k ≡ x → (b : PlainObject) (a c : PlainType) (r : Outcome Leftover)
       → Agrees (m ∷ modes g) (true ∷ h) (answer_of r) (λ p. HasType sig ((m, a) ∷ g) p b c)
       → Explained sig ((m, a) ∷ g) (true ∷ h) b c r
       → Explained sig g h (lam m b) (function k a c) (if x then and_then (at_part 0 r) (closed_scope m g) else refused [] (mode_differs k m))
@@ -265,7 +265,7 @@ module _ (sig : PlainSignature) (g : Context) (h : Holding) where
       subst (λ j. Explained sig g h (lam m b) (function j a c) (and_then (at_part 0 r) (closed_scope m g))) (same-mode m k e) (body-explained m b a c r u v)
   function-explained m k false e b a c r u v = (g, h, object_at (lam m b) (function k a c), whole, lambda_differs (other-mode m k e))
 
-  lambda-explained : (m : Mode) (b : Object) (t : PlainType) (body : PlainType → PlainType → Outcome Leftover) → without_indices t ≡ true
+  lambda-explained : (m : Mode) (b : PlainObject) (t : PlainType) (body : PlainType → PlainType → Outcome Leftover) → without_indices t ≡ true
       → ((a c : PlainType) → without_indices a ≡ true → without_indices c ≡ true → Agrees (m ∷ modes g) (true ∷ h) (answer_of (body a c)) (λ p. HasType sig ((m, a) ∷ g) p b c))
       → ((a c : PlainType) → without_indices a ≡ true → without_indices c ≡ true → Explained sig ((m, a) ∷ g) (true ∷ h) b c (body a c))
       → Explained sig g h (lam m b) t (lambda_left m g t body)
@@ -279,7 +279,7 @@ module _ (sig : PlainSignature) (g : Context) (h : Holding) where
   lambda-explained m b (monad s) body e u v = (g, h, object_at (lam m b) (monad s), whole, lambda_at_none (λ k a c q. absurd (cc)))
 
   -- ---- pairs
-  joined-explained : (l r : Object) (a c : PlainType) (u v : Leftover) (o : Option ℕ) → newest_difference (modes g) u.0 u.1 v.0 v.1 ≡ o
+  joined-explained : (l r : PlainObject) (a c : PlainType) (u v : Leftover) (o : Option ℕ) → newest_difference (modes g) u.0 u.1 v.0 v.1 ≡ o
       → Agrees (modes g) h (Some u) (λ p. HasType sig g p l a) → Agrees (modes g) h (Some v) (λ p. HasType sig g p r c)
       → Explained sig g h (pair l r) (both a c) (joined_left g u v o)
   joined-explained l r a c u v None e x y = tt
@@ -294,7 +294,7 @@ module _ (sig : PlainSignature) (g : Context) (h : Holding) where
             (differ-found (modes g) h u.0 u.1 v.0 v.1 j x.0.0 y.0.0 x.0.1 y.0.1 (rows-differ sig g h l a r c u v j x y f))),
       )
 
-  parts-explained : (l r : Object) (a c : PlainType) (x y : Outcome Leftover)
+  parts-explained : (l r : PlainObject) (a c : PlainType) (x y : Outcome Leftover)
       → Agrees (modes g) h (answer_of x) (λ p. HasType sig g p l a) → Agrees (modes g) h (answer_of y) (λ p. HasType sig g p r c)
       → Explained sig g h l a x → Explained sig g h r c y
       → Explained sig g h (pair l r) (both a c) (and_then (at_part 0 x) (λ u. and_then (at_part 1 y) (λ v. joined_left g u v (newest_difference (modes g) u.0 u.1 v.0 v.1))))
@@ -302,7 +302,7 @@ module _ (sig : PlainSignature) (g : Context) (h : Holding) where
   parts-explained l r a c (passed x) (refused path why) i j u v = (v.0, v.1, v.2, in_right_part (some-part (modes g) h x (λ p. HasType sig g p l a) i) v.3, v.4)
   parts-explained l r a c (passed x) (passed y) i j u v = joined-explained l r a c x y (newest_difference (modes g) x.0 x.1 y.0 y.1) refl i j
 
-  pair-explained : (l r : Object) (t : PlainType) (left right : PlainType → Outcome Leftover) → without_indices t ≡ true
+  pair-explained : (l r : PlainObject) (t : PlainType) (left right : PlainType → Outcome Leftover) → without_indices t ≡ true
       → ((a : PlainType) → without_indices a ≡ true → Agrees (modes g) h (answer_of (left a)) (λ p. HasType sig g p l a) × Explained sig g h l a (left a))
       → ((c : PlainType) → without_indices c ≡ true → Agrees (modes g) h (answer_of (right c)) (λ p. HasType sig g p r c) × Explained sig g h r c (right c))
       → Explained sig g h (pair l r) t (pair_left g t left right)
@@ -324,12 +324,12 @@ module _ (sig : PlainSignature) (g : Context) (h : Holding) where
   unit-explained (monad s) = (g, h, object_at unit (monad s), whole, unit_at_none (λ q. absurd (cc)))
 
   -- ---- atomic objects
-  family-explained : (r : PlainNeutral) (wanted found : ℕ) (ns os : List Object) (a : Leftover) (x : Bool) → (wanted == found) ≡ x → MaySynthesize sig g h r (family found os)
+  family-explained : (r : PlainNeutral) (wanted found : ℕ) (ns os : List PlainObject) (a : Leftover) (x : Bool) → (wanted == found) ≡ x → MaySynthesize sig g h r (family found os)
       → Explained sig g h (atomic r) (family wanted ns) (if x then passed a else refused [] (family_differs found wanted))
   family-explained r wanted found ns os a true e u = tt
   family-explained r wanted found ns os a false e u = (g, h, object_at (atomic r) (family wanted ns), whole, other_family os u (other-number wanted found e))
 
-  found-explained : (r : PlainNeutral) (wanted : ℕ) (ns : List Object) (t : PlainType) (a : Leftover) → MaySynthesize sig g h r t
+  found-explained : (r : PlainNeutral) (wanted : ℕ) (ns : List PlainObject) (t : PlainType) (a : Leftover) → MaySynthesize sig g h r t
       → Explained sig g h (atomic r) (family wanted ns) (found_left wanted t a)
   found-explained r wanted ns (family found os) a u = family-explained r wanted found ns os a (wanted == found) refl u
   found-explained r wanted ns (function m d c) a u = (g, h, object_at (atomic r) (family wanted ns), whole, neutral_of_none u (λ f os q. absurd (cc)))
@@ -338,10 +338,10 @@ module _ (sig : PlainSignature) (g : Context) (h : Holding) where
   found-explained r wanted ns (monad s) a u = (g, h, object_at (atomic r) (family wanted ns), whole, neutral_of_none u (λ f os q. absurd (cc)))
 
   -- the type that was found, under some part
-  synthesized : (r : PlainNeutral) (f : PlainType × Leftover) → AgreesWithType g h (passed f) (λ p a. NeutralHasType sig g p r a) → MaySynthesize sig g h r f.0
-  synthesized r f u = some-part (modes g) h f.1 (λ p. NeutralHasType sig g p r f.0) u.1
+  synthesized : (r : PlainNeutral) (f : PlainType × Leftover) → AgreesWithType g h (passed f) (λ p a. Synthesizes sig g p r a) → MaySynthesize sig g h r f.0
+  synthesized r f u = some-part (modes g) h f.1 (λ p. Synthesizes sig g p r f.0) u.1
 
-  atomic-explained : (r : PlainNeutral) (t : PlainType) (o : Outcome (PlainType × Leftover)) → AgreesWithType g h o (λ p a. NeutralHasType sig g p r a)
+  atomic-explained : (r : PlainNeutral) (t : PlainType) (o : Outcome (PlainType × Leftover)) → AgreesWithType g h o (λ p a. Synthesizes sig g p r a)
       → NeutralExplained sig g h r o → Explained sig g h (atomic r) t (and_then o (atomic_left t))
   atomic-explained r t (refused path why) u v = (v.0, v.1, v.2, in_neutral v.3, v.4)
   atomic-explained r (family wanted ns) (passed f) u v = found-explained r wanted ns f.0 f.1 (synthesized r f u)
@@ -351,23 +351,23 @@ module _ (sig : PlainSignature) (g : Context) (h : Holding) where
   atomic-explained r (monad s) (passed f) u v = (g, h, object_at (atomic r) (monad s), whole, neutral_at_none f.0 (synthesized r f u) (λ i os q. absurd (cc)))
 
   -- ---- applications
-  argument-explained : (m : Mode) (r : PlainNeutral) (n : Object) (a c : PlainType) (x : Leftover) (o : Outcome Leftover)
-      → Agrees (modes g) h (Some x) (λ p. NeutralHasType sig g p r (function m a c)) → Explained sig g (allowed m (modes g) x.0) n a o
+  argument-explained : (m : Mode) (r : PlainNeutral) (n : PlainObject) (a c : PlainType) (x : Leftover) (o : Outcome Leftover)
+      → Agrees (modes g) h (Some x) (λ p. Synthesizes sig g p r (function m a c)) → Explained sig g (allowed m (modes g) x.0) n a o
       → NeutralExplained sig g h (app m r n) (and_then (at_part (eliminations r) o) (λ y. passed (c, (outside m (modes g) x.0 y.0, x.1 || slack_outside m y.1))))
   argument-explained m r n a c x (refused path why) u v = (v.0, v.1, v.2, in_argument_part a c x.0 x.1 u v.3, v.4)
   argument-explained m r n a c x (passed y) u v = tt
 
-  mode-explained : (m k : Mode) (z : Bool) → same_mode m k ≡ z → (r : PlainNeutral) (n : Object) (a c : PlainType) (x : Leftover) (o : Outcome Leftover)
-      → AgreesWithType g h (passed (function k a c, x)) (λ p t. NeutralHasType sig g p r t) → Explained sig g (allowed m (modes g) x.0) n a o
+  mode-explained : (m k : Mode) (z : Bool) → same_mode m k ≡ z → (r : PlainNeutral) (n : PlainObject) (a c : PlainType) (x : Leftover) (o : Outcome Leftover)
+      → AgreesWithType g h (passed (function k a c, x)) (λ p t. Synthesizes sig g p r t) → Explained sig g (allowed m (modes g) x.0) n a o
       → NeutralExplained sig g h (app m r n)
       (if z then and_then (at_part (eliminations r) o) (λ y. passed (c, (outside m (modes g) x.0 y.0, x.1 || slack_outside m y.1))) else refused (eliminations r ∷ []) (mode_differs k m))
   mode-explained m k true e r n a c x o u v =
-      argument-explained m r n a c x o (subst (λ j. Agrees (modes g) h (Some x) (λ p. NeutralHasType sig g p r (function j a c))) (sym (same-mode m k e)) u.1) v
+      argument-explained m r n a c x o (subst (λ j. Agrees (modes g) h (Some x) (λ p. Synthesizes sig g p r (function j a c))) (sym (same-mode m k e)) u.1) v
   mode-explained m k false e r n a c x o u v =
       (g, h, neutral_with (app m r n), at_argument, argument_differs a c (synthesized r (function k a c, x) u) (other-mode m k e))
 
-  argument-left-explained : (m : Mode) (r : PlainNeutral) (n : Object) (f : PlainType) (x : Leftover) (argument : Holding → PlainType → Outcome Leftover)
-      → AgreesWithType g h (passed (f, x)) (λ p a. NeutralHasType sig g p r a)
+  argument-left-explained : (m : Mode) (r : PlainNeutral) (n : PlainObject) (f : PlainType) (x : Leftover) (argument : Holding → PlainType → Outcome Leftover)
+      → AgreesWithType g h (passed (f, x)) (λ p a. Synthesizes sig g p r a)
       → ((row : Holding) (a : PlainType) → WellMarked (modes g) row → without_indices a ≡ true → Explained sig g row n a (argument row a))
       → NeutralExplained sig g h (app m r n) (argument_left m g (eliminations r) (f, x) argument)
   argument-left-explained m r n (function k a c) x argument u v =
@@ -379,15 +379,15 @@ module _ (sig : PlainSignature) (g : Context) (h : Holding) where
   argument-left-explained m r n top x argument u v = (g, h, neutral_with (app m r n), at_argument, argument_to_none (synthesized r (top, x) u) (λ k a c q. absurd (cc)))
   argument-left-explained m r n (monad s) x argument u v = (g, h, neutral_with (app m r n), at_argument, argument_to_none (synthesized r (monad s, x) u) (λ k a c q. absurd (cc)))
 
-  application-explained : (m : Mode) (r : PlainNeutral) (n : Object) (o : Outcome (PlainType × Leftover)) (argument : Holding → PlainType → Outcome Leftover)
-      → AgreesWithType g h o (λ p a. NeutralHasType sig g p r a) → NeutralExplained sig g h r o
+  application-explained : (m : Mode) (r : PlainNeutral) (n : PlainObject) (o : Outcome (PlainType × Leftover)) (argument : Holding → PlainType → Outcome Leftover)
+      → AgreesWithType g h o (λ p a. Synthesizes sig g p r a) → NeutralExplained sig g h r o
       → ((row : Holding) (a : PlainType) → WellMarked (modes g) row → without_indices a ≡ true → Explained sig g row n a (argument row a))
       → NeutralExplained sig g h (app m r n) (and_then o (λ f. argument_left m g (eliminations r) f argument))
   application-explained m r n (refused path why) argument u v w = (v.0, v.1, v.2, before_argument v.3, v.4)
   application-explained m r n (passed f) argument u v w = argument-left-explained m r n f.0 f.1 argument u w
 
   -- ---- projections
-  first-explained : (r : PlainNeutral) (o : Outcome (PlainType × Leftover)) → AgreesWithType g h o (λ p a. NeutralHasType sig g p r a) → NeutralExplained sig g h r o
+  first-explained : (r : PlainNeutral) (o : Outcome (PlainType × Leftover)) → AgreesWithType g h o (λ p a. Synthesizes sig g p r a) → NeutralExplained sig g h r o
       → NeutralExplained sig g h (fst r) (and_then o (first_left (eliminations r)))
   first-explained r (refused path why) u v = (v.0, v.1, v.2, before_first v.3, v.4)
   first-explained r (passed ((both a c), x)) u v = tt
@@ -396,7 +396,7 @@ module _ (sig : PlainSignature) (g : Context) (h : Holding) where
   first-explained r (passed (top, x)) u v = (g, h, neutral_with (fst r), at_first, first_of_none (synthesized r (top, x) u) (λ a c q. absurd (cc)))
   first-explained r (passed ((monad s), x)) u v = (g, h, neutral_with (fst r), at_first, first_of_none (synthesized r (monad s, x) u) (λ a c q. absurd (cc)))
 
-  second-explained : (r : PlainNeutral) (o : Outcome (PlainType × Leftover)) → AgreesWithType g h o (λ p a. NeutralHasType sig g p r a) → NeutralExplained sig g h r o
+  second-explained : (r : PlainNeutral) (o : Outcome (PlainType × Leftover)) → AgreesWithType g h o (λ p a. Synthesizes sig g p r a) → NeutralExplained sig g h r o
       → NeutralExplained sig g h (snd r) (and_then o (second_left (eliminations r)))
   second-explained r (refused path why) u v = (v.0, v.1, v.2, before_second v.3, v.4)
   second-explained r (passed ((both a c), x)) u v = tt
@@ -406,29 +406,29 @@ module _ (sig : PlainSignature) (g : Context) (h : Holding) where
   second-explained r (passed ((monad s), x)) u v = (g, h, neutral_with (snd r), at_second, second_of_none (synthesized r (monad s, x) u) (λ a c q. absurd (cc)))
 
   -- ---- heads
-  constant-explained : (k : ℕ) (o : Option PlainType) → constant_type sig k ≡ o → NeutralExplained sig g h (bare (Const k)) (constant_left k h o)
+  constant-explained : (k : ℕ) (o : Option PlainType) → constant_type sig k ≡ o → NeutralExplained sig g h (head_alone (Const k)) (constant_left k h o)
   constant-explained k (Some a) e = tt
-  constant-explained k None e = (g, h, neutral_with (bare (Const k)), at_head, no_constant e)
+  constant-explained k None e = (g, h, neutral_with (head_alone (Const k)), at_head, no_constant e)
 
   held-explained : (i : ℕ) (e : Mode × PlainType) → slice_get g i ≡ Some e → WellMarked (modes g) h → (o : Option Bool) → slice_get h i ≡ o
-      → NeutralExplained sig g h (bare (Var i)) (held_left g h i e.1 o)
+      → NeutralExplained sig g h (head_alone (Var i)) (held_left g h i e.1 o)
   held-explained i e q w (Some true) x = tt
-  held-explained i e q w (Some false) x = (g, h, neutral_with (bare (Var i)), at_head, variable_not_held e.0 e.1 q x)
+  held-explained i e q w (Some false) x = (g, h, neutral_with (head_alone (Var i)), at_head, variable_not_held e.0 e.1 q x)
   held-explained i e q w None x = absurd (marked-there g h i w e q x)
 
-  variable-explained : (i : ℕ) (o : Option (Mode × PlainType)) → slice_get g i ≡ o → WellMarked (modes g) h → NeutralExplained sig g h (bare (Var i)) (variable_left g h i o)
+  variable-explained : (i : ℕ) (o : Option (Mode × PlainType)) → slice_get g i ≡ o → WellMarked (modes g) h → NeutralExplained sig g h (head_alone (Var i)) (variable_left g h i o)
   variable-explained i (Some e) q w = held-explained i e q w (slice_get h i) refl
-  variable-explained i None q w = (g, h, neutral_with (bare (Var i)), at_head, no_variable q)
+  variable-explained i None q w = (g, h, neutral_with (head_alone (Var i)), at_head, no_variable q)
 
-  head-explained : (y : Head) → WellMarked (modes g) h → NeutralExplained sig g h (bare y) (head_left sig g h y)
+  head-explained : (y : Head) → WellMarked (modes g) h → NeutralExplained sig g h (head_alone y) (head_left sig g h y)
   head-explained (Const k) w = constant-explained k (constant_type sig k) refl
   head-explained (Var i) w = variable-explained i (slice_get g i) refl w
-  head-explained (Meta k) w = (g, h, neutral_with (bare (Meta k)), at_head, metavariable_stands)
+  head-explained (Meta k) w = (g, h, neutral_with (head_alone (Meta k)), at_head, metavariable_stands)
 
 -- ---- all objects and neutrals
 module _ (sig : PlainSignature) (s : IsSimpleSignature sig) where
   mutual
-    object-explained : (n : Object) (g : Context) (h : Holding) (t : PlainType) → IsSimpleContext g → WellMarked (modes g) h → without_monads n ≡ true → without_indices t ≡ true
+    object-explained : (n : PlainObject) (g : Context) (h : Holding) (t : PlainType) → IsSimpleContext g → WellMarked (modes g) h → without_monads n ≡ true → without_indices t ≡ true
         → Explained sig g h n t (checked sig g h n t)
     object-explained (lam m b) g h t c w n e =
         lambda-explained sig g h m b t (λ a d. checked sig ((m, a) ∷ g) (true ∷ h) b d) e
@@ -447,7 +447,7 @@ module _ (sig : PlainSignature) (s : IsSimpleSignature sig) where
 
     neutral-explained : (r : PlainNeutral) (g : Context) (h : Holding) → IsSimpleContext g → WellMarked (modes g) h → neutral_without_monads r ≡ true
         → NeutralExplained sig g h r (inferred sig g h r)
-    neutral-explained (bare y) g h c w n = head-explained sig g h y w
+    neutral-explained (head_alone y) g h c w n = head-explained sig g h y w
     neutral-explained (app m r o) g h c w n =
         let x = and-left (neutral_without_monads r) (without_monads o) n in
         let y = and-right (neutral_without_monads r) (without_monads o) n in
@@ -457,7 +457,7 @@ module _ (sig : PlainSignature) (s : IsSimpleSignature sig) where
     neutral-explained (snd r) g h c w n = second-explained sig g h r (inferred sig g h r) (neutral-agrees sig s r g h c w n) (neutral-explained r g h c w n)
 
 -- in words of the equation that the laws have
-pub explained-object : (sig : PlainSignature) (g : Context) (h : Holding) (n : Object) (t : PlainType) (path : List ℕ) (why : Cause)
+pub explained-object : (sig : PlainSignature) (g : Context) (h : Holding) (n : PlainObject) (t : PlainType) (path : List ℕ) (why : Cause)
     → IsSimpleSignature sig → IsSimpleContext g → WellMarked (modes g) h → without_monads n ≡ true → without_indices t ≡ true
     → checked sig g h n t ≡ refused path why → ExplainedAt sig g h n t path why
 explained-object sig g h n t path why s c w m e q = subst (λ o. Explained sig g h n t o) q (object-explained sig s n g h t c w m e)

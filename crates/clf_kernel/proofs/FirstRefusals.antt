@@ -5,15 +5,15 @@ use Rattle.std.proofs.lemmas.Bool.{cond-true, cond-false}
 use Rattle.clf_syntax.specs.declared.tree.Mode.{Mode}
 use Rattle.clf_syntax.specs.declared.tree.Mode.TheVariants.{Persistent, Affine, Linear}
 use Rattle.clf_syntax.specs.declared.tree.Head.{Head}
-use Rattle.clf_syntax.specs.Tree.{Object, lam, pair, PlainNeutral, bare, app, fst, snd}
+use Rattle.clf_syntax.specs.Tree.{PlainObject, lam, pair, PlainNeutral, head_alone, app, fst, snd}
 use Rattle.clf_syntax.specs.TypeTree.{PlainType, family, function, both, top, monad}
 use Rattle.use_contexts.specs.Context.{Context, modes}
 use Rattle.use_contexts.specs.Holding.{Holding, WellMarked}
-use Rattle.use_contexts.specs.Rows.{implies, within, stands, IsPart, EachWithin, EachStands, Agrees, newest_difference, is_unused, now, later, allowed, outside, slack_outside}
+use Rattle.use_contexts.specs.Rows.{implies, within, stands, IsSubholding, EachWithin, EachStands, Agrees, newest_difference, is_unused, newest, older, allowed, outside, slack_outside}
 use Rattle.use_contexts.proofs.Bits.{at_entry, given_3, and-left, and-right, and-both}
 use Rattle.use_contexts.proofs.UseLaws.{WellMarked-part, scope-agrees}
 use Rattle.clf_sig.specs.Entry.{PlainSignature}
-use Rattle.clf_kernel.specs.Typing.{HasType, NeutralHasType}
+use Rattle.clf_kernel.specs.Typing.{HasType, Synthesizes}
 use Rattle.clf_kernel.specs.Refusal.{Cause, not_function, not_pair, not_top, not_atomic, unused, mode_differs, family_differs, pairs_differ, Outcome, passed, refused, at_part, and_then, Leftover, eliminations}
 use Rattle.clf_kernel.specs.Checking.{answer_of, same_mode, constant_left, held_left, variable_left, head_left, closed_scope, lambda_left, joined_left, pair_left, unit_left, found_left, atomic_left, argument_left, first_left, second_left, checked, inferred}
 use Rattle.clf_kernel.specs.Reach.{without_indices, IsSimpleSignature, IsSimpleContext, without_monads, neutral_without_monads}
@@ -24,13 +24,13 @@ use Rattle.clf_kernel.proofs.Agreement.{itself-mode, allowed-marked, object-agre
 use Rattle.clf_kernel.proofs.Explanations.{explained-object, explained-neutral, some-part, same_from_beq, differ-at, differ-found, rows-differ, parts-differ, used, used_of, used-part}
 
 -- ---- what may have a type passes
-typed-passes : (ms : List Mode) (h : Holding) (o : Outcome Leftover) (P : Holding → Type 0) → Agrees ms h (answer_of o) P → (p : Holding) × IsPart ms h p × P p
+typed-passes : (ms : List Mode) (h : Holding) (o : Outcome Leftover) (P : Holding → Type 0) → Agrees ms h (answer_of o) P → (p : Holding) × IsSubholding ms h p × P p
     → (y : Leftover) × (o ≡ passed y)
 typed-passes ms h (passed y) P u t = (y, refl)
 typed-passes ms h (refused path why) P u t = absurd (u t.0 t.1 t.2)
 
 synthesized-passes : (g : Context) (h : Holding) (o : Outcome (PlainType × Leftover)) (P : Holding → PlainType → Type 0) (a : PlainType) → AgreesWithType g h o P
-    → (p : Holding) × IsPart (modes g) h p × P p a → (x : Leftover) × (o ≡ passed (a, x))
+    → (p : Holding) × IsSubholding (modes g) h p × P p a → (x : Leftover) × (o ≡ passed (a, x))
 synthesized-passes g h (passed (b, x)) P a u t = let e : a ≡ b = u.2 t.0 a t.2 in (x, ap (λ c. passed (c, x)) (sym e))
 synthesized-passes g h (refused path why) P a u t = absurd (u t.0 a t.1 t.2)
 
@@ -112,11 +112,11 @@ abbrev unused_at : Context → Outcome Leftover
 unused_at g = refused [] (unused (suc (length g)))
 
 unused-scope : (g : Context) (h : Holding) (y : Leftover) (P : Holding → Type 0) → Agrees (Linear ∷ modes g) (true ∷ h) (Some y) P
-    → ((p : Holding) → IsPart (Linear ∷ modes g) (true ∷ h) p → P p → slice_get p 0 ≡ Some false) → (x : Bool) → is_unused Linear (now y.0) y.1 ≡ x
-    → (if x then unused_at g else passed (later y.0, y.1)) ≡ unused_at g
+    → ((p : Holding) → IsSubholding (Linear ∷ modes g) (true ∷ h) p → P p → slice_get p 0 ≡ Some false) → (x : Bool) → is_unused Linear (newest y.0) y.1 ≡ x
+    → (if x then unused_at g else passed (older y.0, y.1)) ≡ unused_at g
 unused-scope g h y P u f true e = refl
 unused-scope g h y P u f false e =
-    let rest : Leftover = (later y.0, y.1) in
+    let rest : Leftover = (older y.0, y.1) in
     let z = subst (λ b. Agrees (modes g) h (if b then None else Some rest) (λ p. P (true ∷ p))) e (scope-agrees Linear (modes g) h (Some y) P u) in
     let p = some-part (modes g) h rest (λ p. P (true ∷ p)) z in
     let q = f (true ∷ p.0) (ap suc p.1.0, (refl, p.1.1)) p.2 in
@@ -144,8 +144,8 @@ same-each [] h [] s (e ∷ b) t m n u v x y = absurd (omega arith)
 same-each (i ∷ ms) h [] s b t m n u v x y = absurd (omega arith)
 same-each (i ∷ ms) h (e ∷ a) s [] t m n u v x y = absurd (omega arith)
 same-each (i ∷ ms) h (e ∷ a) s (f ∷ b) t m n u v x y =
-    let here = same_entry i (now h) e s f t x.0 y.0 (and-both (within i (now h) e) (within i (now h) f) u.0 v.0) in
-    let rest = same-each ms (later h) a s b t (omega arith) (omega arith) u.1 v.1 x.1 y.1 in
+    let here = same_entry i (newest h) e s f t x.0 y.0 (and-both (within i (newest h) e) (within i (newest h) f) u.0 v.0) in
+    let rest = same-each ms (older h) a s b t (omega arith) (omega arith) u.1 v.1 x.1 y.1 in
     cc (here, rest)
 
 same-row : (ms : List Mode) (h : Holding) (a b : Leftover) (P : Holding → Type 0) → Agrees ms h (Some a) P → Agrees ms h (Some b) P → a.0 ≡ b.0
@@ -162,14 +162,14 @@ argument_passed m g r d x o = and_then (at_part (eliminations r) o) (λ y. passe
 module _ (sig : PlainSignature) (simple : IsSimpleSignature sig) (g : Context) (c : IsSimpleContext g) (h : Holding) (w : WellMarked (modes g) h) where
   -- a neutral that may synthesize a type passes with it
   inferred-as : (r : PlainNeutral) (a : PlainType) → neutral_without_monads r ≡ true → MaySynthesize sig g h r a → (x : Leftover) × (inferred sig g h r ≡ passed (a, x))
-  inferred-as r a n t = synthesized-passes g h (inferred sig g h r) (λ p b. NeutralHasType sig g p r b) a (neutral-agrees sig simple r g h c w n) t
+  inferred-as r a n t = synthesized-passes g h (inferred sig g h r) (λ p b. Synthesizes sig g p r b) a (neutral-agrees sig simple r g h c w n) t
 
-  checked-as : (n : Object) (t : PlainType) → without_monads n ≡ true → without_indices t ≡ true → MayHaveType sig g h n t → (y : Leftover) × (checked sig g h n t ≡ passed y)
+  checked-as : (n : PlainObject) (t : PlainType) → without_monads n ≡ true → without_indices t ≡ true → MayHaveType sig g h n t → (y : Leftover) × (checked sig g h n t ≡ passed y)
   checked-as n t m e u = typed-passes (modes g) h (checked sig g h n t) (λ p. HasType sig g p n t) (object-agrees sig simple n g h t c w m e) u
 
-  unused-exact : (b : Object) (a d : PlainType) → without_monads b ≡ true → without_indices a ≡ true → without_indices d ≡ true
+  unused-exact : (b : PlainObject) (a d : PlainType) → without_monads b ≡ true → without_indices a ≡ true → without_indices d ≡ true
       → MayHaveType sig ((Linear, a) ∷ g) (true ∷ h) b d
-      → ((p : Holding) → IsPart (Linear ∷ modes g) (true ∷ h) p → HasType sig ((Linear, a) ∷ g) p b d → slice_get p 0 ≡ Some false)
+      → ((p : Holding) → IsSubholding (Linear ∷ modes g) (true ∷ h) p → HasType sig ((Linear, a) ∷ g) p b d → slice_get p 0 ≡ Some false)
       → checked sig g h (lam Linear b) (function Linear a d) ≡ refused [] (unused (suc (length g)))
   unused-exact b a d m i j t f =
       let body = checked sig ((Linear, a) ∷ g) (true ∷ h) b d in
@@ -177,9 +177,9 @@ module _ (sig : PlainSignature) (simple : IsSimpleSignature sig) (g : Context) (
       let y = typed-passes (Linear ∷ modes g) (true ∷ h) body (λ p. HasType sig ((Linear, a) ∷ g) p b d) u t in
       let v = subst (λ o. Agrees (Linear ∷ modes g) (true ∷ h) (answer_of o) (λ p. HasType sig ((Linear, a) ∷ g) p b d)) y.1 u in
       ap (λ o. and_then (at_part 0 o) (closed_scope Linear g)) y.1
-      ∙ unused-scope g h y.0 (λ p. HasType sig ((Linear, a) ∷ g) p b d) v f (is_unused Linear (now y.0.0) y.0.1) refl
+      ∙ unused-scope g h y.0 (λ p. HasType sig ((Linear, a) ∷ g) p b d) v f (is_unused Linear (newest y.0.0) y.0.1) refl
 
-  differ-exact : (l r : Object) (a d : PlainType) (i : ℕ) → without_monads l ≡ true → without_monads r ≡ true → without_indices a ≡ true → without_indices d ≡ true
+  differ-exact : (l r : PlainObject) (a d : PlainType) (i : ℕ) → without_monads l ≡ true → without_monads r ≡ true → without_indices a ≡ true → without_indices d ≡ true
       → MayHaveType sig g h l a → MayHaveType sig g h r d → DiffersAt sig g h l a r d i → ((j : ℕ) → j < i → DiffersAt sig g h l a r d j → ⊥)
       → checked sig g h (pair l r) (both a d) ≡ refused [] (pairs_differ (length g - i))
   differ-exact l r a d i m n e f s t here newer =
@@ -195,7 +195,7 @@ module _ (sig : PlainSignature) (simple : IsSimpleSignature sig) (g : Context) (
       ∙ ap (λ z. and_then (at_part 1 z) (λ q. joined_left g x.0 q (newest_difference (modes g) x.0.0 x.0.1 q.0 q.1))) y.1
       ∙ ap (λ z. joined_left g x.0 y.0 z) place
 
-  whole-exact : (n : Object) (t : PlainType) (why : Cause) → Refuses sig g h (object_at n t) why → without_monads n ≡ true → without_indices t ≡ true
+  whole-exact : (n : PlainObject) (t : PlainType) (why : Cause) → Refuses sig g h (object_at n t) why → without_monads n ≡ true → without_indices t ≡ true
       → checked sig g h n t ≡ refused [] why
   whole-exact n t why (lambda_at_none {m = m} {b = b} f) k e = lambda-at-none m g t (λ a d. checked sig ((m, a) ∷ g) (true ∷ h) b d) f
   whole-exact n t why (pair_at_none {l = l} {r = r} f) k e = pair-at-none g t (λ a. checked sig g h l a) (λ d. checked sig g h r d) f
@@ -214,13 +214,13 @@ module _ (sig : PlainSignature) (simple : IsSimpleSignature sig) (g : Context) (
       let x = inferred-as r (family found os) k s in
       ap (λ o. and_then o (atomic_left (family wanted ns))) x.1 ∙ cond-false (wanted == found) (passed x.0) (refused [] (family_differs found wanted)) (numbers-differ wanted found f)
 
-  head-exact : (y : Head) (why : Cause) → Refuses sig g h (neutral_with (bare y)) why → head_left sig g h y ≡ refused [] why
+  head-exact : (y : Head) (why : Cause) → Refuses sig g h (neutral_with (head_alone y)) why → head_left sig g h y ≡ refused [] why
   head-exact y why metavariable_stands = refl
   head-exact y why (variable_not_held {i = i} m a q x) = ap (variable_left g h i) q ∙ ap (held_left g h i a) x
   head-exact y why (no_variable {i = i} q) = ap (variable_left g h i) q
   head-exact y why (no_constant {k = k} q) = ap (constant_left k h) q
 
-  argument-exact : (m : Mode) (r : PlainNeutral) (n : Object) (why : Cause) → Refuses sig g h (neutral_with (app m r n)) why → neutral_without_monads r ≡ true
+  argument-exact : (m : Mode) (r : PlainNeutral) (n : PlainObject) (why : Cause) → Refuses sig g h (neutral_with (app m r n)) why → neutral_without_monads r ≡ true
       → inferred sig g h (app m r n) ≡ refused (eliminations r ∷ []) why
   argument-exact m r n why (argument_to_none {t = t} s f) k =
       let x = inferred-as r t k s in
@@ -238,15 +238,15 @@ module _ (sig : PlainSignature) (simple : IsSimpleSignature sig) (g : Context) (
   second-exact r why (second_of_none {t = t} s f) k = let x = inferred-as r t k s in ap (λ o. and_then o (second_left (eliminations r))) x.1 ∙ second-of-none (eliminations r) t x.0 f
 
   -- an argument starts from the row that stands for the parts under which its function has its type
-  argument-reached : (m : Mode) (r : PlainNeutral) (n : Object) (a d : PlainType) (left : Holding) (slack : Bool) (path : List ℕ) (why : Cause) → neutral_without_monads r ≡ true
-      → Agrees (modes g) h (Some (left, slack)) (λ p. NeutralHasType sig g p r (function m a d))
+  argument-reached : (m : Mode) (r : PlainNeutral) (n : PlainObject) (a d : PlainType) (left : Holding) (slack : Bool) (path : List ℕ) (why : Cause) → neutral_without_monads r ≡ true
+      → Agrees (modes g) h (Some (left, slack)) (λ p. Synthesizes sig g p r (function m a d))
       → (without_indices a ≡ true → checked sig g (allowed m (modes g) left) n a ≡ refused path why)
       → inferred sig g h (app m r n) ≡ refused (eliminations r ∷ path) why
   argument-reached m r n a d left slack path why k u v =
       let row : Leftover = (left, slack) in
-      let x = inferred-as r (function m a d) k (some-part (modes g) h row (λ p. NeutralHasType sig g p r (function m a d)) u) in
-      let y = subst (λ o. AgreesWithType g h o (λ p t. NeutralHasType sig g p r t)) x.1 (neutral-agrees sig simple r g h c w k) in
-      let same = same-row (modes g) h x.0 row (λ p. NeutralHasType sig g p r (function m a d)) y.1 u in
+      let x = inferred-as r (function m a d) k (some-part (modes g) h row (λ p. Synthesizes sig g p r (function m a d)) u) in
+      let y = subst (λ o. AgreesWithType g h o (λ p t. Synthesizes sig g p r t)) x.1 (neutral-agrees sig simple r g h c w k) in
+      let same = same-row (modes g) h x.0 row (λ p. Synthesizes sig g p r (function m a d)) y.1 u in
       ap (λ o. and_then o (λ f. argument_left m g (eliminations r) f (λ row a. checked sig g row n a))) x.1
       ∙ cond-true (same_mode m m) (argument_passed m g r d x.0 (checked sig g (allowed m (modes g) x.0.0) n a)) (refused (eliminations r ∷ []) (mode_differs m m)) (itself-mode m)
       ∙ ap (λ z. argument_passed m g r d x.0 (checked sig g (allowed m (modes g) z) n a)) same
@@ -255,7 +255,7 @@ module _ (sig : PlainSignature) (simple : IsSimpleSignature sig) (g : Context) (
 -- ---- refusals of parts
 module _ (sig : PlainSignature) (simple : IsSimpleSignature sig) where
   mutual
-    object-exact : (g : Context) (h : Holding) (n : Object) (t : PlainType) (path : List ℕ) (k : Context) (l : Holding) (x : CheckedPart) (why : Cause)
+    object-exact : (g : Context) (h : Holding) (n : PlainObject) (t : PlainType) (path : List ℕ) (k : Context) (l : Holding) (x : CheckedPart) (why : Cause)
         → Reaches sig g h n t path k l x → Refuses sig k l x why → IsSimpleContext g → WellMarked (modes g) h → without_monads n ≡ true → without_indices t ≡ true
         → checked sig g h n t ≡ refused path why
     object-exact g h n t path k l x why whole u c w i e = whole-exact sig simple g c h w n t why u i e

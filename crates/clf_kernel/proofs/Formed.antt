@@ -2,7 +2,7 @@
 use Rattle.std.proofs.Common.{◌≡◌, ℕ, suc, ◌≤◌, true, [], ◌∷◌, Option, None, Some, Result, Ok, Err, refl, sym, ap, subst}
 use Rattle.clf_syntax.specs.declared.fault.OrWide.{OrWide}
 use Rattle.clf_syntax.specs.declared.fault.OrWide.TheVariants.{Fault, NoMemory, TooFar}
-use Rattle.clf_syntax.specs.TypeTree.{PlainType, family, function, both, top, monad, Telescope, end, binding, PlainKind}
+use Rattle.clf_syntax.specs.TypeTree.{PlainType, family, function, both, top, monad, PlainTelescope, end, binding, PlainKind}
 use Rattle.use_contexts.specs.Context.{Context}
 use Rattle.clf_sig.specs.Entry.{PlainSignature, PlainEntry, PlainClass, family_of, constant_of, family_kind}
 use Rattle.clf_kernel.specs.declared.refusal.Refusal.{Refusal}
@@ -42,7 +42,7 @@ module _ (sig : PlainSignature) (simple : IsSimpleSignature sig) where
     decided_type top g e = tt
     decided_type (monad s) g e = decided_telescope s 0 g e
 
-    decided_telescope : (s : Telescope) (place : ℕ) (g : Context) → telescope_without_indices s ≡ true → Decided (telescope_formed sig place s) (WellFormedTelescope sig g s)
+    decided_telescope : (s : PlainTelescope) (place : ℕ) (g : Context) → telescope_without_indices s ≡ true → Decided (telescope_formed sig place s) (WellFormedTelescope sig g s)
     decided_telescope end place g e = tt
     decided_telescope (binding m a s) place g e =
         decided_in_turn _ _ place (type_formed sig a) (telescope_formed sig (suc place) s) (decided_type a g (first_of_both _ _ e)) (decided_telescope s (suc place) ((m, a) ∷ g) (second_of_both (without_indices a) _ e))

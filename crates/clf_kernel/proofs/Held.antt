@@ -7,15 +7,15 @@ use Rattle.clf_syntax.specs.declared.tree.Mode.{Mode}
 use Rattle.clf_syntax.specs.declared.tree.Mode.TheVariants.{Persistent, Affine, Linear}
 use Rattle.clf_syntax.specs.declared.tree.Head.{Head}
 use Rattle.clf_syntax.specs.declared.tree.Head.TheVariants.{Const, Var, Meta}
-use Rattle.clf_syntax.specs.Tree.{Object, lam, pair, unit, monadic, atomic, hole, PlainNeutral, bare, app, fst, snd, Expression, step, done, Tuple, empty, entry}
-use Rattle.clf_syntax.specs.TypeTree.{PlainType, family, function, both, top, monad, Telescope, end, binding, PlainKind}
+use Rattle.clf_syntax.specs.Tree.{PlainObject, lam, pair, unit, monadic, atomic, hole, PlainNeutral, head_alone, app, fst, snd, PlainExpression, step, done, PlainTuple, empty, entry}
+use Rattle.clf_syntax.specs.TypeTree.{PlainType, family, function, both, top, monad, PlainTelescope, end, binding, PlainKind}
 use Rattle.clf_syntax.specs.Renaming.{ren_telescope, up}
 use Rattle.clf_syntax.specs.Occurs.{occurs, occurs_neutral, occurs_expression, occurs_tuple, occurs_type, occurs_telescope}
 use Rattle.clf_syntax.proofs.OccursLaws.{not_true}
 use Rattle.use_contexts.specs.Context.{Context, modes, with_entries}
 use Rattle.use_contexts.specs.Holding.{Holding, SplitEntry, Split, all_held, is_persistent, persistent_alone}
 use Rattle.clf_sig.specs.Entry.{PlainSignature}
-use Rattle.clf_kernel.specs.Typing.{HeadHasType, HasType, NeutralHasType, HasResult, TupleHasType}
+use Rattle.clf_kernel.specs.Typing.{HeadHasType, HasType, Synthesizes, ExpressionHasType, TupleHasType}
 use Rattle.clf_kernel.specs.WellFormed.{IndicesHaveTypes, WellFormedType, WellFormedTelescope, WellFormedContext}
 use Rattle.clf_kernel.specs.Clean.{IsNotPersistent, CleanType, CleanTelescope, CleanContext}
 use Rattle.clf_kernel.specs.Laws.{MentionsHeldAlone, WellFormedIsClean}
@@ -65,13 +65,13 @@ under_all (m ∷ ms) h i e = subst (λ j. slice_get (all_held ms (true ∷ h)) j
 pub same_number : (i v : ℕ) → nat_eq i v ≡ true → i ≡ v
 same_number i v e = grind arith
 
-unheld_head : (sig : PlainSignature) (g : Context) (h : Holding) (x : Head) (a : PlainType) → HeadHasType sig g h x a → (i : ℕ) → Unheld h i → occurs_neutral i (bare x) ≡ false
+unheld_head : (sig : PlainSignature) (g : Context) (h : Holding) (x : Head) (a : PlainType) → HeadHasType sig g h x a → (i : ℕ) → Unheld h i → occurs_neutral i (head_alone x) ≡ false
 unheld_head sig g h (Const c) a p i e = refl
 unheld_head sig g h (Var v) a p i e = not_true (nat_eq v i) (λ k. not_false (the_value (sym p.0.0 ∙ ap (slice_get h) (same_number v i k) ∙ e)))
 unheld_head sig g h (Meta k) a p i e = refl
 
 mutual
-  pub unheld_object : (sig : PlainSignature) (g : Context) (h : Holding) (n : Object) (a : PlainType) → HasType sig g h n a → (i : ℕ) → slice_get h i ≡ Some false → occurs i n ≡ false
+  pub unheld_object : (sig : PlainSignature) (g : Context) (h : Holding) (n : PlainObject) (a : PlainType) → HasType sig g h n a → (i : ℕ) → slice_get h i ≡ Some false → occurs i n ≡ false
   unheld_object sig g h (lam m b) a p i e = let (d, c, q, u) = p in unheld_object sig ((m, d) ∷ g) (true ∷ h) b c u (i + 1) (under_one h i e)
   unheld_object sig g h (pair l r) a p i e = let (d, c, q, u, v) = p in none_of (occurs i l) (occurs i r) (unheld_object sig g h l d u i e) (unheld_object sig g h r c v i e)
   unheld_object sig g h unit a p i e = refl
@@ -79,20 +79,20 @@ mutual
   unheld_object sig g h (atomic n) a p i e = let (f, ns, os, q, u, v) = p in unheld_neutral sig g h n (family f os) u i e
   unheld_object sig g h hole a p i e = refl
 
-  pub unheld_neutral : (sig : PlainSignature) (g : Context) (h : Holding) (n : PlainNeutral) (a : PlainType) → NeutralHasType sig g h n a → (i : ℕ) → slice_get h i ≡ Some false → occurs_neutral i n ≡ false
-  unheld_neutral sig g h (bare x) a p i e = unheld_head sig g h x a p i e
+  pub unheld_neutral : (sig : PlainSignature) (g : Context) (h : Holding) (n : PlainNeutral) (a : PlainType) → Synthesizes sig g h n a → (i : ℕ) → slice_get h i ≡ Some false → occurs_neutral i n ≡ false
+  unheld_neutral sig g h (head_alone x) a p i e = unheld_head sig g h x a p i e
   unheld_neutral sig g h (app m r n) a p i e = let (d, c, h1, h2, q, u, w, v, x) = p in let (e1, e2) = split_unheld (modes g) h h1 h2 i q e in
       none_of (occurs_neutral i r) (occurs i n) (unheld_neutral sig g h1 r (function m d c) u i e1) (unheld_object sig g h2 n d v i e2)
   unheld_neutral sig g h (fst r) a p i e = unheld_neutral sig g h r (both a p.0) p.1 i e
   unheld_neutral sig g h (snd r) a p i e = unheld_neutral sig g h r (both p.0 a) p.1 i e
 
-  pub unheld_expression : (sig : PlainSignature) (g : Context) (h : Holding) (x : Expression) (s : Telescope) → HasResult sig g h x s → (i : ℕ) → slice_get h i ≡ Some false → occurs_expression i x ≡ false
+  pub unheld_expression : (sig : PlainSignature) (g : Context) (h : Holding) (x : PlainExpression) (s : PlainTelescope) → ExpressionHasType sig g h x s → (i : ℕ) → slice_get h i ≡ Some false → occurs_expression i x ≡ false
   unheld_expression sig g h (step ms r x) s p i e = let (t, h1, h2, q, u, w, v) = p in let (e1, e2) = split_unheld (modes g) h h1 h2 i q e in
       none_of (occurs_neutral i r) (occurs_expression (i + length ms) x) (unheld_neutral sig g h1 r (monad t) u i e1)
       (unheld_expression sig (with_entries t g) (all_held ms h2) x (ren_telescope (up (length ms)) s) v (i + length ms) (under_all ms h2 i e2))
   unheld_expression sig g h (done t) s p i e = unheld_tuple sig g h t s p i e
 
-  pub unheld_tuple : (sig : PlainSignature) (g : Context) (h : Holding) (t : Tuple) (s : Telescope) → TupleHasType sig g h t s → (i : ℕ) → slice_get h i ≡ Some false → occurs_tuple i t ≡ false
+  pub unheld_tuple : (sig : PlainSignature) (g : Context) (h : Holding) (t : PlainTuple) (s : PlainTelescope) → TupleHasType sig g h t s → (i : ℕ) → slice_get h i ≡ Some false → occurs_tuple i t ≡ false
   unheld_tuple sig g h empty s p i e = refl
   unheld_tuple sig g h (entry m n t) s p i e = let (a, u, v, h1, h2, q, w, x, y, z, k) = p in let (e1, e2) = split_unheld (modes g) h h1 h2 i w e in
       none_of (occurs i n) (occurs_tuple i t) (unheld_object sig g h1 n a y i e1) (unheld_tuple sig g h2 t v k i e2)
@@ -106,7 +106,7 @@ unheld_persistent g i p = slice_get-map is_persistent (modes g) i ∙ ap (option
 under_entry : (m : Mode) (a : PlainType) (g : Context) (i : ℕ) → IsNotPersistent g i → IsNotPersistent ((m, a) ∷ g) (i + 1)
 under_entry m a g i p = (p.0, ap (slice_get (m ∷ modes g)) (add-one i) ∙ p.1, p.2)
 
-absent_each : (sig : PlainSignature) (g : Context) (ns : List Object) (k : PlainKind) → IndicesHaveTypes sig g ns k → (i : ℕ) → IsNotPersistent g i → list_any (occurs i) ns ≡ false
+absent_each : (sig : PlainSignature) (g : Context) (ns : List PlainObject) (k : PlainKind) → IndicesHaveTypes sig g ns k → (i : ℕ) → IsNotPersistent g i → list_any (occurs i) ns ≡ false
 absent_each sig g [] k p i e = refl
 absent_each sig g (n ∷ ns) (a ∷ k) p i e = let (u, l, q, v) = p in none_of (occurs i n) (list_any (occurs i) ns) (unheld_object sig g (persistent_alone (modes g)) n a u i (unheld_persistent g i e)) (absent_each sig g ns l v i e)
 absent_each sig g (n ∷ ns) [] p i e = absurd p
@@ -119,7 +119,7 @@ mutual
   absent_type sig g top p i e = refl
   absent_type sig g (monad s) p i e = absent_telescope sig g s p i e
 
-  absent_telescope : (sig : PlainSignature) (g : Context) (s : Telescope) → WellFormedTelescope sig g s → (i : ℕ) → IsNotPersistent g i → occurs_telescope i s ≡ false
+  absent_telescope : (sig : PlainSignature) (g : Context) (s : PlainTelescope) → WellFormedTelescope sig g s → (i : ℕ) → IsNotPersistent g i → occurs_telescope i s ≡ false
   absent_telescope sig g end p i e = refl
   absent_telescope sig g (binding m a s) p i e = none_of (occurs_type i a) (occurs_telescope (i + 1) s) (absent_type sig g a p.0 i e) (absent_telescope sig ((m, a) ∷ g) s p.1 (i + 1) (under_entry m a g i e))
 
@@ -131,7 +131,7 @@ mutual
   clean_type sig g top p = tt
   clean_type sig g (monad s) p = clean_telescope sig g s p
 
-  clean_telescope : (sig : PlainSignature) (g : Context) (s : Telescope) → WellFormedTelescope sig g s → CleanTelescope s
+  clean_telescope : (sig : PlainSignature) (g : Context) (s : PlainTelescope) → WellFormedTelescope sig g s → CleanTelescope s
   clean_telescope sig g end p = tt
   clean_telescope sig g (binding m a s) p = (clean_type sig g a p.0, (λ e. absent_telescope sig ((m, a) ∷ g) s p.1 0 (m, refl, e)), clean_telescope sig ((m, a) ∷ g) s p.1)
 

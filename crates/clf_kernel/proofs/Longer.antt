@@ -3,13 +3,13 @@ use Rattle.std.specs.Prelude.{ℕ, zero, suc, ◌≡◌, true, List, [], ◌∷�
 use Rattle.clf_syntax.specs.declared.tree.Mode.TheVariants.{Persistent}
 use Rattle.clf_syntax.specs.declared.tree.Head.{Head}
 use Rattle.clf_syntax.specs.declared.tree.Head.TheVariants.{Const, Var, Meta}
-use Rattle.clf_syntax.specs.Tree.{Object, lam, pair, unit, monadic, atomic, hole, PlainNeutral, bare, app, fst, snd, Expression, step, done, Tuple, empty, entry}
-use Rattle.clf_syntax.specs.TypeTree.{PlainType, family, function, both, top, monad, Telescope, end, binding, PlainKind}
+use Rattle.clf_syntax.specs.Tree.{PlainObject, lam, pair, unit, monadic, atomic, hole, PlainNeutral, head_alone, app, fst, snd, PlainExpression, step, done, PlainTuple, empty, entry}
+use Rattle.clf_syntax.specs.TypeTree.{PlainType, family, function, both, top, monad, PlainTelescope, end, binding, PlainKind}
 use Rattle.clf_syntax.specs.Renaming.{ren_telescope, up}
 use Rattle.use_contexts.specs.Context.{Context, modes, with_entries}
 use Rattle.use_contexts.specs.Holding.{Holding, all_held, persistent_alone}
 use Rattle.clf_sig.specs.Entry.{PlainSignature, family_kind, constant_type}
-use Rattle.clf_kernel.specs.Typing.{HeadHasType, HasType, NeutralHasType, HasResult, TupleHasType}
+use Rattle.clf_kernel.specs.Typing.{HeadHasType, HasType, Synthesizes, ExpressionHasType, TupleHasType}
 use Rattle.clf_kernel.specs.WellFormed.{IndicesHaveTypes, WellFormedType, WellFormedTelescope, WellFormedKind}
 use Rattle.clf_kernel.specs.Laws.{Weakening}
 
@@ -40,7 +40,7 @@ kept_head s t e g h (Var i) a p = p
 kept_head s t e g h (Meta k) a p = p
 
 mutual
-  pub kept_object : (s t : PlainSignature) → Kept s t → (n : Object) (g : Context) (h : Holding) (a : PlainType) → HasType s g h n a → HasType t g h n a
+  pub kept_object : (s t : PlainSignature) → Kept s t → (n : PlainObject) (g : Context) (h : Holding) (a : PlainType) → HasType s g h n a → HasType t g h n a
   kept_object s t e (lam m b) g h a p = let (d, c, q, u) = p in (d, c, q, kept_object s t e b ((m, d) ∷ g) (true ∷ h) c u)
   kept_object s t e (pair l r) g h a p = let (d, c, q, u, v) = p in (d, c, q, kept_object s t e l g h d u, kept_object s t e r g h c v)
   kept_object s t e unit g h a p = p
@@ -48,22 +48,22 @@ mutual
   kept_object s t e (atomic n) g h a p = let (f, ns, os, q, u, v) = p in (f, ns, os, q, kept_neutral s t e n g h (family f os) u, v)
   kept_object s t e hole g h a p = p
 
-  pub kept_neutral : (s t : PlainSignature) → Kept s t → (n : PlainNeutral) (g : Context) (h : Holding) (a : PlainType) → NeutralHasType s g h n a → NeutralHasType t g h n a
-  kept_neutral s t e (bare x) g h a p = kept_head s t e g h x a p
+  pub kept_neutral : (s t : PlainSignature) → Kept s t → (n : PlainNeutral) (g : Context) (h : Holding) (a : PlainType) → Synthesizes s g h n a → Synthesizes t g h n a
+  kept_neutral s t e (head_alone x) g h a p = kept_head s t e g h x a p
   kept_neutral s t e (app m r n) g h a p = let (d, c, h1, h2, q, u, w, v, x) = p in (d, c, h1, h2, q, kept_neutral s t e r g h1 (function m d c) u, w, kept_object s t e n g h2 d v, x)
   kept_neutral s t e (fst r) g h a p = let (c, u) = p in (c, kept_neutral s t e r g h (both a c) u)
   kept_neutral s t e (snd r) g h a p = let (c, u) = p in (c, kept_neutral s t e r g h (both c a) u)
 
-  pub kept_expression : (s t : PlainSignature) → Kept s t → (x : Expression) (g : Context) (h : Holding) (u : Telescope) → HasResult s g h x u → HasResult t g h x u
+  pub kept_expression : (s t : PlainSignature) → Kept s t → (x : PlainExpression) (g : Context) (h : Holding) (u : PlainTelescope) → ExpressionHasType s g h x u → ExpressionHasType t g h x u
   kept_expression s t e (step ms r x) g h u p = let (v, h1, h2, q, w, y, z) = p in
       (v, h1, h2, q, kept_neutral s t e r g h1 (monad v) w, y, kept_expression s t e x (with_entries v g) (all_held ms h2) (ren_telescope (up (length ms)) u) z)
   kept_expression s t e (done x) g h u p = kept_tuple s t e x g h u p
 
-  pub kept_tuple : (s t : PlainSignature) → Kept s t → (x : Tuple) (g : Context) (h : Holding) (u : Telescope) → TupleHasType s g h x u → TupleHasType t g h x u
+  pub kept_tuple : (s t : PlainSignature) → Kept s t → (x : PlainTuple) (g : Context) (h : Holding) (u : PlainTelescope) → TupleHasType s g h x u → TupleHasType t g h x u
   kept_tuple s t e empty g h u p = p
   kept_tuple s t e (entry m n x) g h u p = let (a, v, w, h1, h2, q, y, z, i, j, k) = p in (a, v, w, h1, h2, q, y, z, kept_object s t e n g h1 a i, j, kept_tuple s t e x g h2 w k)
 
-kept_indices : (s t : PlainSignature) → Kept s t → (g : Context) (ns : List Object) (k : PlainKind) → IndicesHaveTypes s g ns k → IndicesHaveTypes t g ns k
+kept_indices : (s t : PlainSignature) → Kept s t → (g : Context) (ns : List PlainObject) (k : PlainKind) → IndicesHaveTypes s g ns k → IndicesHaveTypes t g ns k
 kept_indices s t e g [] [] p = p
 kept_indices s t e g (n ∷ ns) (a ∷ k) p = let (u, l, q, v) = p in (kept_object s t e n g (persistent_alone (modes g)) a u, l, q, kept_indices s t e g ns l v)
 kept_indices s t e g [] (a ∷ k) p = p
@@ -77,7 +77,7 @@ mutual
   kept_type s t e top g p = p
   kept_type s t e (monad u) g p = kept_telescope s t e u g p
 
-  pub kept_telescope : (s t : PlainSignature) → Kept s t → (u : Telescope) (g : Context) → WellFormedTelescope s g u → WellFormedTelescope t g u
+  pub kept_telescope : (s t : PlainSignature) → Kept s t → (u : PlainTelescope) (g : Context) → WellFormedTelescope s g u → WellFormedTelescope t g u
   kept_telescope s t e end g p = p
   kept_telescope s t e (binding m a u) g p = (kept_type s t e a g p.0, kept_telescope s t e u ((m, a) ∷ g) p.1)
 

@@ -6,10 +6,10 @@ use Rattle.clf_syntax.specs.declared.tree.Mode.TheVariants.{Persistent, Affine, 
 use Rattle.clf_syntax.specs.TypeTree.{PlainType}
 use Rattle.use_contexts.specs.Context.{Context, modes}
 use Rattle.use_contexts.specs.Holding.{Holding, WellMarked, is_weak, is_linear}
-use Rattle.use_contexts.specs.Rows.{implies, within, stands, now, later, IsPart, EachWithin, EachStands, Stands, Agrees}
+use Rattle.use_contexts.specs.Rows.{implies, within, stands, newest, older, IsSubholding, EachWithin, EachStands, Stands, Agrees}
 use Rattle.use_contexts.proofs.Bits.{at_entry, given_2, given_3, and-left, and-right, and-both}
-use Rattle.use_contexts.proofs.UseLaws.{IsPart-self}
-use Rattle.clf_kernel.specs.Typing.{HasType, NeutralHasType}
+use Rattle.use_contexts.proofs.UseLaws.{IsSubholding-self}
+use Rattle.clf_kernel.specs.Typing.{HasType, Synthesizes}
 use Rattle.clf_kernel.specs.Refusal.{Cause, Leftover, Outcome, passed, refused}
 use Rattle.clf_kernel.specs.Checking.{answer_of, checked, inferred}
 use Rattle.clf_kernel.specs.Explained.{ExplainedAt}
@@ -51,7 +51,7 @@ same_mark m h l s k t a b c =
     (at_entry (λ m h l s k t _ _ _. implies (within m h l && within m h k) (implies (stands m h k t (used m h l)) (implies (stands m h l s (used m h k)) (beq l k))))
     refl refl refl m h l s k t true true true) a b c)
 
-same_row : (ms : List Mode) (h l : Holding) (s : Bool) (k : Holding) (t : Bool) → IsPart ms h l → IsPart ms h k
+same_row : (ms : List Mode) (h l : Holding) (s : Bool) (k : Holding) (t : Bool) → IsSubholding ms h l → IsSubholding ms h k
     → EachStands ms h k t (used_of ms h l) → EachStands ms h l s (used_of ms h k) → l ≡ k
 same_row [] h [] s [] t a b c d = refl
 same_row [] h (x ∷ l) s k t a b c d = let e = a.0 in absurd (omega arith)
@@ -61,17 +61,17 @@ same_row (m ∷ ms) h (x ∷ l) s [] t a b c d = let e = b.0 in absurd (omega ar
 same_row (m ∷ ms) h (x ∷ l) s (y ∷ k) t a b c d =
     let p = a.0 in
     let q = b.0 in
-    let mark : x ≡ y = same_mark m (now h) x s y t (and-both (within m (now h) x) (within m (now h) y) a.1.0 b.1.0) c.0 d.0 in
-    let rest : l ≡ k = same_row ms (later h) l s k t (omega arith, a.1.1) (omega arith, b.1.1) c.1 d.1 in
+    let mark : x ≡ y = same_mark m (newest h) x s y t (and-both (within m (newest h) x) (within m (newest h) y) a.1.0 b.1.0) c.0 d.0 in
+    let rest : l ≡ k = same_row ms (older h) l s k t (omega arith, a.1.1) (omega arith, b.1.1) c.1 d.1 in
     cc
 
 -- A row with slack stands for the whole holding, if that is a part of itself.
 each_whole : (ms : List Mode) (h l : Holding) → EachWithin ms h h → EachWithin ms h l → EachStands ms h l true h
 each_whole [] h l a b = tt
 each_whole (m ∷ ms) h l a b = (
-  given_2 (within m (now h) (now h)) (within m (now h) (now l)) (stands m (now h) (now l) true (now h))
-      (at_entry (λ m h l _ _ _ _ _ _. implies (within m h h) (implies (within m h l) (stands m h l true h))) refl refl refl m (now h) (now l) true true true true true true) a.0 b.0,
-  each_whole ms (later h) (later l) a.1 b.1,
+  given_2 (within m (newest h) (newest h)) (within m (newest h) (newest l)) (stands m (newest h) (newest l) true (newest h))
+      (at_entry (λ m h l _ _ _ _ _ _. implies (within m h h) (implies (within m h l) (stands m h l true h))) refl refl refl m (newest h) (newest l) true true true true true true) a.0 b.0,
+  each_whole ms (older h) (older l) a.1 b.1,
 )
 
 -- A row that leaves a linear entry stands for the whole holding with slack alone.
@@ -83,16 +83,16 @@ needs_slack m h l t a b c =
 has_slack : (ms : List Mode) (h l : Holding) (t : Bool) → EachWithin ms h l → EachStands ms h l t h → is_weak ms l ≡ false → t ≡ true
 has_slack [] h l t a b e = absurd (cc)
 has_slack (m ∷ ms) h [] t a b e = absurd (cc)
-has_slack (m ∷ ms) h (x ∷ l) t a b e = by (is_linear m && x) refl e (has_slack ms (later h) l t a.1 b.1)
+has_slack (m ∷ ms) h (x ∷ l) t a b e = by (is_linear m && x) refl e (has_slack ms (older h) l t a.1 b.1)
   where
     by : (here : Bool) → (is_linear m && x) ≡ here → (not here && is_weak ms l) ≡ false → (is_weak ms l ≡ false → t ≡ true) → t ≡ true
-    by true is e rest = needs_slack m (now h) x t is a.0 b.0
+    by true is e rest = needs_slack m (newest h) x t is a.0 b.0
     by false is e rest = rest e
 
 slack_too : (ms : List Mode) (h l : Holding) (s t : Bool) (P : Holding → Type 0) → WellMarked ms h → Agrees ms h (Some (l, s)) P → Agrees ms h (Some (l, t)) P
     → is_weak ms l ≡ false → s ≡ true → t ≡ true
 slack_too ms h l s t P w a b e is =
-    let self = IsPart-self ms h w in
+    let self = IsSubholding-self ms h w in
     let stood : Stands ms h l s h = (self.0, subst (λ (x : Bool). EachStands ms h l x h) (sym is) (each_whole ms h l self.1 a.0.1)) in
     has_slack ms h l t a.0.1 (b.1 h self (a.2 h self stood)).1 e
 
@@ -114,10 +114,10 @@ object_leftover_is_one sig g h n t a b w x y = leftover_is_one g h a b (λ p. Ha
 
 pub inferred_is_one : InferredIsOne
 inferred_is_one sig g h r (a, l) (b, k) w x y =
-    let p = some-part (modes g) h l (λ p. NeutralHasType sig g p r a) x.1 in
+    let p = some-part (modes g) h l (λ p. Synthesizes sig g p r a) x.1 in
     let type : a ≡ b = y.2 p.0 a p.2 in
-    let same = subst (λ (c : PlainType). Agrees (modes g) h (Some k) (λ p. NeutralHasType sig g p r c)) (sym type) y.1 in
-    (type, leftover_is_one g h l k (λ p. NeutralHasType sig g p r a) w x.1 same)
+    let same = subst (λ (c : PlainType). Agrees (modes g) h (Some k) (λ p. Synthesizes sig g p r c)) (sym type) y.1 in
+    (type, leftover_is_one g h l k (λ p. Synthesizes sig g p r a) w x.1 same)
 
 -- ---- slack that has nothing to take
 idle_mark : (m : Mode) (h l s t p : Bool) → not (is_linear m && l) ≡ true → stands m h l s p ≡ true → stands m h l t p ≡ true
@@ -127,7 +127,7 @@ idle_mark m h l s t p a b =
 
 each_idle : (ms : List Mode) (h l : Holding) (s t : Bool) (p : Holding) → is_weak ms l ≡ true → EachStands ms h l s p → EachStands ms h l t p
 each_idle [] h l s t p w a = tt
-each_idle (m ∷ ms) h [] s t p w a = (idle_mark m (now h) false s t (now p) (unheld m) a.0, each_idle ms (later h) [] s t (later p) (weak_nothing ms) a.1)
+each_idle (m ∷ ms) h [] s t p w a = (idle_mark m (newest h) false s t (newest p) (unheld m) a.0, each_idle ms (older h) [] s t (older p) (weak_nothing ms) a.1)
   where
     unheld : (m : Mode) → not (is_linear m && false) ≡ true
     unheld Persistent = refl
@@ -138,8 +138,8 @@ each_idle (m ∷ ms) h [] s t p w a = (idle_mark m (now h) false s t (now p) (un
     weak_nothing [] = refl
     weak_nothing (m ∷ ms) = refl
 each_idle (m ∷ ms) h (x ∷ l) s t p w a = (
-  idle_mark m (now h) x s t (now p) (and-left (not (is_linear m && x)) (is_weak ms l) w) a.0,
-  each_idle ms (later h) l s t (later p) (and-right (not (is_linear m && x)) (is_weak ms l) w) a.1,
+  idle_mark m (newest h) x s t (newest p) (and-left (not (is_linear m && x)) (is_weak ms l) w) a.0,
+  each_idle ms (older h) l s t (older p) (and-right (not (is_linear m && x)) (is_weak ms l) w) a.1,
 )
 
 pub slack_is_idle : SlackIsIdle

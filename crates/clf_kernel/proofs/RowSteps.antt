@@ -7,7 +7,7 @@ use Rattle.clf_syntax.specs.PlainTypes.{plain_tele_entry}
 use Rattle.hered_subst.proofs.Renamed.{length_map}
 use Rattle.use_contexts.specs.Context.{Context, modes}
 use Rattle.use_contexts.specs.Holding.{Holding, is_linear, is_persistent, persistent_alone}
-use Rattle.use_contexts.specs.Rows.{without_linear, linear_of, left_in_both, differs, newest_difference, later}
+use Rattle.use_contexts.specs.Rows.{without_linear, linear_of, left_in_both, differs, newest_difference, older}
 use Rattle.use_contexts.proofs.Lookups.{drop_at}
 
 -- a newer mark stands in front
@@ -59,7 +59,7 @@ length_in_both [] ks e = refl
 length_in_both (h ∷ hs) [] e = cc
 length_in_both (h ∷ hs) (k ∷ ks) e = ap suc (length_in_both hs ks (omega (arith, e)))
 
-pub length_later : (hs : Holding) (n : ℕ) → length hs ≡ suc n → length (later hs) ≡ n
+pub length_later : (hs : Holding) (n : ℕ) → length hs ≡ suc n → length (older hs) ≡ n
 length_later [] n e = cc
 length_later (h ∷ hs) n e = omega (arith, e)
 

@@ -3,7 +3,7 @@ use Rattle.std.specs.Prelude.{ℕ, zero, suc, ◌≡◌, Bool, true, false, ◌&
 use Rattle.std.specs.List.{slice_get}
 use Rattle.std.proofs.Common.{ap, sym, subst, ◌∙◌}
 use Rattle.std.proofs.lemmas.List.Elements.{Contains-push, Contains-append_left}
-use Rattle.clf_syntax.specs.TypeTree.{PlainType, family, function, both, top, monad, Telescope, end, binding, PlainKind}
+use Rattle.clf_syntax.specs.TypeTree.{PlainType, family, function, both, top, monad, PlainTelescope, end, binding, PlainKind}
 use Rattle.use_contexts.specs.Context.{Context}
 use Rattle.clf_sig.specs.Entry.{PlainSignature, Declaration, PlainClass, family_of, constant_of, kind_in, type_in, names, family_kind, constant_type}
 use Rattle.clf_kernel.specs.WellFormed.{IndicesHaveTypes, WellFormedType, WellFormedTelescope, WellFormedKind, WellFormedClass, MayFollow, AllMayFollow}
@@ -38,7 +38,7 @@ mutual
   any_type sig top g h e p = p
   any_type sig (monad s) g h e p = any_telescope sig s g h e p
 
-  pub any_telescope : (sig : PlainSignature) (s : Telescope) (g h : Context) → telescope_without_indices s ≡ true → WellFormedTelescope sig g s → WellFormedTelescope sig h s
+  pub any_telescope : (sig : PlainSignature) (s : PlainTelescope) (g h : Context) → telescope_without_indices s ≡ true → WellFormedTelescope sig g s → WellFormedTelescope sig h s
   any_telescope sig end g h e p = p
   any_telescope sig (binding m a s) g h e p = (any_type sig a g h (first_of_both _ _ e) p.0, any_telescope sig s ((m, a) ∷ g) ((m, a) ∷ h) (second_of_both (without_indices a) _ e) p.1)
 

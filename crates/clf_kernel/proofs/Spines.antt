@@ -3,7 +3,7 @@ use Rattle.std.proofs.Common.{◌≡◌, ℕ, suc, ◌+◌, ◌<◌, List, [], �
 use Rattle.std.proofs.Math.Seq.{drop-cons}
 use Rattle.clf_syntax.specs.declared.tree.Elim.{Elim}
 use Rattle.clf_syntax.specs.declared.tree.Neutral.{Neutral}
-use Rattle.clf_syntax.specs.Tree.{PlainNeutral, bare, Elimination, arg, first, second, spine_on}
+use Rattle.clf_syntax.specs.Tree.{PlainNeutral, head_alone, PlainElimination, arg, first, second, spine_on}
 use Rattle.clf_syntax.specs.Plain.{plain_neutral, plain_elim, plain-neutral}
 use Rattle.clf_syntax.specs.TypeTree.{PlainType}
 use Rattle.use_contexts.specs.Context.{Context}
@@ -25,14 +25,14 @@ then_then (passed a) f k = refl
 then_then (refused path cause) f k = refl
 
 module _ (sig : PlainSignature) (g : Context) (h : Holding) where
-  spine_inferred : (es : List Elimination) (r : PlainNeutral) → inferred sig g h (spine_on es r) ≡ and_then (inferred sig g h r) (spine_left sig g (eliminations r) es)
+  spine_inferred : (es : List PlainElimination) (r : PlainNeutral) → inferred sig g h (spine_on es r) ≡ and_then (inferred sig g h r) (spine_left sig g (eliminations r) es)
   spine_inferred [] r = sym (then_passed (inferred sig g h r))
   spine_inferred (arg m n ∷ es) r = spine_inferred es _ ∙ then_then (inferred sig g h r) (elimination_left sig g (eliminations r) (arg m n)) (spine_left sig g (suc (eliminations r)) es)
   spine_inferred (first ∷ es) r = spine_inferred es _ ∙ then_then (inferred sig g h r) (elimination_left sig g (eliminations r) first) (spine_left sig g (suc (eliminations r)) es)
   spine_inferred (second ∷ es) r = spine_inferred es _ ∙ then_then (inferred sig g h r) (elimination_left sig g (eliminations r) second) (spine_left sig g (suc (eliminations r)) es)
 
   pub neutral_inferred : (n : Neutral) → inferred sig g h (plain_neutral n) ≡ and_then (head_left sig g h n.head) (spine_left sig g 0 (map plain_elim n.spine))
-  neutral_inferred n = ap (inferred sig g h) (plain-neutral n) ∙ spine_inferred (map plain_elim n.spine) (bare n.head)
+  neutral_inferred n = ap (inferred sig g h) (plain-neutral n) ∙ spine_inferred (map plain_elim n.spine) (head_alone n.head)
 
 -- ---- one step along a spine
 module _ (sig : PlainSignature) (g : Context) (spine : List Elim) (i : ℕ) (x : Elim) (l : i < length spine) (e : x ≡ get_or spine i x) where

@@ -1,8 +1,8 @@
 -- Types without indices mention no variable: whatever is renamed or put, they stay as they are.
 use Rattle.std.proofs.Common.{◌≡◌, ℕ, zero, suc, true, List, [], ◌∷◌, Some, refl, slice_get}
 use Rattle.clf_syntax.specs.declared.tree.Mode.{Mode}
-use Rattle.clf_syntax.specs.Tree.{Object}
-use Rattle.clf_syntax.specs.TypeTree.{PlainType, family, function, both, top, monad, Telescope, end, binding}
+use Rattle.clf_syntax.specs.Tree.{PlainObject}
+use Rattle.clf_syntax.specs.TypeTree.{PlainType, family, function, both, top, monad, PlainTelescope, end, binding}
 use Rattle.clf_syntax.specs.Renaming.{Renumbering, lifted, ren_type, ren_telescope}
 use Rattle.use_contexts.specs.Context.{Context}
 use Rattle.use_contexts.proofs.Bits.{and-left, and-right}
@@ -25,7 +25,7 @@ mutual
   renamed-type r top e = refl
   renamed-type r (monad s) e = let x = renamed-telescope r s e in cc x
 
-  pub renamed-telescope : (r : Renumbering) (s : Telescope) → telescope_without_indices s ≡ true → ren_telescope r s ≡ s
+  pub renamed-telescope : (r : Renumbering) (s : PlainTelescope) → telescope_without_indices s ≡ true → ren_telescope r s ≡ s
   renamed-telescope r end e = refl
   renamed-telescope r (binding m a s) e =
       let x = renamed-type r a (and-left (without_indices a) (telescope_without_indices s) e) in
@@ -33,7 +33,7 @@ mutual
       cc (x, y)
 
 -- ---- substitution
-same-family : (s : Environment) (f : ℕ) (ns xs : List Object) → SubstitutedEach s ns xs → without_indices (family f ns) ≡ true → family f xs ≡ family f ns
+same-family : (s : Environment) (f : ℕ) (ns xs : List PlainObject) → SubstitutedEach s ns xs → without_indices (family f ns) ≡ true → family f xs ≡ family f ns
 same-family s f [] (x ∷ xs) p e = elim p [ ]
 same-family s f [] [] p e = refl
 same-family s f (n ∷ ns) xs p e = cc
@@ -53,7 +53,7 @@ mutual
   same-type in_top e = refl
   same-type (in_monad p) e = let x = same-telescope p e in cc x
 
-  pub same-telescope : {s : Environment} {u v : Telescope} → SubstitutedTelescope s u v → telescope_without_indices u ≡ true → v ≡ u
+  pub same-telescope : {s : Environment} {u v : PlainTelescope} → SubstitutedTelescope s u v → telescope_without_indices u ≡ true → v ≡ u
   same-telescope in_end e = refl
   same-telescope (in_binding {a = a} {t = t} p q) e =
       let x = same-type p (and-left (without_indices a) (telescope_without_indices t) e) in
@@ -72,7 +72,7 @@ mutual
   itself-type s top e = in_top
   itself-type s (monad u) e = in_monad (itself-telescope s u e)
 
-  pub itself-telescope : (s : Environment) (u : Telescope) → telescope_without_indices u ≡ true → SubstitutedTelescope s u u
+  pub itself-telescope : (s : Environment) (u : PlainTelescope) → telescope_without_indices u ≡ true → SubstitutedTelescope s u u
   itself-telescope s end e = in_end
   itself-telescope s (binding m a u) e =
       in_binding (itself-type s a (and-left (without_indices a) (telescope_without_indices u) e)) (itself-telescope (under 1 s) u (and-right (without_indices a) (telescope_without_indices u) e))

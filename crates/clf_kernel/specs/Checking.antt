@@ -11,11 +11,11 @@ use Rattle.clf_syntax.specs.declared.tree.Mode.{Mode}
 use Rattle.clf_syntax.specs.declared.tree.Mode.TheVariants.{Persistent, Affine, Linear}
 use Rattle.clf_syntax.specs.declared.tree.Head.{Head}
 use Rattle.clf_syntax.specs.declared.tree.Head.TheVariants.{Const, Var, Meta}
-use Rattle.clf_syntax.specs.Tree.{Object, lam, pair, unit, monadic, atomic, hole, PlainNeutral, bare, app, fst, snd}
+use Rattle.clf_syntax.specs.Tree.{PlainObject, lam, pair, unit, monadic, atomic, hole, PlainNeutral, head_alone, app, fst, snd}
 use Rattle.clf_syntax.specs.TypeTree.{PlainType, family, function, both, top}
 use Rattle.use_contexts.specs.Context.{Context, modes}
 use Rattle.use_contexts.specs.Holding.{Holding}
-use Rattle.use_contexts.specs.Rows.{Answer, taken, left_in_both, newest_difference, now, later, is_unused, allowed, outside, slack_outside}
+use Rattle.use_contexts.specs.Rows.{Answer, taken, left_in_both, newest_difference, newest, older, is_unused, allowed, outside, slack_outside}
 use Rattle.clf_sig.specs.Entry.{PlainSignature, constant_type}
 use Rattle.clf_kernel.specs.Refusal.{not_function, not_pair, not_top, not_atomic, not_closed, mode_differs, not_held, unused, pairs_differ, family_differs, unknown_head, level, eliminations, Leftover, Outcome, passed, refused, at_part, and_then}
 
@@ -52,7 +52,7 @@ head_left sig g h (Meta k) = refused [] not_closed
 
 -- The scope of a lambda's variable ends: a linear one has to be used, or there is slack.
 abbrev pub closed_scope : Mode → Context → Leftover → Outcome Leftover
-closed_scope m g a = if is_unused m (now a.0) a.1 then refused [] (unused (suc (length g))) else passed (later a.0, a.1)
+closed_scope m g a = if is_unused m (newest a.0) a.1 then refused [] (unused (suc (length g))) else passed (older a.0, a.1)
 
 -- A lambda stands at a function of its mode.
 abbrev pub lambda_left : Mode → Context → PlainType → (PlainType → PlainType → Outcome Leftover) → Outcome Leftover
@@ -107,7 +107,7 @@ second_left place (t, x) = refused (place ∷ []) (not_pair t)
 
 abbrev mutual
   -- checked sig g h n t: what the check of the object n against the type t leaves of the holding h
-  pub checked : PlainSignature → Context → Holding → Object → PlainType → Outcome Leftover
+  pub checked : PlainSignature → Context → Holding → PlainObject → PlainType → Outcome Leftover
   checked sig g h (lam m b) t = lambda_left m g t (λ a c. checked sig ((m, a) ∷ g) (true ∷ h) b c)
   checked sig g h (pair l r) t = pair_left g t (λ a. checked sig g h l a) (λ c. checked sig g h r c)
   checked sig g h unit t = unit_left h t
@@ -117,7 +117,7 @@ abbrev mutual
 
   -- inferred sig g h r: the type of the neutral r, and what it leaves of the holding h
   pub inferred : PlainSignature → Context → Holding → PlainNeutral → Outcome (PlainType × Leftover)
-  inferred sig g h (bare x) = head_left sig g h x
+  inferred sig g h (head_alone x) = head_left sig g h x
   inferred sig g h (app m r n) = and_then (inferred sig g h r) (λ f. argument_left m g (eliminations r) f (λ row a. checked sig g row n a))
   inferred sig g h (fst r) = and_then (inferred sig g h r) (first_left (eliminations r))
   inferred sig g h (snd r) = and_then (inferred sig g h r) (second_left (eliminations r))

@@ -2,7 +2,7 @@
 use Rattle.std.specs.Prelude.{ℕ, ◌≡◌, false, [], ◌∷◌, Some}
 use Rattle.std.specs.List.{slice_get}
 use Rattle.clf_syntax.specs.declared.tree.Mode.{Mode}
-use Rattle.clf_syntax.specs.TypeTree.{PlainType, family, function, both, top, monad, Telescope, end, binding}
+use Rattle.clf_syntax.specs.TypeTree.{PlainType, family, function, both, top, monad, PlainTelescope, end, binding}
 use Rattle.clf_syntax.specs.Occurs.{occurs_type, occurs_telescope}
 use Rattle.use_contexts.specs.Context.{Context, modes}
 use Rattle.use_contexts.specs.Holding.{is_persistent}
@@ -21,7 +21,7 @@ abbrev mutual
   CleanType (monad s) = CleanTelescope s
 
   -- A telescope is clean where its types are, and no variable of a linear or affine entry occurs in a later one.
-  pub CleanTelescope : Telescope → Type 0
+  pub CleanTelescope : PlainTelescope → Type 0
   CleanTelescope end = Unit {0}
   CleanTelescope (binding m a s) = CleanType a × (is_persistent m ≡ false → occurs_telescope 0 s ≡ false) × CleanTelescope s
 

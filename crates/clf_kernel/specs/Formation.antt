@@ -5,7 +5,7 @@ use Rattle.std.specs.Prelude.{ℕ, suc, ◌≡◌, true, [], Option, Some, None,
 use Rattle.clf_syntax.specs.declared.tree.Head.TheVariants.{Const}
 use Rattle.clf_syntax.specs.declared.fault.OrWide.{OrWide}
 use Rattle.clf_syntax.specs.declared.fault.OrWide.TheVariants.{Fault, NoMemory, TooFar}
-use Rattle.clf_syntax.specs.TypeTree.{PlainType, family, function, both, top, monad, Telescope, end, binding, PlainKind}
+use Rattle.clf_syntax.specs.TypeTree.{PlainType, family, function, both, top, monad, PlainTelescope, end, binding, PlainKind}
 use Rattle.clf_sig.specs.Entry.{PlainSignature, PlainClass, family_of, constant_of, family_kind}
 use Rattle.clf_kernel.specs.declared.refusal.Refusal.{Refusal}
 use Rattle.clf_kernel.specs.Reach.{without_indices}
@@ -28,7 +28,7 @@ abbrev mutual
   type_formed sig (monad s) = telescope_formed sig 0 s
 
   -- the entries from a place on
-  pub telescope_formed : PlainSignature → ℕ → Telescope → Outcome (Unit {0})
+  pub telescope_formed : PlainSignature → ℕ → PlainTelescope → Outcome (Unit {0})
   telescope_formed sig place end = passed tt
   telescope_formed sig place (binding m a s) = and_then (at_part place (type_formed sig a)) (λ x. telescope_formed sig (suc place) s)
 

@@ -2,13 +2,13 @@
 use Rattle.std.specs.Prelude.{ℕ, ◌≡◌, ◌↔◌, Bool, true, false, List, [], ◌∷◌, ◌++◌, None, Some}
 use Rattle.std.specs.List.{slice_get}
 use Rattle.clf_syntax.specs.declared.tree.Mode.{Mode}
-use Rattle.clf_syntax.specs.Tree.{Object, PlainNeutral, Expression}
-use Rattle.clf_syntax.specs.TypeTree.{PlainType, family, function, both, top, monad, Telescope, PlainKind}
+use Rattle.clf_syntax.specs.Tree.{PlainObject, PlainNeutral, PlainExpression}
+use Rattle.clf_syntax.specs.TypeTree.{PlainType, family, function, both, top, monad, PlainTelescope, PlainKind}
 use Rattle.use_contexts.specs.Context.{Context, modes}
 use Rattle.use_contexts.specs.Holding.{Holding, WellMarked, is_weak}
 use Rattle.use_contexts.specs.Rows.{Stands, Agrees}
 use Rattle.clf_sig.specs.Entry.{PlainSignature, Declaration, names, family_kind, constant_type}
-use Rattle.clf_kernel.specs.Typing.{HasType, NeutralHasType, HasResult}
+use Rattle.clf_kernel.specs.Typing.{HasType, Synthesizes, ExpressionHasType}
 use Rattle.clf_kernel.specs.WellFormed.{WellFormedType, WellFormedTelescope, WellFormedKind, WellFormedContext, MayFollow, WellFormedSignature}
 use Rattle.clf_kernel.specs.Clean.{IsNotPersistent, CleanType, CleanTelescope, CleanContext}
 use Rattle.clf_kernel.specs.Reach.{without_indices, IsSimpleSignature, IsSimpleContext, without_monads, neutral_without_monads}
@@ -28,7 +28,7 @@ CompoundTypes = (sig : PlainSignature) (g : Context)
     → ((m : Mode) (a b : PlainType) → WellFormedType sig g (function m a b) ↔ (WellFormedType sig g a × WellFormedType sig ((m, a) ∷ g) b))
     × ((a b : PlainType) → WellFormedType sig g (both a b) ↔ (WellFormedType sig g a × WellFormedType sig g b))
     × WellFormedType sig g top
-    × ((s : Telescope) → WellFormedType sig g (monad s) ↔ WellFormedTelescope sig g s)
+    × ((s : PlainTelescope) → WellFormedType sig g (monad s) ↔ WellFormedTelescope sig g s)
 
 -- A type without indices is well formed in every context where it is in one.
 abbrev pub AnyContext : Type 0
@@ -49,11 +49,11 @@ NamesDiffer = (sig : PlainSignature) → WellFormedSignature sig → (i j : ℕ)
 -- What holds over a signature holds over each longer one.
 abbrev pub Weakening : Type 0
 Weakening = (sig more : PlainSignature) (g : Context)
-    → ((h : Holding) (n : Object) (a : PlainType) → HasType sig g h n a → HasType (sig ++ more) g h n a)
-    × ((h : Holding) (r : PlainNeutral) (a : PlainType) → NeutralHasType sig g h r a → NeutralHasType (sig ++ more) g h r a)
-    × ((h : Holding) (e : Expression) (s : Telescope) → HasResult sig g h e s → HasResult (sig ++ more) g h e s)
+    → ((h : Holding) (n : PlainObject) (a : PlainType) → HasType sig g h n a → HasType (sig ++ more) g h n a)
+    × ((h : Holding) (r : PlainNeutral) (a : PlainType) → Synthesizes sig g h r a → Synthesizes (sig ++ more) g h r a)
+    × ((h : Holding) (e : PlainExpression) (s : PlainTelescope) → ExpressionHasType sig g h e s → ExpressionHasType (sig ++ more) g h e s)
     × ((a : PlainType) → WellFormedType sig g a → WellFormedType (sig ++ more) g a)
-    × ((s : Telescope) → WellFormedTelescope sig g s → WellFormedTelescope (sig ++ more) g s)
+    × ((s : PlainTelescope) → WellFormedTelescope sig g s → WellFormedTelescope (sig ++ more) g s)
     × ((k : PlainKind) → WellFormedKind sig g k → WellFormedKind (sig ++ more) g k)
 
 -- In a well-formed signature each family has a well-formed kind, and each constant a well-formed type, without variables.
@@ -64,19 +64,19 @@ EntriesWellFormed = (sig : PlainSignature) → WellFormedSignature sig
 
 -- A typed object mentions held variables alone.
 abbrev pub MentionsHeldAlone : Type 0
-MentionsHeldAlone = (sig : PlainSignature) (g : Context) (h : Holding) (n : Object) (a : PlainType) → HasType sig g h n a → (i : ℕ) → slice_get h i ≡ Some false → occurs i n ≡ false
+MentionsHeldAlone = (sig : PlainSignature) (g : Context) (h : Holding) (n : PlainObject) (a : PlainType) → HasType sig g h n a → (i : ℕ) → slice_get h i ≡ Some false → occurs i n ≡ false
 
 -- What is well formed is clean, and mentions no linear or affine variable of the context.
 abbrev pub WellFormedIsClean : Type 0
 WellFormedIsClean = (sig : PlainSignature) (g : Context)
     → ((a : PlainType) → WellFormedType sig g a → CleanType a × ((i : ℕ) → IsNotPersistent g i → occurs_type i a ≡ false))
-    × ((s : Telescope) → WellFormedTelescope sig g s → CleanTelescope s × ((i : ℕ) → IsNotPersistent g i → occurs_telescope i s ≡ false))
+    × ((s : PlainTelescope) → WellFormedTelescope sig g s → CleanTelescope s × ((i : ℕ) → IsNotPersistent g i → occurs_telescope i s ≡ false))
     × (WellFormedContext sig g → CleanContext g)
 
 -- The check of an object without monads against a type without indices agrees with the rules: what is left stands for exactly the parts
 -- of the holding under which the rules type the object, and a refusal comes only where there is no such part.
 abbrev pub ChecksExactly : Type 0
-ChecksExactly = (sig : PlainSignature) (g : Context) (h : Holding) (n : Object) (t : PlainType)
+ChecksExactly = (sig : PlainSignature) (g : Context) (h : Holding) (n : PlainObject) (t : PlainType)
     → IsSimpleSignature sig → IsSimpleContext g → WellMarked (modes g) h → without_monads n ≡ true → without_indices t ≡ true
     → Agrees (modes g) h (answer_of (checked sig g h n t)) (λ p. HasType sig g p n t)
 
@@ -84,11 +84,11 @@ ChecksExactly = (sig : PlainSignature) (g : Context) (h : Holding) (n : Object) 
 abbrev pub InfersExactly : Type 0
 InfersExactly = (sig : PlainSignature) (g : Context) (h : Holding) (r : PlainNeutral)
     → IsSimpleSignature sig → IsSimpleContext g → WellMarked (modes g) h → neutral_without_monads r ≡ true
-    → AgreesWithType g h (inferred sig g h r) (λ p a. NeutralHasType sig g p r a)
+    → AgreesWithType g h (inferred sig g h r) (λ p a. Synthesizes sig g p r a)
 
 -- A refusal of an object comes exactly where at its path stands a part that is refused for its cause.
 abbrev pub RefusesExactly : Type 0
-RefusesExactly = (sig : PlainSignature) (g : Context) (h : Holding) (n : Object) (t : PlainType) (path : List ℕ) (why : Cause)
+RefusesExactly = (sig : PlainSignature) (g : Context) (h : Holding) (n : PlainObject) (t : PlainType) (path : List ℕ) (why : Cause)
     → IsSimpleSignature sig → IsSimpleContext g → WellMarked (modes g) h → without_monads n ≡ true → without_indices t ≡ true
     → (checked sig g h n t ≡ refused path why) ↔ ExplainedAt sig g h n t path why
 
@@ -100,13 +100,13 @@ RefusesNeutralsExactly = (sig : PlainSignature) (g : Context) (h : Holding) (r :
 
 -- No part of the holding types an object exactly where some refusal explains it.
 abbrev pub RefusedIsExplained : Type 0
-RefusedIsExplained = (sig : PlainSignature) (g : Context) (h : Holding) (n : Object) (t : PlainType)
+RefusedIsExplained = (sig : PlainSignature) (g : Context) (h : Holding) (n : PlainObject) (t : PlainType)
     → IsSimpleSignature sig → IsSimpleContext g → WellMarked (modes g) h → without_monads n ≡ true → without_indices t ≡ true
     → Agrees (modes g) h None (λ p. HasType sig g p n t) ↔ ((path : List ℕ) × (why : Cause) × ExplainedAt sig g h n t path why)
 
 -- The refusal that explains it is one, with its path and its cause.
 abbrev pub RefusalIsOne : Type 0
-RefusalIsOne = (sig : PlainSignature) (g : Context) (h : Holding) (n : Object) (t : PlainType) (path other : List ℕ) (why because : Cause)
+RefusalIsOne = (sig : PlainSignature) (g : Context) (h : Holding) (n : PlainObject) (t : PlainType) (path other : List ℕ) (why because : Cause)
     → IsSimpleSignature sig → IsSimpleContext g → WellMarked (modes g) h → without_monads n ≡ true → without_indices t ≡ true
     → ExplainedAt sig g h n t path why → ExplainedAt sig g h n t other because → (path ≡ other) × (why ≡ because)
 
@@ -126,11 +126,11 @@ SlackIsIdle = (g : Context) (h l : Holding) (s t : Bool) (p : Holding) → is_we
 
 -- What stands for exactly the parts under which an object has a type is one.
 abbrev pub LeftoverIsOne : Type 0
-LeftoverIsOne = (sig : PlainSignature) (g : Context) (h : Holding) (n : Object) (t : PlainType) (a b : Leftover) → WellMarked (modes g) h
+LeftoverIsOne = (sig : PlainSignature) (g : Context) (h : Holding) (n : PlainObject) (t : PlainType) (a b : Leftover) → WellMarked (modes g) h
     → Agrees (modes g) h (Some a) (λ p. HasType sig g p n t) → Agrees (modes g) h (Some b) (λ p. HasType sig g p n t) → LeaveTheSame g a b
 
 -- So it is with a neutral and its type.
 abbrev pub InferredIsOne : Type 0
 InferredIsOne = (sig : PlainSignature) (g : Context) (h : Holding) (r : PlainNeutral) (e f : PlainType × Leftover) → WellMarked (modes g) h
-    → AgreesWithType g h (passed e) (λ p a. NeutralHasType sig g p r a) → AgreesWithType g h (passed f) (λ p a. NeutralHasType sig g p r a)
+    → AgreesWithType g h (passed e) (λ p a. Synthesizes sig g p r a) → AgreesWithType g h (passed f) (λ p a. Synthesizes sig g p r a)
     → (e.0 ≡ f.0) × LeaveTheSame g e.1 f.1

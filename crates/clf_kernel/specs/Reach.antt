@@ -1,7 +1,7 @@
 -- Trees without dependencies: types without indices, and objects without monads.
 use Rattle.std.specs.Prelude.{ℕ, ◌≡◌, Bool, true, false, ◌&&◌, [], ◌∷◌, Some}
-use Rattle.clf_syntax.specs.Tree.{Object, lam, pair, unit, monadic, atomic, hole, PlainNeutral, bare, app, fst, snd}
-use Rattle.clf_syntax.specs.TypeTree.{PlainType, family, function, both, top, monad, Telescope, end, binding, PlainKind}
+use Rattle.clf_syntax.specs.Tree.{PlainObject, lam, pair, unit, monadic, atomic, hole, PlainNeutral, head_alone, app, fst, snd}
+use Rattle.clf_syntax.specs.TypeTree.{PlainType, family, function, both, top, monad, PlainTelescope, end, binding, PlainKind}
 use Rattle.use_contexts.specs.Context.{Context}
 use Rattle.clf_sig.specs.Entry.{PlainSignature, family_kind, constant_type}
 
@@ -15,7 +15,7 @@ abbrev mutual
   without_indices top = true
   without_indices (monad s) = telescope_without_indices s
 
-  pub telescope_without_indices : Telescope → Bool
+  pub telescope_without_indices : PlainTelescope → Bool
   telescope_without_indices end = true
   telescope_without_indices (binding m a s) = without_indices a && telescope_without_indices s
 
@@ -31,7 +31,7 @@ IsSimpleContext (e ∷ g) = (without_indices e.1 ≡ true) × IsSimpleContext g
 
 -- whether no monadic object stands in it
 abbrev mutual
-  pub without_monads : Object → Bool
+  pub without_monads : PlainObject → Bool
   without_monads (lam m b) = without_monads b
   without_monads (pair l r) = without_monads l && without_monads r
   without_monads unit = true
@@ -40,7 +40,7 @@ abbrev mutual
   without_monads hole = true
 
   pub neutral_without_monads : PlainNeutral → Bool
-  neutral_without_monads (bare x) = true
+  neutral_without_monads (head_alone x) = true
   neutral_without_monads (app m r n) = neutral_without_monads r && without_monads n
   neutral_without_monads (fst r) = neutral_without_monads r
   neutral_without_monads (snd r) = neutral_without_monads r

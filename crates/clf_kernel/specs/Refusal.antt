@@ -6,7 +6,7 @@
 use Rattle.std.specs.Prelude.{ℕ, suc, ◌-◌, Bool, List, ◌∷◌, length}
 use Rattle.clf_syntax.specs.declared.tree.Mode.{Mode}
 use Rattle.clf_syntax.specs.declared.tree.Head.{Head}
-use Rattle.clf_syntax.specs.Tree.{PlainNeutral, bare, app, fst, snd}
+use Rattle.clf_syntax.specs.Tree.{PlainNeutral, head_alone, app, fst, snd}
 use Rattle.clf_syntax.specs.TypeTree.{PlainType}
 use Rattle.use_contexts.specs.Context.{Context}
 use Rattle.use_contexts.specs.Holding.{Holding}
@@ -17,7 +17,7 @@ level g i = length g - i
 
 -- how many eliminations a neutral has
 abbrev pub eliminations : PlainNeutral → ℕ
-eliminations (bare x) = 0
+eliminations (head_alone x) = 0
 eliminations (app m r n) = suc (eliminations r)
 eliminations (fst r) = suc (eliminations r)
 eliminations (snd r) = suc (eliminations r)

@@ -1,7 +1,7 @@
 -- The eliminations of a spine in order, as the check of a neutral goes through them.
 use Rattle.std.specs.Prelude.{ℕ, suc, ◌||◌, List, [], ◌∷◌}
 use Rattle.clf_syntax.specs.declared.tree.Mode.{Mode}
-use Rattle.clf_syntax.specs.Tree.{Elimination, arg, first, second}
+use Rattle.clf_syntax.specs.Tree.{PlainElimination, arg, first, second}
 use Rattle.clf_syntax.specs.TypeTree.{PlainType}
 use Rattle.use_contexts.specs.Context.{Context, modes}
 use Rattle.use_contexts.specs.Holding.{Holding}
@@ -15,12 +15,12 @@ abbrev pub argument_used : Mode → Context → ℕ → Leftover → (Holding �
 argument_used m g place x argument = and_then (at_part place (argument (allowed m (modes g) x.0))) (λ y. passed (outside m (modes g) x.0 y.0, x.1 || slack_outside m y.1))
 
 -- one elimination, with its place, of a neutral of a type
-abbrev pub elimination_left : PlainSignature → Context → ℕ → Elimination → PlainType × Leftover → Outcome (PlainType × Leftover)
+abbrev pub elimination_left : PlainSignature → Context → ℕ → PlainElimination → PlainType × Leftover → Outcome (PlainType × Leftover)
 elimination_left sig g place (arg m n) found = argument_left m g place found (λ row a. checked sig g row n a)
 elimination_left sig g place first found = first_left place found
 elimination_left sig g place second found = second_left place found
 
 -- the eliminations from a place on
-abbrev pub spine_left : PlainSignature → Context → ℕ → List Elimination → PlainType × Leftover → Outcome (PlainType × Leftover)
+abbrev pub spine_left : PlainSignature → Context → ℕ → List PlainElimination → PlainType × Leftover → Outcome (PlainType × Leftover)
 spine_left sig g place [] found = passed found
 spine_left sig g place (e ∷ es) found = and_then (elimination_left sig g place e found) (spine_left sig g (suc place) es)

@@ -3,8 +3,8 @@
 -- the affine mode, telescopes, and a function that binds a variable in its second type whatever its mode.
 use Rattle.std.specs.Prelude.{ℕ, ◌+◌, ◌≡◌, ◌≤◌, true, List, [], ◌∷◌, ◌++◌, length, Some, Contains}
 use Rattle.clf_syntax.specs.declared.tree.Mode.TheVariants.{Persistent, Affine, Linear}
-use Rattle.clf_syntax.specs.Tree.{Object}
-use Rattle.clf_syntax.specs.TypeTree.{PlainType, family, function, both, top, monad, Telescope, end, binding, PlainKind}
+use Rattle.clf_syntax.specs.Tree.{PlainObject}
+use Rattle.clf_syntax.specs.TypeTree.{PlainType, family, function, both, top, monad, PlainTelescope, end, binding, PlainKind}
 use Rattle.clf_syntax.specs.Word.{is_declarable}
 use Rattle.use_contexts.specs.Context.{Context, modes}
 use Rattle.use_contexts.specs.Holding.{persistent_alone}
@@ -14,7 +14,7 @@ use Rattle.clf_kernel.specs.Typing.{HasType}
 
 -- The objects are as many as the arguments of the kind. Each has the argument's type, with the earlier ones put, and uses persistent
 -- entries alone. (In the report: the rules for atomic types, a family applied to objects.)
-abbrev pub IndicesHaveTypes : PlainSignature → Context → List Object → PlainKind → Type 0
+abbrev pub IndicesHaveTypes : PlainSignature → Context → List PlainObject → PlainKind → Type 0
 IndicesHaveTypes sig g [] [] = Unit {0}
 IndicesHaveTypes sig g (n ∷ ns) (a ∷ k) = HasType sig g (persistent_alone (modes g)) n a × (l : PlainKind) × SubstitutedKind (single n 0) k l × IndicesHaveTypes sig g ns l
 IndicesHaveTypes sig g [] (a ∷ k) = ⊥
@@ -31,7 +31,7 @@ abbrev mutual
   WellFormedType sig g (monad s) = WellFormedTelescope sig g s
 
   -- A telescope entry by entry, each of which adds its variable. (In the report: synchronous types.)
-  pub WellFormedTelescope : PlainSignature → Context → Telescope → Type 0
+  pub WellFormedTelescope : PlainSignature → Context → PlainTelescope → Type 0
   WellFormedTelescope sig g end = Unit {0}
   WellFormedTelescope sig g (binding m a s) = WellFormedType sig g a × WellFormedTelescope sig ((m, a) ∷ g) s
 

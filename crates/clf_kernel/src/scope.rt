@@ -3,7 +3,7 @@ ghost use Rattle.std.specs.Prelude.{◌≡◌, ◌∷◌, ◌<◌, ◌^◌, suc,
 ghost use Rattle.clf_syntax.specs.PlainTypes.{plain_ty};
 ghost use Rattle.use_contexts.specs.declared.context.Ctx.{Ctx as DeclaredCtx};
 ghost use Rattle.use_contexts.specs.Marks.{context, marks};
-ghost use Rattle.use_contexts.specs.Rows.{now, later, is_unused as is_unused_linear};
+ghost use Rattle.use_contexts.specs.Rows.{newest, older, is_unused as is_unused_linear};
 ghost use Rattle.clf_kernel.specs.Checking.{closed_scope};
 ghost use Rattle.clf_kernel.specs.Answers.{plain_left};
 ghost use Rattle.clf_kernel.specs.Stops.{IsShort, Gives, IsEntered};
@@ -74,8 +74,8 @@ pub fn close_scope(alloc: Global, mode: Mode, ctx: &Ctx, left: Left) -> Result<L
 
 /// Takes the newest mark away, and answers it.
 fn take_newest(row: &mut Holding) -> bool
-    ensures newest { result ≡ now (marks row.old) }
-    ensures rest { marks row.new ≡ later (marks row.old) }
+    ensures newest { result ≡ newest (marks row.old) }
+    ensures rest { marks row.new ≡ older (marks row.old) }
 {
     match row.held.pop() {
         Some(held) => held,

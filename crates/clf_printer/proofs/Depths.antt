@@ -4,7 +4,7 @@ use Rattle.std.proofs.Math.Nat.{max-le}
 use Rattle.std.specs.Fmt.{decimal}
 use Rattle.clf_syntax.specs.declared.tree.Mode.{Mode}
 use Rattle.clf_syntax.specs.declared.tree.Mode.TheVariants.{Persistent, Affine, Linear}
-use Rattle.clf_syntax.specs.Tree.{Object, lam, pair, unit, monadic, atomic, hole, PlainNeutral, bare, app, fst, snd, Expression, step, done, Tuple, empty, entry}
+use Rattle.clf_syntax.specs.Tree.{PlainObject, lam, pair, unit, monadic, atomic, hole, PlainNeutral, head_alone, app, fst, snd, PlainExpression, step, done, PlainTuple, empty, entry}
 use Rattle.clf_sig.specs.Entry.{PlainSignature}
 use Rattle.clf_printer.specs.Depth.{scope_depth, neutral_depth, expression_depth, tuple_depth}
 use Rattle.clf_printer.specs.Text.{when, grouped, listed, is_application, is_atom, mark_text, new_variable_text, binder_text, binders_text, comma, pattern_text, argument_text, tuple_entry_text, step_text, width, tuple_comma, object_text, neutral_text, expression_text, tuple_text}
@@ -47,7 +47,7 @@ in-step level ms text =
 
 module _ (sig : PlainSignature) (metas : List ℕ) where
   mutual
-    pub depth-object : (level : ℕ) (n : Object) → scope_depth n ≤ length (object_text sig metas level n)
+    pub depth-object : (level : ℕ) (n : PlainObject) → scope_depth n ≤ length (object_text sig metas level n)
     depth-object level (lam m b) = omega (arith, depth-object (level + 1) b, length-four (codes "\\") (binder_text level m) (codes ". ") (object_text sig metas (level + 1) b))
     depth-object level (pair l r) =
         let all = length-five (codes "<") (object_text sig metas level l) (codes ", ") (object_text sig metas level r) (codes ">") in
@@ -58,7 +58,7 @@ module _ (sig : PlainSignature) (metas : List ℕ) where
     depth-object level hole = omega arith
 
     depth-neutral : (level : ℕ) (n : PlainNeutral) → neutral_depth n ≤ length (neutral_text sig metas level n)
-    depth-neutral level (bare h) = omega arith
+    depth-neutral level (head_alone h) = omega arith
     depth-neutral level (app m r n) =
         let text = object_text sig metas level n in
         let all = length-append (neutral_text sig metas level r) (argument_text m (is_atom n) text) in
@@ -70,14 +70,14 @@ module _ (sig : PlainSignature) (metas : List ℕ) where
         let text = neutral_text sig metas level r in
         omega (arith, depth-neutral level r, in-grouped (is_application r) text, length-append (codes "#2 ") (grouped (is_application r) text))
 
-    depth-expression : (level : ℕ) (e : Expression) → expression_depth e ≤ length (expression_text sig metas level e)
+    depth-expression : (level : ℕ) (e : PlainExpression) → expression_depth e ≤ length (expression_text sig metas level e)
     depth-expression level (step ms r e) =
         let text = neutral_text sig metas level r in
         let all = length-append (step_text level ms text) (expression_text sig metas (level + length ms) e) in
         max-le (omega (arith, depth-neutral level r, in-step level ms text, all)) (omega (arith, depth-expression (level + length ms) e, in-step level ms text, all))
     depth-expression level (done t) = omega (arith, depth-tuple level t, in-listed (width t) (tuple_text sig metas level t))
 
-    depth-tuple : (level : ℕ) (t : Tuple) → tuple_depth t ≤ length (tuple_text sig metas level t)
+    depth-tuple : (level : ℕ) (t : PlainTuple) → tuple_depth t ≤ length (tuple_text sig metas level t)
     depth-tuple level empty = le_refl 0
     depth-tuple level (entry m n t) =
         let text = object_text sig metas level n in

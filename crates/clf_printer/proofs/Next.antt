@@ -5,7 +5,7 @@ use Rattle.clf_syntax.specs.declared.tree.Mode.{Mode}
 use Rattle.clf_syntax.specs.declared.tree.TupleEntry.{TupleEntry}
 use Rattle.clf_syntax.specs.declared.tree.Step.{Step, out-Step}
 use Rattle.clf_syntax.specs.declared.tree.TeleEntry.{TeleEntry, out-TeleEntry}
-use Rattle.clf_syntax.specs.Tree.{Expression, done, steps_on, tuple_of}
+use Rattle.clf_syntax.specs.Tree.{PlainExpression, done, steps_on, tuple_of}
 use Rattle.clf_syntax.specs.TypeTree.{PlainType, telescope_of}
 use Rattle.clf_syntax.specs.Plain.{plain_obj, plain_neutral, plain_step, plain_entry, plain-step-modes, plain-step-rhs, plain-entry-obj}
 use Rattle.clf_syntax.specs.PlainTypes.{plain_ty, plain_tele_entry, plain-tele-entry}
@@ -24,7 +24,7 @@ occurs_tuple-next v i t xs h e =
     ap (λ ts. occurs_tuple v (tuple_of (map plain_entry ts))) (dropped xs i t h e)
     ∙ ap (λ n. occurs v n || occurs_tuple v (tuple_of (map plain_entry (drop (i + 1) xs)))) (plain-entry-obj t)
 
-pub occurs_steps-next : (v i : ℕ) (s : Step) (xs : List Step) (r : Expression) → i < length xs → s ≡ get_or xs i s
+pub occurs_steps-next : (v i : ℕ) (s : Step) (xs : List Step) (r : PlainExpression) → i < length xs → s ≡ get_or xs i s
     → occurs_expression v (steps_on (map plain_step (drop i xs)) r) ≡ occurs_neutral v (plain_neutral (out-Step s).rhs) || occurs_expression (v + length s.modes) (steps_on (map plain_step (drop (i + 1) xs)) r)
 occurs_steps-next v i s xs r h e =
     let later = steps_on (map plain_step (drop (i + 1) xs)) r in
@@ -46,7 +46,7 @@ appearing_tuple-next metas i t xs h e =
     ap (λ ts. appearing_tuple metas (tuple_of (map plain_entry ts))) (dropped xs i t h e)
     ∙ ap (λ n. appearing_tuple (appearing metas n) (tuple_of (map plain_entry (drop (i + 1) xs)))) (plain-entry-obj t)
 
-pub appearing_steps-next : (metas : List ℕ) (i : ℕ) (s : Step) (xs : List Step) (r : Expression) → i < length xs → s ≡ get_or xs i s
+pub appearing_steps-next : (metas : List ℕ) (i : ℕ) (s : Step) (xs : List Step) (r : PlainExpression) → i < length xs → s ≡ get_or xs i s
     → appearing_expression metas (steps_on (map plain_step (drop i xs)) r) ≡ appearing_expression (appearing_neutral metas (plain_neutral (out-Step s).rhs)) (steps_on (map plain_step (drop (i + 1) xs)) r)
 appearing_steps-next metas i s xs r h e =
     ap (λ ss. appearing_expression metas (steps_on (map plain_step ss) r)) (dropped xs i s h e)
@@ -65,7 +65,7 @@ positive n = grind arith
 
 module _ (sig : PlainSignature) (metas : List ℕ) where
   -- a step, and the binders behind it
-  pub step-appended : (level n i : ℕ) (s : Step) (xs : List Step) (r : Expression) (o p : List ℕ) → i < length xs → s ≡ get_or xs i s → n ≡ level + length s.modes
+  pub step-appended : (level n i : ℕ) (s : Step) (xs : List Step) (r : PlainExpression) (o p : List ℕ) → i < length xs → s ≡ get_or xs i s → n ≡ level + length s.modes
       → p ≡ o ++ step_text level (plain_step s).0 (neutral_text sig metas level (plain_step s).1)
       → p ++ expression_text sig metas n (steps_on (map plain_step (drop (i + 1) xs)) r) ≡ o ++ expression_text sig metas level (steps_on (map plain_step (drop i xs)) r)
   step-appended level n i s xs r o p h e k w =

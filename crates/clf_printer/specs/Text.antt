@@ -7,8 +7,8 @@ use Rattle.clf_syntax.specs.declared.tree.Mode.TheVariants.{Persistent, Affine, 
 use Rattle.clf_syntax.specs.declared.tree.Head.{Head}
 use Rattle.clf_syntax.specs.declared.tree.Head.TheVariants.{Const, Var, Meta}
 use Rattle.clf_syntax.specs.Word.{is_variable_word}
-use Rattle.clf_syntax.specs.Tree.{Object, lam, pair, unit, monadic, atomic, hole, PlainNeutral, bare, app, fst, snd, Expression, step, done, Tuple, empty, entry}
-use Rattle.clf_syntax.specs.TypeTree.{PlainType, family, function, both, top, monad, Telescope, end, binding, PlainKind}
+use Rattle.clf_syntax.specs.Tree.{PlainObject, lam, pair, unit, monadic, atomic, hole, PlainNeutral, head_alone, app, fst, snd, PlainExpression, step, done, PlainTuple, empty, entry}
+use Rattle.clf_syntax.specs.TypeTree.{PlainType, family, function, both, top, monad, PlainTelescope, end, binding, PlainKind}
 use Rattle.clf_syntax.specs.Occurs.{occurs_type, occurs_telescope}
 use Rattle.clf_sig.specs.Entry.{PlainClass, family_of, constant_of, PlainEntry, PlainSignature}
 use Rattle.clf_printer.specs.declared.place.Place.{Place}
@@ -83,13 +83,13 @@ pattern_text level ms = listed (length ms) (binders_text level ms)
 
 -- a neutral whose last elimination is an argument
 abbrev pub is_application : PlainNeutral → Bool
-is_application (bare h) = false
+is_application (head_alone h) = false
 is_application (app m r n) = true
 is_application (fst r) = false
 is_application (snd r) = false
 
 -- An atom needs no parentheses.
-abbrev pub is_atom : Object → Bool
+abbrev pub is_atom : PlainObject → Bool
 is_atom (lam m b) = false
 is_atom (pair l r) = true
 is_atom unit = true
@@ -112,18 +112,18 @@ abbrev pub step_text : ℕ → List Mode → List ℕ → List ℕ
 step_text level ms neutral = codes "let {" ++ pattern_text level ms ++ codes "} = " ++ neutral ++ codes " in "
 
 -- how many entries a tuple has
-abbrev pub width : Tuple → ℕ
+abbrev pub width : PlainTuple → ℕ
 width empty = 0
 width (entry m n t) = width t + 1
 
-abbrev pub tuple_comma : Tuple → List ℕ
+abbrev pub tuple_comma : PlainTuple → List ℕ
 tuple_comma empty = []
 tuple_comma (entry m n t) = codes ", "
 
 module _ (sig : PlainSignature) (metas : List ℕ) where
   -- The text of an object under `level` binders.
   abbrev mutual
-    pub object_text : ℕ → Object → List ℕ
+    pub object_text : ℕ → PlainObject → List ℕ
     object_text level (lam m b) = codes "\\" ++ binder_text level m ++ codes ". " ++ object_text (level + 1) b
     object_text level (pair l r) = codes "<" ++ object_text level l ++ codes ", " ++ object_text level r ++ codes ">"
     object_text level unit = codes "<>"
@@ -132,17 +132,17 @@ module _ (sig : PlainSignature) (metas : List ℕ) where
     object_text level hole = codes "_"
 
     pub neutral_text : ℕ → PlainNeutral → List ℕ
-    neutral_text level (bare h) = head_text sig metas level h
+    neutral_text level (head_alone h) = head_text sig metas level h
     neutral_text level (app m r n) = neutral_text level r ++ argument_text m (is_atom n) (object_text level n)
     neutral_text level (fst r) = codes "#1 " ++ grouped (is_application r) (neutral_text level r)
     neutral_text level (snd r) = codes "#2 " ++ grouped (is_application r) (neutral_text level r)
 
-    pub expression_text : ℕ → Expression → List ℕ
+    pub expression_text : ℕ → PlainExpression → List ℕ
     expression_text level (step ms r e) = step_text level ms (neutral_text level r) ++ expression_text (level + length ms) e
     expression_text level (done t) = listed (width t) (tuple_text level t)
 
     -- the entries of a tuple, without its brackets
-    pub tuple_text : ℕ → Tuple → List ℕ
+    pub tuple_text : ℕ → PlainTuple → List ℕ
     tuple_text level empty = []
     tuple_text level (entry m n t) = tuple_entry_text m (is_atom n) (object_text level n) ++ tuple_comma t ++ tuple_text level t
 
@@ -187,13 +187,13 @@ abbrev pub occurs_kind : ℕ → PlainKind → Bool
 occurs_kind v [] = false
 occurs_kind v (a ∷ k) = occurs_type v a || occurs_kind (v + 1) k
 
-abbrev pub is_end : Telescope → Bool
+abbrev pub is_end : PlainTelescope → Bool
 is_end end = true
 is_end (binding m a s) = false
 
 module _ (sig : PlainSignature) (metas : List ℕ) where
   -- Indices are persistent arguments.
-  abbrev pub indices_text : ℕ → List Object → List ℕ
+  abbrev pub indices_text : ℕ → List PlainObject → List ℕ
   indices_text level [] = []
   indices_text level (n ∷ ns) = argument_text Persistent (is_atom n) (object_text sig metas level n) ++ indices_text level ns
 
@@ -208,7 +208,7 @@ module _ (sig : PlainSignature) (metas : List ℕ) where
     type_text level p (monad s) = codes "{" ++ when (is_end s) (codes "1") ++ telescope_text level s ++ codes "}"
 
     -- the entries of a telescope
-    pub telescope_text : ℕ → Telescope → List ℕ
+    pub telescope_text : ℕ → PlainTelescope → List ℕ
     telescope_text level end = []
     telescope_text level (binding m a s) =
         tele_entry_text m (is_persistent m && occurs_telescope 0 s) (not (is_end s)) level (type_text level whole a) (type_text level operand a) ++ telescope_text (level + 1) s

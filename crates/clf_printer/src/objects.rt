@@ -1,7 +1,7 @@
 //! Objects and their parts.
 ghost use Rattle.std.specs.Prelude.{◌≡◌, ◌≤◌, ◌++◌, ◌+◌, IfOk, OnOk, map, not, length, take};
 ghost use Rattle.clf_syntax.specs.declared.tree.Head.{Head};
-ghost use Rattle.clf_syntax.specs.Tree.{lam, bare, spine_on, tuple_of};
+ghost use Rattle.clf_syntax.specs.Tree.{lam, head_alone, spine_on, tuple_of};
 ghost use Rattle.clf_syntax.specs.Plain.{plain_obj, plain_neutral, plain_elim, plain_expr, plain_step, plain_entry};
 ghost use Rattle.clf_sig.specs.Signature.{plain_signature};
 ghost use Rattle.clf_printer.specs.Text as spec;
@@ -26,7 +26,7 @@ fn is_argument(act: &Elim) -> bool
 /// Whether a head under the first eliminations of a spine is an application.
 fn is_applied(spine: &[Elim], end: usize) -> bool
     requires { end ≤ length spine.now }
-    ensures { (h : Head) → result ≡ spec.is_application (spine_on (map plain_elim (take end spine.now)) (bare h)) }
+    ensures { (h : Head) → result ≡ spec.is_application (spine_on (map plain_elim (take end spine.now)) (head_alone h)) }
 {
     end > 0 && is_argument(&spine[end - 1])
 }
@@ -48,7 +48,7 @@ fn is_atom(obj: &Obj) -> bool
 
 /// Writes what stands in front of a head: the projections, the last one first.
 fn push_front(out: &mut Vec<u8>, spine: &[Elim]) -> Result<(), AllocError>
-    ensures { OnOk result ((h : Head) → out.new.items ≡ out.old.items ++ along.front_text (spine_on (map plain_elim spine.now) (bare h))) }
+    ensures { OnOk result ((h : Head) → out.new.items ≡ out.old.items ++ along.front_text (spine_on (map plain_elim spine.now) (head_alone h))) }
 {
     let mut end = spine.len();
     while end > 0 {
@@ -167,7 +167,7 @@ fn push_back(
     level: u64,
     spine: &[Elim],
 ) -> Result<(), AllocError>
-    ensures { OnOk result ((h : Head) → out.new.items ≡ out.old.items ++ along.back_text (plain_signature sig.now) metas.now level (spine_on (map plain_elim spine.now) (bare h))) }
+    ensures { OnOk result ((h : Head) → out.new.items ≡ out.old.items ++ along.back_text (plain_signature sig.now) metas.now level (spine_on (map plain_elim spine.now) (head_alone h))) }
 {
     let mut applied = false;
     for act in spine {

@@ -3,7 +3,7 @@ use Rattle.std.specs.Prelude.{ℕ, ◌+◌, ◌-◌, ◌≡◌, ◌<◌, ◌≤�
 use Rattle.std.proofs.Common.{ap, sym, ◌∙◌, subst, arith, ⊎_elim}
 use Rattle.clf_syntax.specs.declared.tree.Mode.{Mode}
 use Rattle.clf_syntax.specs.declared.tree.Head.TheVariants.{Const, Var, Meta}
-use Rattle.clf_syntax.specs.Tree.{Object, lam, pair, unit, monadic, atomic, hole, PlainNeutral, bare, app, fst, snd, Expression, step, done, Tuple, empty, entry}
+use Rattle.clf_syntax.specs.Tree.{PlainObject, lam, pair, unit, monadic, atomic, hole, PlainNeutral, head_alone, app, fst, snd, PlainExpression, step, done, PlainTuple, empty, entry}
 use Rattle.clf_syntax.specs.Renaming.{Renumbering, lifted, ren, ren_neutral, ren_expression, ren_tuple, up, down, crossed}
 
 pub ext : {A B : Type 0} {f g : A → B} → ((x : A) → f x ≡ g x) → f ≡ g
@@ -15,20 +15,20 @@ lift_id n = ext (λ i. grind arith)
 pub lift_comp : (n : ℕ) (r s : Renumbering) → (λ i. lifted n r (lifted n s i)) ≡ lifted n (λ i. r (s i))
 lift_comp n r s = ext (λ i. grind arith)
 
-pub pairs : {a b c d : Object} → a ≡ b → c ≡ d → pair a c ≡ pair b d
+pub pairs : {a b c d : PlainObject} → a ≡ b → c ≡ d → pair a c ≡ pair b d
 pairs e f = cc
 
-pub apps : (m : Mode) {a b : PlainNeutral} {c d : Object} → a ≡ b → c ≡ d → app m a c ≡ app m b d
+pub apps : (m : Mode) {a b : PlainNeutral} {c d : PlainObject} → a ≡ b → c ≡ d → app m a c ≡ app m b d
 apps m e f = cc
 
-pub binds : (ms : List Mode) {a b : PlainNeutral} {c d : Expression} → a ≡ b → c ≡ d → step ms a c ≡ step ms b d
+pub binds : (ms : List Mode) {a b : PlainNeutral} {c d : PlainExpression} → a ≡ b → c ≡ d → step ms a c ≡ step ms b d
 binds ms e f = cc
 
-pub entries : (m : Mode) {a b : Object} {c d : Tuple} → a ≡ b → c ≡ d → entry m a c ≡ entry m b d
+pub entries : (m : Mode) {a b : PlainObject} {c d : PlainTuple} → a ≡ b → c ≡ d → entry m a c ≡ entry m b d
 entries m e f = cc
 
 mutual
-  pub composed : (r s : Renumbering) (o : Object) → ren r (ren s o) ≡ ren (λ i. r (s i)) o
+  pub composed : (r s : Renumbering) (o : PlainObject) → ren r (ren s o) ≡ ren (λ i. r (s i)) o
   composed r s (lam m b) = ap (lam m) (composed (lifted 1 r) (lifted 1 s) b ∙ ap (λ f. ren f b) (lift_comp 1 r s))
   composed r s (pair x y) = pairs (composed r s x) (composed r s y)
   composed r s unit = refl
@@ -37,23 +37,23 @@ mutual
   composed r s hole = refl
 
   pub composed_neutral : (r s : Renumbering) (n : PlainNeutral) → ren_neutral r (ren_neutral s n) ≡ ren_neutral (λ i. r (s i)) n
-  composed_neutral r s (bare (Const c)) = refl
-  composed_neutral r s (bare (Var i)) = refl
-  composed_neutral r s (bare (Meta m)) = refl
+  composed_neutral r s (head_alone (Const c)) = refl
+  composed_neutral r s (head_alone (Var i)) = refl
+  composed_neutral r s (head_alone (Meta m)) = refl
   composed_neutral r s (app m x o) = apps m (composed_neutral r s x) (composed r s o)
   composed_neutral r s (fst x) = ap fst (composed_neutral r s x)
   composed_neutral r s (snd x) = ap snd (composed_neutral r s x)
 
-  pub composed_expression : (r s : Renumbering) (e : Expression) → ren_expression r (ren_expression s e) ≡ ren_expression (λ i. r (s i)) e
+  pub composed_expression : (r s : Renumbering) (e : PlainExpression) → ren_expression r (ren_expression s e) ≡ ren_expression (λ i. r (s i)) e
   composed_expression r s (step ms x e) = binds ms (composed_neutral r s x) (composed_expression (lifted (length ms) r) (lifted (length ms) s) e ∙ ap (λ f. ren_expression f e) (lift_comp (length ms) r s))
   composed_expression r s (done t) = ap done (composed_tuple r s t)
 
-  pub composed_tuple : (r s : Renumbering) (t : Tuple) → ren_tuple r (ren_tuple s t) ≡ ren_tuple (λ i. r (s i)) t
+  pub composed_tuple : (r s : Renumbering) (t : PlainTuple) → ren_tuple r (ren_tuple s t) ≡ ren_tuple (λ i. r (s i)) t
   composed_tuple r s empty = refl
   composed_tuple r s (entry m o t) = entries m (composed r s o) (composed_tuple r s t)
 
 mutual
-  pub identity : (o : Object) → ren (λ i. i) o ≡ o
+  pub identity : (o : PlainObject) → ren (λ i. i) o ≡ o
   identity (lam m b) = ap (lam m) (ap (λ f. ren f b) (lift_id 1) ∙ identity b)
   identity (pair x y) = pairs (identity x) (identity y)
   identity unit = refl
@@ -62,18 +62,18 @@ mutual
   identity hole = refl
 
   pub identity_neutral : (n : PlainNeutral) → ren_neutral (λ i. i) n ≡ n
-  identity_neutral (bare (Const c)) = refl
-  identity_neutral (bare (Var i)) = refl
-  identity_neutral (bare (Meta m)) = refl
+  identity_neutral (head_alone (Const c)) = refl
+  identity_neutral (head_alone (Var i)) = refl
+  identity_neutral (head_alone (Meta m)) = refl
   identity_neutral (app m x o) = apps m (identity_neutral x) (identity o)
   identity_neutral (fst x) = ap fst (identity_neutral x)
   identity_neutral (snd x) = ap snd (identity_neutral x)
 
-  pub identity_expression : (e : Expression) → ren_expression (λ i. i) e ≡ e
+  pub identity_expression : (e : PlainExpression) → ren_expression (λ i. i) e ≡ e
   identity_expression (step ms x e) = binds ms (identity_neutral x) (ap (λ f. ren_expression f e) (lift_id (length ms)) ∙ identity_expression e)
   identity_expression (done t) = ap done (identity_tuple t)
 
-  pub identity_tuple : (t : Tuple) → ren_tuple (λ i. i) t ≡ t
+  pub identity_tuple : (t : PlainTuple) → ren_tuple (λ i. i) t ≡ t
   identity_tuple empty = refl
   identity_tuple (entry m o t) = entries m (identity o) (identity_tuple t)
 
@@ -81,14 +81,14 @@ mutual
 pub square_neutral : (r s t u : Renumbering) → ((i : ℕ) → r (s i) ≡ t (u i)) → (n : PlainNeutral) → ren_neutral r (ren_neutral s n) ≡ ren_neutral t (ren_neutral u n)
 square_neutral r s t u h n = composed_neutral r s n ∙ ap (λ f. ren_neutral f n) (ext h) ∙ sym (composed_neutral t u n)
 
-pub square_expression : (r s t u : Renumbering) → ((i : ℕ) → r (s i) ≡ t (u i)) → (e : Expression) → ren_expression r (ren_expression s e) ≡ ren_expression t (ren_expression u e)
+pub square_expression : (r s t u : Renumbering) → ((i : ℕ) → r (s i) ≡ t (u i)) → (e : PlainExpression) → ren_expression r (ren_expression s e) ≡ ren_expression t (ren_expression u e)
 square_expression r s t u h e = composed_expression r s e ∙ ap (λ f. ren_expression f e) (ext h) ∙ sym (composed_expression t u e)
 
 -- one renaming undoes another
 pub undone_neutral : (r s : Renumbering) → ((i : ℕ) → r (s i) ≡ i) → (n : PlainNeutral) → ren_neutral r (ren_neutral s n) ≡ n
 undone_neutral r s h n = composed_neutral r s n ∙ ap (λ f. ren_neutral f n) (ext h) ∙ identity_neutral n
 
-pub undone_expression : (r s : Renumbering) → ((i : ℕ) → r (s i) ≡ i) → (e : Expression) → ren_expression r (ren_expression s e) ≡ e
+pub undone_expression : (r s : Renumbering) → ((i : ℕ) → r (s i) ≡ i) → (e : PlainExpression) → ren_expression r (ren_expression s e) ≡ e
 undone_expression r s h e = composed_expression r s e ∙ ap (λ f. ren_expression f e) (ext h) ∙ identity_expression e
 
 pub lift_up : (n : ℕ) (r : Renumbering) (i : ℕ) → lifted n r (up n i) ≡ up n (r i)

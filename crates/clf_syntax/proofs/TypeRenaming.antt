@@ -2,8 +2,8 @@
 use Rattle.std.specs.Prelude.{◌≡◌, List, [], ◌∷◌, refl}
 use Rattle.std.proofs.Common.{ap, ◌∙◌}
 use Rattle.clf_syntax.specs.declared.tree.Mode.{Mode}
-use Rattle.clf_syntax.specs.Tree.{Object}
-use Rattle.clf_syntax.specs.TypeTree.{PlainType, family, function, both, top, monad, Telescope, end, binding}
+use Rattle.clf_syntax.specs.Tree.{PlainObject}
+use Rattle.clf_syntax.specs.TypeTree.{PlainType, family, function, both, top, monad, PlainTelescope, end, binding}
 use Rattle.clf_syntax.specs.Renaming.{Renumbering, lifted, ren_objects, ren_type, ren_telescope}
 use Rattle.clf_syntax.proofs.RenamingLaws.{composed, identity, lift_comp, lift_id}
 
@@ -16,10 +16,10 @@ functions m e f = cc
 pub boths : {a b c d : PlainType} → a ≡ b → c ≡ d → both a c ≡ both b d
 boths e f = cc
 
-pub bindings : (m : Mode) {a b : PlainType} {s t : Telescope} → a ≡ b → s ≡ t → binding m a s ≡ binding m b t
+pub bindings : (m : Mode) {a b : PlainType} {s t : PlainTelescope} → a ≡ b → s ≡ t → binding m a s ≡ binding m b t
 bindings m e f = cc
 
-pub composed_objects : (r s : Renumbering) (ns : List Object) → ren_objects r (ren_objects s ns) ≡ ren_objects (λ i. r (s i)) ns
+pub composed_objects : (r s : Renumbering) (ns : List PlainObject) → ren_objects r (ren_objects s ns) ≡ ren_objects (λ i. r (s i)) ns
 composed_objects r s [] = refl
 composed_objects r s (n ∷ ns) = conses (composed r s n) (composed_objects r s ns)
 
@@ -31,11 +31,11 @@ mutual
   composed_type r s top = refl
   composed_type r s (monad u) = ap monad (composed_telescope r s u)
 
-  pub composed_telescope : (r s : Renumbering) (u : Telescope) → ren_telescope r (ren_telescope s u) ≡ ren_telescope (λ i. r (s i)) u
+  pub composed_telescope : (r s : Renumbering) (u : PlainTelescope) → ren_telescope r (ren_telescope s u) ≡ ren_telescope (λ i. r (s i)) u
   composed_telescope r s end = refl
   composed_telescope r s (binding m a u) = bindings m (composed_type r s a) (composed_telescope (lifted 1 r) (lifted 1 s) u ∙ ap (λ f. ren_telescope f u) (lift_comp 1 r s))
 
-pub identity_objects : (ns : List Object) → ren_objects (λ i. i) ns ≡ ns
+pub identity_objects : (ns : List PlainObject) → ren_objects (λ i. i) ns ≡ ns
 identity_objects [] = refl
 identity_objects (n ∷ ns) = conses (identity n) (identity_objects ns)
 
@@ -47,6 +47,6 @@ mutual
   identity_type top = refl
   identity_type (monad u) = ap monad (identity_telescope u)
 
-  pub identity_telescope : (u : Telescope) → ren_telescope (λ i. i) u ≡ u
+  pub identity_telescope : (u : PlainTelescope) → ren_telescope (λ i. i) u ≡ u
   identity_telescope end = refl
   identity_telescope (binding m a u) = bindings m (identity_type a) (ap (λ f. ren_telescope f u) (lift_id 1) ∙ identity_telescope u)

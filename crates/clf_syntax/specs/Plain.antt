@@ -13,14 +13,14 @@ use Rattle.clf_syntax.specs.declared.tree.Elim.TheOpen as layer
 use Rattle.clf_syntax.specs.declared.tree.Elim.TheViews.{roll-Obj, roll-Elim}
 use denote.Hole.Carrier.{roll}
 use Rattle.clf_syntax.specs.declared.modes.Modes.{Modes}
-use Rattle.clf_syntax.specs.Tree.{Object, lam, pair, unit, monadic, atomic, hole, PlainNeutral, bare, app, fst, snd, Expression, step, done, Tuple, empty, entry, Elimination, arg, first, second, spine_on, steps_on, tuple_of}
+use Rattle.clf_syntax.specs.Tree.{PlainObject, lam, pair, unit, monadic, atomic, hole, PlainNeutral, head_alone, app, fst, snd, PlainExpression, step, done, PlainTuple, empty, entry, PlainElimination, arg, first, second, spine_on, steps_on, tuple_of}
 
-abbrev pub on_elim : layer.Elim-F Elimination Object Expression PlainNeutral (List Mode × PlainNeutral) (Mode × Object) → Elimination
+abbrev pub on_elim : layer.Elim-F PlainElimination PlainObject PlainExpression PlainNeutral (List Mode × PlainNeutral) (Mode × PlainObject) → PlainElimination
 on_elim (layer.Arg m o) = arg m o
 on_elim layer.First = first
 on_elim layer.Second = second
 
-abbrev pub on_obj : layer.Obj-F Elimination Object Expression PlainNeutral (List Mode × PlainNeutral) (Mode × Object) → Object
+abbrev pub on_obj : layer.Obj-F PlainElimination PlainObject PlainExpression PlainNeutral (List Mode × PlainNeutral) (Mode × PlainObject) → PlainObject
 on_obj (layer.Lam m b) = lam m b
 on_obj (layer.Pair l r) = pair l r
 on_obj layer.Unit = unit
@@ -28,35 +28,35 @@ on_obj (layer.Mon e) = monadic e
 on_obj (layer.At n) = atomic n
 on_obj layer.Hole = hole
 
-abbrev pub on_expr : layer.Expr-F Elimination Object Expression PlainNeutral (List Mode × PlainNeutral) (Mode × Object) → Expression
+abbrev pub on_expr : layer.Expr-F PlainElimination PlainObject PlainExpression PlainNeutral (List Mode × PlainNeutral) (Mode × PlainObject) → PlainExpression
 on_expr e = steps_on e.steps (done (tuple_of e.result))
 
-abbrev pub on_neutral : layer.Neutral-F Elimination Object Expression PlainNeutral (List Mode × PlainNeutral) (Mode × Object) → PlainNeutral
-on_neutral n = spine_on n.spine (bare n.head)
+abbrev pub on_neutral : layer.Neutral-F PlainElimination PlainObject PlainExpression PlainNeutral (List Mode × PlainNeutral) (Mode × PlainObject) → PlainNeutral
+on_neutral n = spine_on n.spine (head_alone n.head)
 
-abbrev pub on_step : layer.Step-F Elimination Object Expression PlainNeutral (List Mode × PlainNeutral) (Mode × Object) → List Mode × PlainNeutral
+abbrev pub on_step : layer.Step-F PlainElimination PlainObject PlainExpression PlainNeutral (List Mode × PlainNeutral) (Mode × PlainObject) → List Mode × PlainNeutral
 on_step s = (s.modes, s.rhs)
 
-abbrev pub on_entry : layer.TupleEntry-F Elimination Object Expression PlainNeutral (List Mode × PlainNeutral) (Mode × Object) → Mode × Object
+abbrev pub on_entry : layer.TupleEntry-F PlainElimination PlainObject PlainExpression PlainNeutral (List Mode × PlainNeutral) (Mode × PlainObject) → Mode × PlainObject
 on_entry t = (t.mode, t.obj)
 
-unfoldable pub plain_obj : Obj → Object
-plain_obj = fold-Obj Elimination Object Expression PlainNeutral (List Mode × PlainNeutral) (Mode × Object) on_elim on_obj on_expr on_neutral on_step on_entry
+unfoldable pub plain_obj : Obj → PlainObject
+plain_obj = fold-Obj PlainElimination PlainObject PlainExpression PlainNeutral (List Mode × PlainNeutral) (Mode × PlainObject) on_elim on_obj on_expr on_neutral on_step on_entry
 
-unfoldable pub plain_elim : Elim → Elimination
-plain_elim = fold-Elim Elimination Object Expression PlainNeutral (List Mode × PlainNeutral) (Mode × Object) on_elim on_obj on_expr on_neutral on_step on_entry
+unfoldable pub plain_elim : Elim → PlainElimination
+plain_elim = fold-Elim PlainElimination PlainObject PlainExpression PlainNeutral (List Mode × PlainNeutral) (Mode × PlainObject) on_elim on_obj on_expr on_neutral on_step on_entry
 
-unfoldable pub plain_expr : Expr → Expression
-plain_expr = fold-Expr Elimination Object Expression PlainNeutral (List Mode × PlainNeutral) (Mode × Object) on_elim on_obj on_expr on_neutral on_step on_entry
+unfoldable pub plain_expr : Expr → PlainExpression
+plain_expr = fold-Expr PlainElimination PlainObject PlainExpression PlainNeutral (List Mode × PlainNeutral) (Mode × PlainObject) on_elim on_obj on_expr on_neutral on_step on_entry
 
 unfoldable pub plain_neutral : Neutral → PlainNeutral
-plain_neutral = fold-Neutral Elimination Object Expression PlainNeutral (List Mode × PlainNeutral) (Mode × Object) on_elim on_obj on_expr on_neutral on_step on_entry
+plain_neutral = fold-Neutral PlainElimination PlainObject PlainExpression PlainNeutral (List Mode × PlainNeutral) (Mode × PlainObject) on_elim on_obj on_expr on_neutral on_step on_entry
 
 unfoldable pub plain_step : Step → List Mode × PlainNeutral
-plain_step = fold-Step Elimination Object Expression PlainNeutral (List Mode × PlainNeutral) (Mode × Object) on_elim on_obj on_expr on_neutral on_step on_entry
+plain_step = fold-Step PlainElimination PlainObject PlainExpression PlainNeutral (List Mode × PlainNeutral) (Mode × PlainObject) on_elim on_obj on_expr on_neutral on_step on_entry
 
-unfoldable pub plain_entry : TupleEntry → Mode × Object
-plain_entry = fold-TupleEntry Elimination Object Expression PlainNeutral (List Mode × PlainNeutral) (Mode × Object) on_elim on_obj on_expr on_neutral on_step on_entry
+unfoldable pub plain_entry : TupleEntry → Mode × PlainObject
+plain_entry = fold-TupleEntry PlainElimination PlainObject PlainExpression PlainNeutral (List Mode × PlainNeutral) (Mode × PlainObject) on_elim on_obj on_expr on_neutral on_step on_entry
 
 pub plain-Lam : (m : Mode) (b : Obj) → plain_obj (Lam m b) ≡ lam m (plain_obj b)
 unfolding plain_obj plain_elim plain_expr plain_neutral plain_step plain_entry roll-Obj roll-Elim roll
@@ -94,7 +94,7 @@ pub plain-Second : plain_elim Second ≡ second
 unfolding plain_obj plain_elim plain_expr plain_neutral plain_step plain_entry roll-Obj roll-Elim roll
 plain-Second = (fold-roll-Elim _ _ _ _ _ _ on_elim on_obj on_expr on_neutral on_step on_entry layer.Second)
 
-pub plain-neutral : (n : Neutral) → plain_neutral n ≡ spine_on (map plain_elim n.spine) (bare n.head)
+pub plain-neutral : (n : Neutral) → plain_neutral n ≡ spine_on (map plain_elim n.spine) (head_alone n.head)
 unfolding plain_obj plain_elim plain_expr plain_neutral plain_step plain_entry roll-Obj roll-Elim roll
 plain-neutral n = fold_out-Neutral _ _ _ _ _ _ on_elim on_obj on_expr on_neutral on_step on_entry n
 
@@ -121,9 +121,9 @@ pub plain-step-rhs : (s : Step) → (plain_step s).1 ≡ plain_neutral (out-Step
 plain-step-rhs s = ap (λ (p : List Mode × PlainNeutral). p.1) (plain-step s)
 
 pub plain-entry-mode : (t : TupleEntry) → (plain_entry t).0 ≡ t.mode
-plain-entry-mode t = ap (λ (p : Mode × Object). p.0) (plain-entry t)
+plain-entry-mode t = ap (λ (p : Mode × PlainObject). p.0) (plain-entry t)
 
 pub plain-entry-obj : (t : TupleEntry) → (plain_entry t).1 ≡ plain_obj t.obj
-plain-entry-obj t = ap (λ (p : Mode × Object). p.1) (plain-entry t)
+plain-entry-obj t = ap (λ (p : Mode × PlainObject). p.1) (plain-entry t)
 
 pub ruleset plain_laws = (plain-Lam, plain-Pair, plain-Unit, plain-Mon, plain-At, plain-Hole, plain-Arg, plain-First, plain-Second, plain-neutral, plain-expr, plain-Expr, plain-step, plain-entry, plain-step-modes, plain-step-rhs, plain-entry-mode, plain-entry-obj)

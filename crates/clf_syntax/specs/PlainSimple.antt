@@ -6,17 +6,17 @@ use Rattle.clf_syntax.specs.declared.tree.SimpleEntry.{SimpleEntry, fold-SimpleE
 use Rattle.clf_syntax.specs.declared.tree.Simple.TheOpen as layer
 use Rattle.clf_syntax.specs.declared.tree.Simple.TheViews.{roll-Simple}
 use denote.Hole.Carrier.{roll}
-use Rattle.clf_syntax.specs.TypeTree.{SimpleType, base, arrow, product, one, lax, SimpleTelescope, last, later}
+use Rattle.clf_syntax.specs.TypeTree.{SimpleType, base, arrow, simple_with, simple_top, lax, SimpleTelescope, simple_end, simple_binding}
 
 abbrev pub simple_telescope_of : List (Mode × SimpleType) → SimpleTelescope
-simple_telescope_of [] = last
-simple_telescope_of (e ∷ es) = later e.0 e.1 (simple_telescope_of es)
+simple_telescope_of [] = simple_end
+simple_telescope_of (e ∷ es) = simple_binding e.0 e.1 (simple_telescope_of es)
 
 abbrev pub on_simple : layer.Simple-F SimpleType (Mode × SimpleType) → SimpleType
 on_simple (layer.Atom f) = base f
 on_simple (layer.Fun m d c) = arrow m d c
-on_simple (layer.With c d) = product c d
-on_simple layer.Top = one
+on_simple (layer.With c d) = simple_with c d
+on_simple layer.Top = simple_top
 on_simple (layer.Monad es) = lax (simple_telescope_of es)
 
 abbrev pub on_simple_entry : layer.SimpleEntry-F SimpleType (Mode × SimpleType) → Mode × SimpleType
@@ -36,11 +36,11 @@ pub plain-SimpleFun : (m : Mode) (d c : Simple) → plain_simple (Fun m d c) ≡
 unfolding plain_simple plain_simple_entry roll-Simple roll
 plain-SimpleFun m d c = fold-roll-Simple _ _ on_simple on_simple_entry (layer.Fun m d c)
 
-pub plain-SimpleWith : (c d : Simple) → plain_simple (With c d) ≡ product (plain_simple c) (plain_simple d)
+pub plain-SimpleWith : (c d : Simple) → plain_simple (With c d) ≡ simple_with (plain_simple c) (plain_simple d)
 unfolding plain_simple plain_simple_entry roll-Simple roll
 plain-SimpleWith c d = fold-roll-Simple _ _ on_simple on_simple_entry (layer.With c d)
 
-pub plain-SimpleTop : plain_simple Top ≡ one
+pub plain-SimpleTop : plain_simple Top ≡ simple_top
 unfolding plain_simple plain_simple_entry roll-Simple roll
 plain-SimpleTop = fold-roll-Simple _ _ on_simple on_simple_entry layer.Top
 

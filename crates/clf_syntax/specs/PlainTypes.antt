@@ -10,30 +10,30 @@ use Rattle.clf_syntax.specs.declared.tree.Kind.{Kind}
 use Rattle.clf_syntax.specs.declared.tree.Ty.TheOpen as layer
 use Rattle.clf_syntax.specs.declared.tree.Ty.TheViews.{roll-Ty}
 use denote.Hole.Carrier.{roll}
-use Rattle.clf_syntax.specs.TypeTree.{PlainType, family, function, both, top, monad, Telescope, telescope_of, PlainKind}
+use Rattle.clf_syntax.specs.TypeTree.{PlainType, family, function, both, top, monad, PlainTelescope, telescope_of, PlainKind}
 use Rattle.clf_syntax.specs.Plain.{plain_obj}
 
-abbrev pub on_ty : layer.Ty-F PlainType Telescope (Mode × PlainType) → PlainType
+abbrev pub on_ty : layer.Ty-F PlainType PlainTelescope (Mode × PlainType) → PlainType
 on_ty (layer.Fam f ns) = family f (map plain_obj ns)
 on_ty (layer.Fun m a b) = function m a b
 on_ty (layer.With a b) = both a b
 on_ty layer.Top = top
 on_ty (layer.Monad s) = monad s
 
-abbrev pub on_tele : layer.Tele-F PlainType Telescope (Mode × PlainType) → Telescope
+abbrev pub on_tele : layer.Tele-F PlainType PlainTelescope (Mode × PlainType) → PlainTelescope
 on_tele t = telescope_of t.entries
 
-abbrev pub on_tele_entry : layer.TeleEntry-F PlainType Telescope (Mode × PlainType) → Mode × PlainType
+abbrev pub on_tele_entry : layer.TeleEntry-F PlainType PlainTelescope (Mode × PlainType) → Mode × PlainType
 on_tele_entry e = (e.mode, e.ty)
 
 unfoldable pub plain_ty : Ty → PlainType
-plain_ty = fold-Ty PlainType Telescope (Mode × PlainType) on_ty on_tele on_tele_entry
+plain_ty = fold-Ty PlainType PlainTelescope (Mode × PlainType) on_ty on_tele on_tele_entry
 
-unfoldable pub plain_tele : Tele → Telescope
-plain_tele = fold-Tele PlainType Telescope (Mode × PlainType) on_ty on_tele on_tele_entry
+unfoldable pub plain_tele : Tele → PlainTelescope
+plain_tele = fold-Tele PlainType PlainTelescope (Mode × PlainType) on_ty on_tele on_tele_entry
 
 unfoldable pub plain_tele_entry : TeleEntry → Mode × PlainType
-plain_tele_entry = fold-TeleEntry PlainType Telescope (Mode × PlainType) on_ty on_tele on_tele_entry
+plain_tele_entry = fold-TeleEntry PlainType PlainTelescope (Mode × PlainType) on_ty on_tele on_tele_entry
 
 abbrev pub plain_kind : Kind → PlainKind
 plain_kind k = map plain_ty k.args

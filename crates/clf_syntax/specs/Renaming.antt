@@ -3,8 +3,8 @@ use Rattle.std.specs.Prelude.{ℕ, ◌+◌, ◌-◌, nat_lt, nat_le, if◌then�
 use Rattle.std.specs.List.{slice_get}
 use Rattle.clf_syntax.specs.declared.tree.Head.{Head}
 use Rattle.clf_syntax.specs.declared.tree.Head.TheVariants.{Const, Var, Meta}
-use Rattle.clf_syntax.specs.Tree.{Object, lam, pair, unit, monadic, atomic, hole, PlainNeutral, bare, app, fst, snd, Expression, step, done, Tuple, empty, entry}
-use Rattle.clf_syntax.specs.TypeTree.{PlainType, family, function, both, top, monad, Telescope, end, binding, PlainKind}
+use Rattle.clf_syntax.specs.Tree.{PlainObject, lam, pair, unit, monadic, atomic, hole, PlainNeutral, head_alone, app, fst, snd, PlainExpression, step, done, PlainTuple, empty, entry}
+use Rattle.clf_syntax.specs.TypeTree.{PlainType, family, function, both, top, monad, PlainTelescope, end, binding, PlainKind}
 
 -- what becomes of each variable's number
 abbrev pub Renumbering : Type 0
@@ -20,7 +20,7 @@ ren_head r (Var i) = Var (r i)
 ren_head r (Meta m) = Meta m
 
 abbrev mutual
-  pub ren : Renumbering → Object → Object
+  pub ren : Renumbering → PlainObject → PlainObject
   ren r (lam m b) = lam m (ren (lifted 1 r) b)
   ren r (pair x y) = pair (ren r x) (ren r y)
   ren r unit = unit
@@ -29,20 +29,20 @@ abbrev mutual
   ren r hole = hole
 
   pub ren_neutral : Renumbering → PlainNeutral → PlainNeutral
-  ren_neutral r (bare h) = bare (ren_head r h)
+  ren_neutral r (head_alone h) = head_alone (ren_head r h)
   ren_neutral r (app m x n) = app m (ren_neutral r x) (ren r n)
   ren_neutral r (fst x) = fst (ren_neutral r x)
   ren_neutral r (snd x) = snd (ren_neutral r x)
 
-  pub ren_expression : Renumbering → Expression → Expression
+  pub ren_expression : Renumbering → PlainExpression → PlainExpression
   ren_expression r (step ms x e) = step ms (ren_neutral r x) (ren_expression (lifted (length ms) r) e)
   ren_expression r (done t) = done (ren_tuple r t)
 
-  pub ren_tuple : Renumbering → Tuple → Tuple
+  pub ren_tuple : Renumbering → PlainTuple → PlainTuple
   ren_tuple r empty = empty
   ren_tuple r (entry m n t) = entry m (ren r n) (ren_tuple r t)
 
-abbrev pub ren_objects : Renumbering → List Object → List Object
+abbrev pub ren_objects : Renumbering → List PlainObject → List PlainObject
 ren_objects r ns = map (ren r) ns
 
 abbrev mutual
@@ -53,7 +53,7 @@ abbrev mutual
   ren_type r top = top
   ren_type r (monad s) = monad (ren_telescope r s)
 
-  pub ren_telescope : Renumbering → Telescope → Telescope
+  pub ren_telescope : Renumbering → PlainTelescope → PlainTelescope
   ren_telescope r end = end
   ren_telescope r (binding m a s) = binding m (ren_type r a) (ren_telescope (lifted 1 r) s)
 

@@ -4,8 +4,8 @@ use Rattle.std.proofs.Common.{ap, sym, subst, ◌∙◌, arith, inl, inr, ⊎_el
 use Rattle.clf_syntax.specs.declared.tree.Mode.{Mode}
 use Rattle.clf_syntax.specs.declared.tree.Head.{Head}
 use Rattle.clf_syntax.specs.declared.tree.Head.TheVariants.{Const, Var, Meta}
-use Rattle.clf_syntax.specs.Tree.{Object, lam, pair, unit, monadic, atomic, PlainNeutral, bare, app, fst, snd, Expression, step, done, Tuple, empty, entry, head_of}
-use Rattle.clf_syntax.specs.TypeTree.{SimpleType, arrow, product, lax, SimpleTelescope, last, later}
+use Rattle.clf_syntax.specs.Tree.{PlainObject, lam, pair, unit, monadic, atomic, PlainNeutral, head_alone, app, fst, snd, PlainExpression, step, done, PlainTuple, empty, entry, head_of}
+use Rattle.clf_syntax.specs.TypeTree.{SimpleType, arrow, simple_with, lax, SimpleTelescope, simple_end, simple_binding}
 use Rattle.clf_syntax.specs.Simple.{Assignment, extended, extended_by, simple_modes}
 use Rattle.clf_syntax.specs.Renaming.{Renumbering, lifted, ren_head, ren, ren_expression, up}
 use Rattle.clf_syntax.proofs.RenamingLaws.{cut}
@@ -23,14 +23,14 @@ the_type e = cc
 
 -- a head is kept at its type, or an object of its type is put, of at most the rank
 abbrev pub Suits : Bool → ℕ → Assignment → Option SimpleType → Head → Image → Type 0
-Suits w k z t h i = ((j : Head) × (i ≡ keep j) × (z j ≡ t) × (is_metavariable j ≡ is_metavariable h)) ⊎ ((n : Object) × (u : SimpleType) × (i ≡ put n) × (t ≡ Some u) × Typed w z n u × (rank u ≤ k))
+Suits w k z t h i = ((j : Head) × (i ≡ keep j) × (z j ≡ t) × (is_metavariable j ≡ is_metavariable h)) ⊎ ((n : PlainObject) × (u : SimpleType) × (i ≡ put n) × (t ≡ Some u) × Typed w z n u × (rank u ≤ k))
 
 abbrev pub TypedEnvironment : Bool → ℕ → Assignment → Assignment → Environment → Type 0
 TypedEnvironment w k g z s = (h : Head) → Suits w k z (g h) h (s h)
 
 abbrev pub IsTotal : Bool → ℕ → Type 0
 IsTotal w k = (g z : Assignment) (s : Environment) → TypedEnvironment w k g z s
-    → ((o : Object) (t : SimpleType) → Typed w g o t → (x : Object) × Substituted s o x × Typed w z x t) × ((e : Expression) (ts : SimpleTelescope) → TypedExpression w g e ts → (x : Expression) × SubstitutedExpression s e x × TypedExpression w z x ts)
+    → ((o : PlainObject) (t : SimpleType) → Typed w g o t → (x : PlainObject) × Substituted s o x × Typed w z x t) × ((e : PlainExpression) (ts : SimpleTelescope) → TypedExpression w g e ts → (x : PlainExpression) × SubstitutedExpression s e x × TypedExpression w z x ts)
 
 pub raised_types : (d : SimpleType) (z : Assignment) (h : Head) → extended d z (ren_head (up 1) h) ≡ z h
 raised_types d z (Const c) = refl
@@ -54,25 +54,25 @@ env_bound w k d g z s f (Var zero) = inl (Var 0, under_in 1 s 0 (omega arith), r
 env_bound w k d g z s f (Var (suc i)) = subst (Suits w k (extended d z) (g (Var i)) (Var i)) (sym (under_next s i)) (raised_suits w k d z (g (Var i)) (Var i) (s (Var i)) (f (Var i)))
 
 pub env_bounds : (w : Bool) (k : ℕ) (ts : SimpleTelescope) (g z : Assignment) (s : Environment) → TypedEnvironment w k g z s → TypedEnvironment w k (extended_by ts g) (extended_by ts z) (under (length (simple_modes ts)) s)
-env_bounds w k last g z s f = subst (TypedEnvironment w k g z) (sym (under_zero s)) f
-env_bounds w k (later m t ts) g z s f = subst (TypedEnvironment w k (extended_by ts (extended t g)) (extended_by ts (extended t z))) (under_under (length (simple_modes ts)) s) (env_bounds w k ts (extended t g) (extended t z) (under 1 s) (env_bound w k t g z s f))
+env_bounds w k simple_end g z s f = subst (TypedEnvironment w k g z) (sym (under_zero s)) f
+env_bounds w k (simple_binding m t ts) g z s f = subst (TypedEnvironment w k (extended_by ts (extended t g)) (extended_by ts (extended t z))) (under_under (length (simple_modes ts)) s) (env_bounds w k ts (extended t g) (extended t z) (under 1 s) (env_bound w k t g z s f))
 
-pub single_env : (w : Bool) (d : SimpleType) (z : Assignment) (y : Object) → Typed w z y d → TypedEnvironment w (rank d) (extended d z) z (single y 0)
+pub single_env : (w : Bool) (d : SimpleType) (z : Assignment) (y : PlainObject) → Typed w z y d → TypedEnvironment w (rank d) (extended d z) z (single y 0)
 single_env w d z y p (Const c) = inl (Const c, refl, refl, refl)
 single_env w d z y p (Meta m) = inl (Meta m, refl, refl, refl)
 single_env w d z y p (Var zero) = inr (y, d, refl, refl, p, omega arith)
 single_env w d z y p (Var (suc i)) = inl (Var i, ap (λ j. single y 0 (Var j)) (sym (add-one i)) ∙ single_out y i, refl, refl)
 
 -- a typed tuple, put for the newest variables
-pub tuple_env : (w : Bool) {g : Assignment} {t : Tuple} {ts : SimpleTelescope} → TypedTuple w g t ts → (z : Assignment) (i : ℕ) → i < length (simple_modes ts)
-    → (n : Object) × (u : SimpleType) × (among (objects t) i ≡ put n) × (extended_by ts z (Var i) ≡ Some u) × Typed w g n u × (rank u ≤ ranks ts)
+pub tuple_env : (w : Bool) {g : Assignment} {t : PlainTuple} {ts : SimpleTelescope} → TypedTuple w g t ts → (z : Assignment) (i : ℕ) → i < length (simple_modes ts)
+    → (n : PlainObject) × (u : SimpleType) × (among (objects t) i ≡ put n) × (extended_by ts z (Var i) ≡ Some u) × Typed w g n u × (rank u ≤ ranks ts)
 tuple_env w typed_empty z i h = absurd (omega arith)
 tuple_env w {g = g} (typed_entry {o = o} {t = t} {d = d} {ts = ts} p q) z i h = ⊎_elim (λ k. old (tuple_env w q (extended d z) i k) k) new (cut i (length (simple_modes ts)))
   where
     Goal : ℕ → Type 0
-    Goal j = (n : Object) × (u : SimpleType) × (among (objects t ++ o ∷ []) j ≡ put n) × (extended_by ts (extended d z) (Var j) ≡ Some u) × Typed w g n u × (rank u ≤ rank d + ranks ts)
+    Goal j = (n : PlainObject) × (u : SimpleType) × (among (objects t ++ o ∷ []) j ≡ put n) × (extended_by ts (extended d z) (Var j) ≡ Some u) × Typed w g n u × (rank u ≤ rank d + ranks ts)
 
-    old : (n : Object) × (u : SimpleType) × (among (objects t) i ≡ put n) × (extended_by ts (extended d z) (Var i) ≡ Some u) × Typed w g n u × (rank u ≤ ranks ts) → i < length (simple_modes ts) → Goal i
+    old : (n : PlainObject) × (u : SimpleType) × (among (objects t) i ≡ put n) × (extended_by ts (extended d z) (Var i) ≡ Some u) × Typed w g n u × (rank u ≤ ranks ts) → i < length (simple_modes ts) → Goal i
     old a k = (a.0, a.1, among_first (objects t) (o ∷ []) i (long (tuple_length q) k) ∙ a.2, a.3, a.4, wider a.1 a.5)
       where
         long : length (objects t) ≡ length (simple_modes ts) → i < length (simple_modes ts) → i < length (objects t)
@@ -97,14 +97,14 @@ tuple_env w {g = g} (typed_entry {o = o} {t = t} {d = d} {ts = ts} p q) z i h = 
         same k = omega arith
 
 pub extended_constant : (ts : SimpleTelescope) (g : Assignment) (c : ℕ) → extended_by ts g (Const c) ≡ g (Const c)
-extended_constant last g c = refl
-extended_constant (later m t ts) g c = extended_constant ts (extended t g) c
+extended_constant simple_end g c = refl
+extended_constant (simple_binding m t ts) g c = extended_constant ts (extended t g) c
 
 pub extended_metavariable : (ts : SimpleTelescope) (g : Assignment) (c : ℕ) → extended_by ts g (Meta c) ≡ g (Meta c)
-extended_metavariable last g c = refl
-extended_metavariable (later m t ts) g c = extended_metavariable ts (extended t g) c
+extended_metavariable simple_end g c = refl
+extended_metavariable (simple_binding m t ts) g c = extended_metavariable ts (extended t g) c
 
-pub putting_env : (w : Bool) (ts : SimpleTelescope) (z : Assignment) (t : Tuple) → TypedTuple w z t ts → TypedEnvironment w (ranks ts) (extended_by ts z) z (putting (objects t))
+pub putting_env : (w : Bool) (ts : SimpleTelescope) (z : Assignment) (t : PlainTuple) → TypedTuple w z t ts → TypedEnvironment w (ranks ts) (extended_by ts z) z (putting (objects t))
 putting_env w ts z t p (Const c) = inl (Const c, refl, sym (extended_constant ts z c), refl)
 putting_env w ts z t p (Meta m) = inl (Meta m, refl, sym (extended_metavariable ts z m), refl)
 putting_env w ts z t p (Var i) = ⊎_elim (λ h. inr (tuple_env w p z i h)) (λ h. subst (λ j. Suits w (ranks ts) z (extended_by ts z (Var j)) (Var j) (among (objects t) j)) (back h) far) (cut i (length (simple_modes ts)))
@@ -129,7 +129,7 @@ kept_kind w k f (kept_bare {h = h} e) = ⊎_elim (λ a. first_case (sym e ∙ a.
         same : {i j : Head} → keep i ≡ keep j → i ≡ j
         same e = cc
 
-    second_case : {i : Head} {n : Object} → keep i ≡ put n → ⊥
+    second_case : {i : Head} {n : PlainObject} → keep i ≡ put n → ⊥
     second_case e = cc
 kept_kind w k f (kept_app p q) = kept_kind w k f p
 kept_kind w k f (kept_fst p) = kept_kind w k f p
@@ -142,7 +142,7 @@ meta_of (Meta m) e = (m, refl)
 
 module _ (w : Bool) (k : ℕ) (again : (j : ℕ) → j < k → IsTotal w j) where
   -- the steps of a typed expression, then the rest
-  pub then_total : {z : Assignment} {e : Expression} {ts : SimpleTelescope} → TypedExpression w z e ts → ranks ts < k → (f : Expression) (us : SimpleTelescope) → TypedExpression w (extended_by ts z) f us → (x : Expression) × Flattened (length (simple_modes ts)) e f x × TypedExpression w z x us
+  pub then_total : {z : Assignment} {e : PlainExpression} {ts : SimpleTelescope} → TypedExpression w z e ts → ranks ts < k → (f : PlainExpression) (us : SimpleTelescope) → TypedExpression w (extended_by ts z) f us → (x : PlainExpression) × Flattened (length (simple_modes ts)) e f x × TypedExpression w z x us
   then_total {z = z} {ts = ts} (typed_step {ms = ms} {r = r} {ts = ps} p m q) h f us t =
       let (x, a, b) = then_total q h (ren_expression (lifted (length (simple_modes ts)) (up (length ms))) f) us
       (renamed_typed_expression (extended_by ts (extended_by ps z)) (lifted (length (simple_modes ts)) (up (length ms))) t
@@ -153,23 +153,23 @@ module _ (w : Bool) (k : ℕ) (again : (j : ℕ) → j < k → IsTotal w j) wher
       (x, flat_done (tuple_length p) a, b)
 
   -- what the value of a neutral at a monad does
-  step_total : (s : Environment) {z : Assignment} {o : Object} {ts : SimpleTelescope} → Typed w z o (lax ts) → ranks ts < k → (ms : List Mode) → ms ≡ simple_modes ts → (n : PlainNeutral) → HasValue s n o → (e f : Expression) (us : SimpleTelescope)
-      → SubstitutedExpression (under (length ms) s) e f → TypedExpression w (extended_by ts z) f us → (x : Expression) × SubstitutedExpression s (step ms n e) x × TypedExpression w z x us
+  step_total : (s : Environment) {z : Assignment} {o : PlainObject} {ts : SimpleTelescope} → Typed w z o (lax ts) → ranks ts < k → (ms : List Mode) → ms ≡ simple_modes ts → (n : PlainNeutral) → HasValue s n o → (e f : PlainExpression) (us : SimpleTelescope)
+      → SubstitutedExpression (under (length ms) s) e f → TypedExpression w (extended_by ts z) f us → (x : PlainExpression) × SubstitutedExpression s (step ms n e) x × TypedExpression w z x us
   step_total s {z = z} {ts = ts} (typed_monadic {e = g} p) h ms m n v e f us b t = let (x, a, c) = then_total p h f us t in
       (x, step_value v b (subst (λ i. Flattened i g f x) (sym (ap length m)) a), c)
   step_total s (typed_metavariable {n = q} j p i) h ms m n v e f us b t = (step ms q f, step_meta v i b, typed_step p m t)
 
-  applied : (s : Environment) (z : Assignment) {n : PlainNeutral} {m : Mode} {d c : SimpleType} {i : Object} (x : Object) → HasValue s n x → Typed w z x (arrow m d c) → rank (arrow m d c) ≤ k → (y : Object) → Substituted s i y → Typed w z y d
-      → (v : Object) × HasValue s (app m n i) v × Typed w z v c × (rank c ≤ k)
+  applied : (s : Environment) (z : Assignment) {n : PlainNeutral} {m : Mode} {d c : SimpleType} {i : PlainObject} (x : PlainObject) → HasValue s n x → Typed w z x (arrow m d c) → rank (arrow m d c) ≤ k → (y : PlainObject) → Substituted s i y → Typed w z y d
+      → (v : PlainObject) × HasValue s (app m n i) v × Typed w z v c × (rank c ≤ k)
   applied s z {d = d} {c = c} x v (typed_lam {b = b} p) h y a q = let (r, e, t) = (again (rank d) (omega arith) (extended d z) z (single y 0) (single_env w d z y q)).0 b c p in
       (r, value_app v a e, t, omega arith)
 
-  pub parts : (s : Environment) (z : Assignment) {n : PlainNeutral} {c d : SimpleType} (x : Object) → HasValue s n x → Typed w z x (product c d) → rank (product c d) ≤ k
-      → ((v : Object) × HasValue s (fst n) v × Typed w z v c × (rank c ≤ k)) × ((v : Object) × HasValue s (snd n) v × Typed w z v d × (rank d ≤ k))
+  pub parts : (s : Environment) (z : Assignment) {n : PlainNeutral} {c d : SimpleType} (x : PlainObject) → HasValue s n x → Typed w z x (simple_with c d) → rank (simple_with c d) ≤ k
+      → ((v : PlainObject) × HasValue s (fst n) v × Typed w z v c × (rank c ≤ k)) × ((v : PlainObject) × HasValue s (snd n) v × Typed w z v d × (rank d ≤ k))
   parts s z x v (typed_pair {l = l} {r = r} p q) h = ((l, value_fst v, p, omega arith), (r, value_snd v, q, omega arith))
 
   mutual
-    total : (z : Assignment) (s : Environment) {g : Assignment} {o : Object} {t : SimpleType} → Typed w g o t → TypedEnvironment w k g z s → (x : Object) × Substituted s o x × Typed w z x t
+    total : (z : Assignment) (s : Environment) {g : Assignment} {o : PlainObject} {t : SimpleType} → Typed w g o t → TypedEnvironment w k g z s → (x : PlainObject) × Substituted s o x × Typed w z x t
     total z s (typed_lam {g = g} {m = m} {d = d} p) f = let (x, a, b) = total (extended d z) (under 1 s) p (env_bound w k d g z s f) in (lam m x, through_lam a, typed_lam b)
     total z s (typed_pair p q) f = let (x, a, b) = total z s p f in let (y, c, d) = total z s q f in (pair x y, through_pair a c, typed_pair b d)
     total z s typed_unit f = (unit, through_unit, typed_unit)
@@ -179,15 +179,15 @@ module _ (w : Bool) (k : ℕ) (again : (j : ℕ) → j < k → IsTotal w j) wher
         (λ u. let (m, i) = meta_of (head_of u.0) (kept_kind w k f u.1 ∙ ap is_metavariable e) in (atomic u.0, through_kept u.1, typed_metavariable j u.2 i))
         (λ u. (u.0, through_value u.1, u.2)) (total_neutral z s p f)
 
-    pub total_neutral : (z : Assignment) (s : Environment) {g : Assignment} {n : PlainNeutral} {t : SimpleType} → TypedNeutral w g n t → TypedEnvironment w k g z s → ((x : PlainNeutral) × KeepsHead s n x × TypedNeutral w z x t) ⊎ ((x : Object) × HasValue s n x × Typed w z x t × (rank t ≤ k))
-    total_neutral z s (typed_bare {h = h} {t = t} e) f = ⊎_elim (λ u. inl (bare u.0, kept_bare u.1, typed_bare u.2))
+    pub total_neutral : (z : Assignment) (s : Environment) {g : Assignment} {n : PlainNeutral} {t : SimpleType} → TypedNeutral w g n t → TypedEnvironment w k g z s → ((x : PlainNeutral) × KeepsHead s n x × TypedNeutral w z x t) ⊎ ((x : PlainObject) × HasValue s n x × Typed w z x t × (rank t ≤ k))
+    total_neutral z s (typed_bare {h = h} {t = t} e) f = ⊎_elim (λ u. inl (head_alone u.0, kept_bare u.1, typed_bare u.2))
         (λ u. inr (u.0, value_bare u.2, subst (λ v. Typed w z u.0 v) (sym (the_type u.3)) u.4, subst (λ v. rank v ≤ k) (sym (the_type u.3)) u.5))
         (subst (λ v. Suits w k z v h (s h)) e (f h))
     total_neutral z s (typed_app {m = m} {d = d} {c = c} p q) f = let (y, a, b) = total z s q f in ⊎_elim (λ u. inl (app m u.0 y, kept_app u.1 a, typed_app u.2 b)) (λ u. inr (applied s z u.0 u.1 u.2 u.3 y a b)) (total_neutral z s p f)
     total_neutral z s (typed_fst p) f = ⊎_elim (λ u. inl (fst u.0, kept_fst u.1, typed_fst u.2)) (λ u. inr ((parts s z u.0 u.1 u.2 u.3).0)) (total_neutral z s p f)
     total_neutral z s (typed_snd p) f = ⊎_elim (λ u. inl (snd u.0, kept_snd u.1, typed_snd u.2)) (λ u. inr ((parts s z u.0 u.1 u.2 u.3).1)) (total_neutral z s p f)
 
-    total_expression : (z : Assignment) (s : Environment) {g : Assignment} {e : Expression} {us : SimpleTelescope} → TypedExpression w g e us → TypedEnvironment w k g z s → (x : Expression) × SubstitutedExpression s e x × TypedExpression w z x us
+    total_expression : (z : Assignment) (s : Environment) {g : Assignment} {e : PlainExpression} {us : SimpleTelescope} → TypedExpression w g e us → TypedEnvironment w k g z s → (x : PlainExpression) × SubstitutedExpression s e x × TypedExpression w z x us
     total_expression z s {g = g} (typed_step {ms = ms} {r = n} {e = e} {ts = ts} {us = us} p m q) f =
         let (x, a, b) = total_expression (extended_by ts z) (under (length ms) s) q (subst (λ i. TypedEnvironment w k (extended_by ts g) (extended_by ts z) (under i s)) (sym (ap length m)) (env_bounds w k ts g z s f)) in
         ⊎_elim (λ u. (step ms u.0 x, step_kept u.1 a, typed_step u.2 m b)) (λ u. step_total s u.2 (within u.3) ms m n u.1 e x us a b) (total_neutral z s p f)
@@ -196,7 +196,7 @@ module _ (w : Bool) (k : ℕ) (again : (j : ℕ) → j < k → IsTotal w j) wher
         within h = omega arith
     total_expression z s (typed_done p) f = let (x, a, b) = total_tuple z s p f in (done x, through_done a, typed_done b)
 
-    total_tuple : (z : Assignment) (s : Environment) {g : Assignment} {t : Tuple} {ts : SimpleTelescope} → TypedTuple w g t ts → TypedEnvironment w k g z s → (x : Tuple) × SubstitutedTuple s t x × TypedTuple w z x ts
+    total_tuple : (z : Assignment) (s : Environment) {g : Assignment} {t : PlainTuple} {ts : SimpleTelescope} → TypedTuple w g t ts → TypedEnvironment w k g z s → (x : PlainTuple) × SubstitutedTuple s t x × TypedTuple w z x ts
     total_tuple z s typed_empty f = (empty, through_empty, typed_empty)
     total_tuple z s (typed_entry {m = m} p q) f = let (x, a, b) = total z s p f in let (y, c, d) = total_tuple z s q f in (entry m x y, through_entry a c, typed_entry b d)
 

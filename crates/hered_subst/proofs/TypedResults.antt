@@ -3,8 +3,8 @@ use Rattle.std.specs.Prelude.{ℕ, true, ◌+◌, ◌-◌, ◌≡◌, ◌<◌, �
 use Rattle.std.proofs.Common.{ap, sym, subst, ◌∙◌, arith, inl, inr, ⊎_elim}
 use Rattle.clf_syntax.specs.declared.tree.Mode.{Mode}
 use Rattle.clf_syntax.specs.declared.tree.Head.TheVariants.{Const, Var, Meta}
-use Rattle.clf_syntax.specs.Tree.{Object}
-use Rattle.clf_syntax.specs.TypeTree.{PlainType, family, function, both, top, monad, Telescope, end, binding, PlainKind, SimpleType, arrow, product, SimpleTelescope, lax, later}
+use Rattle.clf_syntax.specs.Tree.{PlainObject}
+use Rattle.clf_syntax.specs.TypeTree.{PlainType, family, function, both, top, monad, PlainTelescope, end, binding, PlainKind, SimpleType, arrow, simple_with, SimpleTelescope, lax, simple_binding}
 use Rattle.clf_syntax.specs.Simple.{erase, erase_telescope, Assignment, extended, SimplyTypedEach, Families, SimplyFormed, SimplyFormedTelescope, SimplyFormedKind}
 use Rattle.hered_subst.specs.Substitution.{Environment, under, single, SubstitutedEach, each_none, each_next, SubstitutedType, in_family, in_function, in_both, in_top, in_monad, SubstitutedTelescope, in_end, in_binding, SubstitutedKind, in_no_argument, in_argument}
 use Rattle.hered_subst.specs.Laws.{inserted, TypedHasResult}
@@ -15,15 +15,15 @@ use Rattle.hered_subst.proofs.Total.{TypedEnvironment, env_bound, all_total}
 arrows : (m : Mode) {a b c d : SimpleType} → a ≡ b → c ≡ d → arrow m a c ≡ arrow m b d
 arrows m e f = cc
 
-products : {a b c d : SimpleType} → a ≡ b → c ≡ d → product a c ≡ product b d
+products : {a b c d : SimpleType} → a ≡ b → c ≡ d → simple_with a c ≡ simple_with b d
 products e f = cc
 
-laters : (m : Mode) {a b : SimpleType} {c d : SimpleTelescope} → a ≡ b → c ≡ d → later m a c ≡ later m b d
+laters : (m : Mode) {a b : SimpleType} {c d : SimpleTelescope} → a ≡ b → c ≡ d → simple_binding m a c ≡ simple_binding m b d
 laters m e f = cc
 
 -- under any environment that keeps the simple types
 module _ (k : ℕ) (arguments : Families) where
-  total_each : (g z : Assignment) (s : Environment) → TypedEnvironment true k g z s → (ns : List Object) (ts : List SimpleType) → SimplyTypedEach g ns ts → (xs : List Object) × SubstitutedEach s ns xs × SimplyTypedEach z xs ts
+  total_each : (g z : Assignment) (s : Environment) → TypedEnvironment true k g z s → (ns : List PlainObject) (ts : List SimpleType) → SimplyTypedEach g ns ts → (xs : List PlainObject) × SubstitutedEach s ns xs × SimplyTypedEach z xs ts
   total_each g z s f [] [] p = ([], each_none, tt)
   total_each g z s f (n ∷ ns) (t ∷ ts) p = let (x, a, b) = (all_total true k g z s f).0 n t (to_typed g n t p.0) in let (xs, c, d) = total_each g z s f ns ts p.1 in (x ∷ xs, each_next a c, (of_typed b, d))
   total_each g z s f [] (t ∷ ts) p = absurd p
@@ -39,7 +39,7 @@ module _ (k : ℕ) (arguments : Families) where
     total_type g z s f top p = (top, in_top, tt, refl)
     total_type g z s f (monad u) p = let (x, c, d, e) = total_telescope g z s f u p in (monad x, in_monad c, d, ap lax e)
 
-    pub total_telescope : (g z : Assignment) (s : Environment) → TypedEnvironment true k g z s → (a : Telescope) → SimplyFormedTelescope arguments g a → (x : Telescope) × SubstitutedTelescope s a x × SimplyFormedTelescope arguments z x × (erase_telescope x ≡ erase_telescope a)
+    pub total_telescope : (g z : Assignment) (s : Environment) → TypedEnvironment true k g z s → (a : PlainTelescope) → SimplyFormedTelescope arguments g a → (x : PlainTelescope) × SubstitutedTelescope s a x × SimplyFormedTelescope arguments z x × (erase_telescope x ≡ erase_telescope a)
     total_telescope g z s f end p = (end, in_end, tt, refl)
     total_telescope g z s f (binding m a b) p = let (x, c, d, e) = total_type g z s f a p.0 in
         let (y, h, i, j) = total_telescope (extended (erase a) g) (extended (erase a) z) (under 1 s) (env_bound true k (erase a) g z s f) b p.1 in
@@ -63,7 +63,7 @@ inserted_high k u z i h = grind arith
 cut3 : (k i : ℕ) → (i < k) ⊎ (i ≡ k) ⊎ (k < i)
 cut3 k i = grind arith
 
-single_typed : (z : Assignment) (k : ℕ) (n : Object) (u : SimpleType) → Typed true z n u → TypedEnvironment true (rank u) (inserted k u z) z (single n k)
+single_typed : (z : Assignment) (k : ℕ) (n : PlainObject) (u : SimpleType) → Typed true z n u → TypedEnvironment true (rank u) (inserted k u z) z (single n k)
 single_typed z k n u p (Const c) = inl (Const c, refl, refl, refl)
 single_typed z k n u p (Meta m) = inl (Meta m, refl, refl, refl)
 single_typed z k n u p (Var i) = ⊎_elim (λ h. inl (Var i, single_low n k i h, sym (inserted_low k u z i h), refl))

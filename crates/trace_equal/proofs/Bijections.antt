@@ -3,7 +3,7 @@ use Rattle.std.specs.Prelude.{ℕ, zero, suc, ◌+◌, ◌-◌, ◌≡◌, ◌�
 use Rattle.std.proofs.Common.{ap, sym, subst, ◌∙◌, arith, ⊎_elim, add-zero}
 use Rattle.clf_syntax.proofs.RenamingLaws.{composed_neutral, composed_tuple, cut, ext, identity_tuple, pairs}
 use Rattle.clf_syntax.specs.Renaming.{Renumbering, crossed, lifted, ren_expression, ren_neutral, ren_tuple, up}
-use Rattle.clf_syntax.specs.Tree.{Expression, PlainNeutral, Tuple, done, step}
+use Rattle.clf_syntax.specs.Tree.{PlainExpression, PlainNeutral, PlainTuple, done, step}
 use Rattle.clf_syntax.specs.declared.tree.Mode.{Mode}
 use Rattle.trace_equal.proofs.Closed.{alike_neutral, alike_tuple, carried, joined_neutral, joined_tuple, like_to_neutral, like_to_tuple, like_to_expression, alike_expression, joined_expression}
 use Rattle.trace_equal.proofs.Moves.{reflected, renamed_neutral, renamed_tuple, up_once}
@@ -122,27 +122,27 @@ map_length : {A B : Type 0} (f : A → B) (xs : List A) → length (map f xs) �
 map_length f [] = refl
 map_length f (x ∷ xs) = ap suc (map_length f xs)
 
-wide_length_ren : (r : Renumbering) (e : Expression) → length (wide_steps (ren_expression r e)) ≡ length (wide_steps e)
+wide_length_ren : (r : Renumbering) (e : PlainExpression) → length (wide_steps (ren_expression r e)) ≡ length (wide_steps e)
 wide_length_ren r (step ms n e) = ap suc (wide_length_ren (lifted (length ms) r) e)
 wide_length_ren r (done t) = refl
 
-place_bound : {q : List Mode} {v : PlainNeutral} {e f : Expression} (u : Pulled q v e f) → place u ≤ length (wide_steps e)
+place_bound : {q : List Mode} {v : PlainNeutral} {e f : PlainExpression} (u : Pulled q v e f) → place u ≤ length (wide_steps e)
 place_bound pulled_here = omega arith
 place_bound (pulled_later {p = p} {q = q} {e = e} {f = f} h k l u) = more (place_bound u) (ap (λ o. length (wide_steps o)) l ∙ wide_length_ren (crossed (length p) (length q)) e)
   where
     more : place u ≤ length (wide_steps e) → length (wide_steps f) ≡ length (wide_steps e) → suc (place u) ≤ suc (length (wide_steps f))
     more a b = omega arith
 
-wide_length : {q : List Mode} {v : PlainNeutral} {e f : Expression} (u : Pulled q v e f) → length (wide_steps f) ≡ suc (length (wide_steps e))
+wide_length : {q : List Mode} {v : PlainNeutral} {e f : PlainExpression} (u : Pulled q v e f) → length (wide_steps f) ≡ suc (length (wide_steps e))
 wide_length {q = q} {v = v} {e = e} {f = f} u = ap length (wide_pull u)
     ∙ insert_length (place u) (wide_step (map (there u) (map (up (size e)) (below (length q)))) q (ren_neutral (up (size f)) v)) (map (ren_wide_step (there u)) (wide_steps e))
     ∙ ap suc (map_length (ren_wide_step (there u)) (wide_steps e))
 
-bound : {q : List Mode} {v : PlainNeutral} {e f : Expression} (u : Pulled q v e f) → place u ≤ length (map (ren_wide_step (there u)) (wide_steps e))
+bound : {q : List Mode} {v : PlainNeutral} {e f : PlainExpression} (u : Pulled q v e f) → place u ≤ length (map (ren_wide_step (there u)) (wide_steps e))
 bound {e = e} u = subst (λ k. place u ≤ k) (sym (map_length (ren_wide_step (there u)) (wide_steps e))) (place_bound u)
 
 -- from cases to a bijection
-pub extended : {p : List Mode} (r : PlainNeutral) {v : PlainNeutral} (d : Expression) {e f : Expression} (u : Pulled p v e f) → JoinedNeutral r v → (m : List ℕ) → IsMatching m d e → IsMatching (place u ∷ map (past (place u)) m) (step p r d) f
+pub extended : {p : List Mode} (r : PlainNeutral) {v : PlainNeutral} (d : PlainExpression) {e f : PlainExpression} (u : Pulled p v e f) → JoinedNeutral r v → (m : List ℕ) → IsMatching m d e → IsMatching (place u ∷ map (past (place u)) m) (step p r d) f
 extended {p = p} r {v = v} d {e = e} {f = f} u n m (s, out, len, dis, pairs, tup) =
     (z, outside, sym (wide_length u ∙ ap suc (sym len)), (absent_past (place u) m, distinct_up (place u) m dis), subst (Paired (place u ∷ map (past (place u)) m) (map (ren_wide_step z) (wide_steps (step p r d)))) (sym (wide_pull u)) (first, others), last)
   where
@@ -176,13 +176,13 @@ extended {p = p} r {v = v} d {e = e} {f = f} u n m (s, out, len, dis, pairs, tup
         (subst (λ o. Paired m o (map (ren_wide_step (there u)) (wide_steps e))) (lines_comp (there u) s (wide_steps d)) (paired_renamed (there u) m (map (ren_wide_step s) (wide_steps d)) (wide_steps e) pairs))
 
     last : JoinedTuple (ren_tuple z (result_of d)) (result_of f)
-    last = subst (JoinedTuple (ren_tuple z (result_of d))) (sym (result_pull u)) (subst (λ (o : Tuple). JoinedTuple o (ren_tuple (there u) (result_of e))) (composed_tuple (there u) s (result_of d))
+    last = subst (JoinedTuple (ren_tuple z (result_of d))) (sym (result_pull u)) (subst (λ (o : PlainTuple). JoinedTuple o (ren_tuple (there u) (result_of e))) (composed_tuple (there u) s (result_of d))
         (carried (ren_tuple (there u)) (λ _ _ x. renamed_tuple (there u) x) tup))
 
-pub ret_matching : {t w : Tuple} → MatchesTuple t w → IsMatching [] (done t) (done w)
-ret_matching {t} {w} p = ((λ i. i), (λ i. refl), refl, tt, tt, subst (λ (o : Tuple). JoinedTuple o w) (sym (identity_tuple t)) (joined_tuple p))
+pub ret_matching : {t w : PlainTuple} → MatchesTuple t w → IsMatching [] (done t) (done w)
+ret_matching {t} {w} p = ((λ i. i), (λ i. refl), refl, tt, tt, subst (λ (o : PlainTuple). JoinedTuple o w) (sym (identity_tuple t)) (joined_tuple p))
 
-pub to_matching : {e f : Expression} → MatchesExpression e f → (m : List ℕ) × IsMatching m e f
+pub to_matching : {e f : PlainExpression} → MatchesExpression e f → (m : List ℕ) × IsMatching m e f
 to_matching (match_done p) = ([], ret_matching p)
 to_matching (match_step {r = r} {d = d} u n l) = let (m, g) = to_matching l in (place u ∷ map (past (place u)) m, extended r d u (joined_neutral n) m g)
 
@@ -191,8 +191,8 @@ pub reflected_chain : (n : ℕ) {c d : PlainNeutral} → JoinedNeutral c d → (
 reflected_chain n stop a e = (a, e, stop)
 reflected_chain n (next x p) a e = let (b, g, y) = reflected n e x in let (c, h, q) = reflected_chain n p b g in (c, h, next y q)
 
-pub pullable : (f : Expression) (i : ℕ) (us : List ℕ) (ms : List Mode) (n r : PlainNeutral) → n ≡ ren_neutral (up (size f)) r → AgreeAt i (wide_step us ms n) (wide_steps f)
-    → (q : List Mode) × (v : PlainNeutral) × (e : Expression) × (u : Pulled q v e f) × (ms ≡ q) × (place u ≡ i) × JoinedNeutral r v
+pub pullable : (f : PlainExpression) (i : ℕ) (us : List ℕ) (ms : List Mode) (n r : PlainNeutral) → n ≡ ren_neutral (up (size f)) r → AgreeAt i (wide_step us ms n) (wide_steps f)
+    → (q : List Mode) × (v : PlainNeutral) × (e : PlainExpression) × (u : Pulled q v e f) × (ms ≡ q) × (place u ≡ i) × JoinedNeutral r v
 pullable (done t) i us ms n r e a = absurd a
 pullable (step q o g) zero us ms n r e a =
     let (b, h, j) = reflected_chain (size g + length q) a.2 r e in
@@ -221,7 +221,7 @@ own_from f g a b (suc n) e c h = ⊎_elim (λ k. own_from f g a b n (tails e) c 
     same : n ≤ c → n ≡ c
     same k = omega arith
 
-pub rest_matching : {q : List Mode} {v : PlainNeutral} (p : List Mode) (r : PlainNeutral) (d : Expression) {e f : Expression} (u : Pulled q v e f) → p ≡ q → (m : List ℕ) → IsMatching (place u ∷ m) (step p r d) f → (l : List ℕ) × (m ≡ map (past (place u)) l) × IsMatching l d e
+pub rest_matching : {q : List Mode} {v : PlainNeutral} (p : List Mode) (r : PlainNeutral) (d : PlainExpression) {e f : PlainExpression} (u : Pulled q v e f) → p ≡ q → (m : List ℕ) → IsMatching (place u ∷ m) (step p r d) f → (l : List ℕ) × (m ≡ map (past (place u)) l) × IsMatching l d e
 rest_matching {q = q} {v = v} p r d {e = e} {f = f} u same m (s, out, len, dis, pairs, tup) =
     let (l, g, pl) = paired_down (place u) m (map (ren_wide_step s) (wide_steps d)) y ys (bound u) dis.0 all.1 in
     (l, g, (z, outside, count (len ∙ wide_length u), distinct_down (place u) l (subst Distinct g dis.1), again l pl, last))
@@ -273,10 +273,10 @@ rest_matching {q = q} {v = v} p r d {e = e} {f = f} u same m (s, out, len, dis, 
 
     last : JoinedTuple (ren_tuple z (result_of d)) (result_of e)
     last = subst (JoinedTuple (ren_tuple z (result_of d))) (ap (ren_tuple (back u)) (result_pull u) ∙ composed_tuple (back u) (there u) (result_of e) ∙ ap (λ g. ren_tuple g (result_of e)) (ext (back_there u)) ∙ identity_tuple (result_of e))
-        (subst (λ (o : Tuple). JoinedTuple o (ren_tuple (back u) (result_of f))) (composed_tuple (back u) s (result_of d)) (carried (ren_tuple (back u)) (λ _ _ x. renamed_tuple (back u) x) tup))
+        (subst (λ (o : PlainTuple). JoinedTuple o (ren_tuple (back u) (result_of f))) (composed_tuple (back u) s (result_of d)) (carried (ren_tuple (back u)) (λ _ _ x. renamed_tuple (back u) x) tup))
 
-pub from_matching : (e f : Expression) (m : List ℕ) → IsMatching m e f → MatchesExpression e f
-from_matching (done t) (done w) m (s, out, len, dis, pairs, tup) = match_done (like_to_tuple (alike_tuple t) (subst (λ (o : Tuple). JoinedTuple o w) (ap (λ g. ren_tuple g t) (ext (λ i. subst (λ j. s j ≡ j) (add-zero i) (out i))) ∙ identity_tuple t) tup))
+pub from_matching : (e f : PlainExpression) (m : List ℕ) → IsMatching m e f → MatchesExpression e f
+from_matching (done t) (done w) m (s, out, len, dis, pairs, tup) = match_done (like_to_tuple (alike_tuple t) (subst (λ (o : PlainTuple). JoinedTuple o w) (ap (λ g. ren_tuple g t) (ext (λ i. subst (λ j. s j ≡ j) (add-zero i) (out i))) ∙ identity_tuple t) tup))
 from_matching (done t) (step q o g) m (s, out, len, dis, pairs, tup) = absurd (no_place len)
   where
     no_place : 0 ≡ suc (length (wide_steps g)) → ⊥

@@ -3,7 +3,7 @@ use Rattle.std.specs.Prelude.{ℕ, Bool, true, false, zero, suc, ◌+◌, ◌≡
 use Rattle.std.proofs.Common.{Option, ap, sym, subst, ◌∙◌, arith, inl, inr, ⊎_elim}
 use Rattle.clf_syntax.proofs.RenamingLaws.{composed_neutral, ext, pairs}
 use Rattle.clf_syntax.specs.Renaming.{ren_neutral, up}
-use Rattle.clf_syntax.specs.Tree.{Expression, Object, PlainNeutral, Tuple, app, atomic, bare, done, empty, entry, fst, hole, lam, monadic, pair, snd, step, unit}
+use Rattle.clf_syntax.specs.Tree.{PlainExpression, PlainObject, PlainNeutral, PlainTuple, app, atomic, head_alone, done, empty, entry, fst, hole, lam, monadic, pair, snd, step, unit}
 use Rattle.clf_syntax.specs.declared.tree.Head.{Head}
 use Rattle.clf_syntax.specs.declared.tree.Head.TheVariants.{Const, Meta, Var}
 use Rattle.clf_syntax.specs.declared.tree.Mode.{Mode}
@@ -110,7 +110,7 @@ at_bound (suc i) x (y ∷ ys) a = up (at_bound i x ys a)
     up : {a b : ℕ} → a < b → suc a < suc b
     up h = omega arith
 
-from_first : (p : List Mode) (r : PlainNeutral) (d f : Expression) (o : Option (List ℕ)) → From (λ m. IsMatching m (step p r d) f) 0 (length (wide_steps f)) o → IsFirstMatching (step p r d) f o
+from_first : (p : List Mode) (r : PlainNeutral) (d f : PlainExpression) (o : Option (List ℕ)) → From (λ m. IsMatching m (step p r d) f) 0 (length (wide_steps f)) o → IsFirstMatching (step p r d) f o
 from_first p r d f None h = λ m g. empty m g
   where
     empty : (m : List ℕ) → IsMatching m (step p r d) f → ⊥
@@ -125,7 +125,7 @@ from_first p r d f (Some m) h = (h.0, λ l g. least l g)
     least [] (s, out, len, dis, pairs, tup) = absurd pairs
     least (i ∷ l) g = h.1 i l (omega arith) g
 
-pull_of : (p : List Mode) (r : PlainNeutral) (d f : Expression) (i : ℕ) (m : List ℕ) → IsMatching (i ∷ m) (step p r d) f → (q : List Mode) × (v : PlainNeutral) × (e : Expression) × (u : Pulled q v e f) × (p ≡ q) × (place u ≡ i) × JoinedNeutral r v
+pull_of : (p : List Mode) (r : PlainNeutral) (d f : PlainExpression) (i : ℕ) (m : List ℕ) → IsMatching (i ∷ m) (step p r d) f → (q : List Mode) × (v : PlainNeutral) × (e : PlainExpression) × (u : Pulled q v e f) × (p ≡ q) × (place u ≡ i) × JoinedNeutral r v
 pull_of p r d f i m (s, out, len, dis, pairs, tup) = pullable f i (map s (map (up (size d)) (below (length p)))) p (ren_neutral s (ren_neutral (up (size d + length p)) r)) r
     (composed_neutral s (up (size d + length p)) r ∙ ap (λ g. ren_neutral g r) (ext out)) pairs.0
 
@@ -135,20 +135,20 @@ none_some e = cc
 false_true : false ≡ true → ⊥
 false_true e = cc
 
-modes_front : {q k : List Mode} {v w : PlainNeutral} {e f : Expression} → Some (front q v e) ≡ Some (front k w f) → q ≡ k
+modes_front : {q k : List Mode} {v w : PlainNeutral} {e f : PlainExpression} → Some (front q v e) ≡ Some (front k w f) → q ≡ k
 modes_front e = cc
 
-side_front : {q k : List Mode} {v w : PlainNeutral} {e f : Expression} → Some (front q v e) ≡ Some (front k w f) → v ≡ w
+side_front : {q k : List Mode} {v w : PlainNeutral} {e f : PlainExpression} → Some (front q v e) ≡ Some (front k w f) → v ≡ w
 side_front e = cc
 
-module _ (p : List Mode) (r : PlainNeutral) (d f : Expression) (test : PlainNeutral → Bool) (rec : Expression → Option (List ℕ)) (sure : (v : PlainNeutral) → test v ≡ true → MatchesNeutral r v) (all_found : (v : PlainNeutral) → MatchesNeutral r v → test v ≡ true) (best : (e : Expression) → IsFirstMatching d e (rec e)) where
+module _ (p : List Mode) (r : PlainNeutral) (d f : PlainExpression) (test : PlainNeutral → Bool) (rec : PlainExpression → Option (List ℕ)) (sure : (v : PlainNeutral) → test v ≡ true → MatchesNeutral r v) (all_found : (v : PlainNeutral) → MatchesNeutral r v → test v ≡ true) (best : (e : PlainExpression) → IsFirstMatching d e (rec e)) where
   abbrev Good : List ℕ → Type 0
   Good m = IsMatching m (step p r d) f
 
-  rested : {q : List Mode} {v : PlainNeutral} {e : Expression} (u : Pulled q v e f) (i : ℕ) → place u ≡ i → p ≡ q → (m : List ℕ) → Good (i ∷ m) → (l : List ℕ) × (m ≡ map (past i) l) × IsMatching l d e
+  rested : {q : List Mode} {v : PlainNeutral} {e : PlainExpression} (u : Pulled q v e f) (i : ℕ) → place u ≡ i → p ≡ q → (m : List ℕ) → Good (i ∷ m) → (l : List ℕ) × (m ≡ map (past i) l) × IsMatching l d e
   rested u i pos eq m g = let (l, k, h) = rest_matching p r d u eq m (subst (λ j. IsMatching (j ∷ m) (step p r d) f) (sym pos) g) in (l, k ∙ ap (λ j. map (past j) l) pos, h)
 
-  answered : {q : List Mode} {v : PlainNeutral} {e : Expression} (u : Pulled q v e f) (i : ℕ) → place u ≡ i → p ≡ q → MatchesNeutral r v → (o : Option (List ℕ)) → IsFirstMatching d e o → At Good i (prefixed i o)
+  answered : {q : List Mode} {v : PlainNeutral} {e : PlainExpression} (u : Pulled q v e f) (i : ℕ) → place u ≡ i → p ≡ q → MatchesNeutral r v → (o : Option (List ℕ)) → IsFirstMatching d e o → At Good i (prefixed i o)
   answered u i pos eq n None h = λ m g. let (l, k, x) = rested u i pos eq m g in h l x
   answered {v = v} {e = e} u i pos eq n (Some m) h = (
     map (past i) m,
@@ -173,15 +173,15 @@ module _ (p : List Mode) (r : PlainNeutral) (d f : Expression) (test : PlainNeut
   whole : IsFirstMatching (step p r d) f (places (length (wide_steps f)) 0 (λ i. attempt p test rec i (pull_at i f)))
   whole = from_first p r d f (places (length (wide_steps f)) 0 (λ i. attempt p test rec i (pull_at i f))) (places_from Good (λ i. attempt p test rec i (pull_at i f)) tried (length (wide_steps f)) 0)
 
-found : (e f : Expression) (o : Option (List ℕ)) → IsFirstMatching e f o → is_some o ≡ true → MatchesExpression e f
+found : (e f : PlainExpression) (o : Option (List ℕ)) → IsFirstMatching e f o → is_some o ≡ true → MatchesExpression e f
 found e f None h t = absurd (cc)
 found e f (Some m) h t = from_matching e f m h.0
 
-there_is : (e f : Expression) (o : Option (List ℕ)) → IsFirstMatching e f o → MatchesExpression e f → is_some o ≡ true
+there_is : (e f : PlainExpression) (o : Option (List ℕ)) → IsFirstMatching e f o → MatchesExpression e f → is_some o ≡ true
 there_is e f None h l = let (m, g) = to_matching l in absurd (h m g)
 there_is e f (Some m) h l = refl
 
-ret_first : (t u : Tuple) (b : Bool) → (b ≡ true → MatchesTuple t u) → (MatchesTuple t u → b ≡ true) → IsFirstMatching (done t) (done u) (if b then Some [] else None)
+ret_first : (t u : PlainTuple) (b : Bool) → (b ≡ true → MatchesTuple t u) → (MatchesTuple t u → b ≡ true) → IsFirstMatching (done t) (done u) (if b then Some [] else None)
 ret_first t u true s c = (ret_matching (s refl), λ l g. tt)
 ret_first t u false s c = λ m g. false_true (c (of_ret (from_matching (done t) (done u) m g)))
   where
@@ -189,7 +189,7 @@ ret_first t u false s c = λ m g. false_true (c (of_ret (from_matching (done t) 
     of_ret (match_done p) = p
 
 mutual
-  pub sound : (a b : Object) → same a b ≡ true → Matches a b
+  pub sound : (a b : PlainObject) → same a b ≡ true → Matches a b
   sound (lam m b) (lam k c) e = let (x, y) = halves (same_mode m k) (same b c) e in subst (λ i. Matches (lam m b) (lam i c)) (mode_sound m k x) (match_lam (sound b c y))
   sound (pair l r) (pair k s) e = let (x, y) = halves (same l k) (same r s) e in match_pair (sound l k x) (sound r s y)
   sound unit unit e = match_unit
@@ -199,20 +199,20 @@ mutual
   sound _ _ e = absurd (cc)
 
   pub sound_neutral : (a b : PlainNeutral) → same_neutral a b ≡ true → MatchesNeutral a b
-  sound_neutral (bare h) (bare j) e = subst (λ i. MatchesNeutral (bare h) (bare i)) (head_sound h j e) match_bare
+  sound_neutral (head_alone h) (head_alone j) e = subst (λ i. MatchesNeutral (head_alone h) (head_alone i)) (head_sound h j e) match_bare
   sound_neutral (app m r o) (app k s u) e = let (x, y) = halves (same_mode m k) (same_neutral r s && same o u) e in let (a, b) = halves (same_neutral r s) (same o u) y in
       subst (λ i. MatchesNeutral (app m r o) (app i s u)) (mode_sound m k x) (match_app (sound_neutral r s a) (sound o u b))
   sound_neutral (fst r) (fst s) e = match_fst (sound_neutral r s e)
   sound_neutral (snd r) (snd s) e = match_snd (sound_neutral r s e)
   sound_neutral _ _ e = absurd (cc)
 
-  pub sound_tuple : (a b : Tuple) → same_tuple a b ≡ true → MatchesTuple a b
+  pub sound_tuple : (a b : PlainTuple) → same_tuple a b ≡ true → MatchesTuple a b
   sound_tuple empty empty e = match_empty
   sound_tuple (entry m o t) (entry k u w) e = let (x, y) = halves (same_mode m k) (same o u && same_tuple t w) e in let (a, b) = halves (same o u) (same_tuple t w) y in
       subst (λ i. MatchesTuple (entry m o t) (entry i u w)) (mode_sound m k x) (match_entry (sound o u a) (sound_tuple t w b))
   sound_tuple _ _ e = absurd (cc)
 
-  pub complete : (a : Object) {b : Object} → Matches a b → same a b ≡ true
+  pub complete : (a : PlainObject) {b : PlainObject} → Matches a b → same a b ≡ true
   complete (lam m b) (match_lam p) = both (mode_complete m) (complete b p)
   complete (pair l r) (match_pair p q) = both (complete l p) (complete r q)
   complete unit match_unit = refl
@@ -221,16 +221,16 @@ mutual
   complete hole match_hole = refl
 
   pub complete_neutral : (a : PlainNeutral) {b : PlainNeutral} → MatchesNeutral a b → same_neutral a b ≡ true
-  complete_neutral (bare h) match_bare = head_complete h
+  complete_neutral (head_alone h) match_bare = head_complete h
   complete_neutral (app m r o) (match_app p q) = both (mode_complete m) (both (complete_neutral r p) (complete o q))
   complete_neutral (fst r) (match_fst p) = complete_neutral r p
   complete_neutral (snd r) (match_snd p) = complete_neutral r p
 
-  pub complete_tuple : (a : Tuple) {b : Tuple} → MatchesTuple a b → same_tuple a b ≡ true
+  pub complete_tuple : (a : PlainTuple) {b : PlainTuple} → MatchesTuple a b → same_tuple a b ≡ true
   complete_tuple empty match_empty = refl
   complete_tuple (entry m o t) (match_entry p q) = both (mode_complete m) (both (complete o p) (complete_tuple t q))
 
-  pub is_first : (e f : Expression) → IsFirstMatching e f (first e f)
+  pub is_first : (e f : PlainExpression) → IsFirstMatching e f (first e f)
   is_first (step p r d) f = whole p r d f (λ v. same_neutral r v) (λ e. first d e) (λ v t. sound_neutral r v t) (λ v l. complete_neutral r l) (λ e. is_first d e)
   is_first (done t) (done u) = ret_first t u (same_tuple t u) (λ e. sound_tuple t u e) (λ l. complete_tuple t l)
   is_first (done t) (step q v e) = λ m g. no_ret (from_matching (done t) (step q v e) m g)

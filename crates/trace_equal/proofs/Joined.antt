@@ -1,7 +1,7 @@
 -- Joined is an equivalence, and is identity on trees without steps.
 use Rattle.std.specs.Prelude.{◌≡◌, Bool, true, false, ◌&&◌, length, refl}
 use Rattle.std.proofs.Common.{sym, subst}
-use Rattle.clf_syntax.specs.Tree.{Object, PlainNeutral, Expression, Tuple}
+use Rattle.clf_syntax.specs.Tree.{PlainObject, PlainNeutral, PlainExpression, PlainTuple}
 use Rattle.clf_syntax.specs.Renaming.{ren_neutral, down}
 use Rattle.clf_syntax.specs.Occurs.{occurs_neutral}
 use Rattle.clf_syntax.proofs.OccursLaws.{past, absent_past}
@@ -13,7 +13,7 @@ pub independence_in_words : IndependenceInWords
 independence_in_words n w = ((λ h. (ren_neutral (down n) w, past n w h)), (λ v i k. subst (λ x. occurs_neutral i x ≡ false) (sym v.1) (absent_past n v.0 i k)))
 
 mutual
-  pub undone : {a b : Object} → Exchanged a b → Exchanged b a
+  pub undone : {a b : PlainObject} → Exchanged a b → Exchanged b a
   undone (in_lam x) = in_lam (undone x)
   undone (in_left x) = in_left (undone x)
   undone (in_right x) = in_right (undone x)
@@ -26,17 +26,17 @@ mutual
   undone_neutral (in_fst x) = in_fst (undone_neutral x)
   undone_neutral (in_snd x) = in_snd (undone_neutral x)
 
-  pub undone_expression : {a b : Expression} → ExchangedExpression a b → ExchangedExpression b a
+  pub undone_expression : {a b : PlainExpression} → ExchangedExpression a b → ExchangedExpression b a
   undone_expression (in_right_side x) = in_right_side (undone_neutral x)
   undone_expression (in_later_steps x) = in_later_steps (undone_expression x)
   undone_expression (in_done x) = in_done (undone_tuple x)
   undone_expression (exchange {p = p} {q = q} h k l) = exchange k h (uncrossed (length p) (length q) l)
 
-  pub undone_tuple : {a b : Tuple} → ExchangedTuple a b → ExchangedTuple b a
+  pub undone_tuple : {a b : PlainTuple} → ExchangedTuple a b → ExchangedTuple b a
   undone_tuple (in_entry x) = in_entry (undone x)
   undone_tuple (in_later_entry x) = in_later_entry (undone_tuple x)
 
-backward : {a b c : Object} → Joined a b → Joined a c → Joined b c
+backward : {a b c : PlainObject} → Joined a b → Joined a c → Joined b c
 backward stop q = q
 backward (next x p) q = backward p (next (undone x) q)
 
@@ -55,7 +55,7 @@ no_steps : false ≡ true → ⊥
 no_steps e = cc
 
 mutual
-  pub stays : {a b : Object} → without_steps a ≡ true → Exchanged a b → ⊥
+  pub stays : {a b : PlainObject} → without_steps a ≡ true → Exchanged a b → ⊥
   stays e (in_lam x) = stays e x
   stays e (in_left {l = l} {r = r} x) = stays (first_of_both (without_steps l) (without_steps r) e) x
   stays e (in_right {l = l} {r = r} x) = stays (second_of_both (without_steps l) (without_steps r) e) x
@@ -68,17 +68,17 @@ mutual
   stays_neutral e (in_fst x) = stays_neutral e x
   stays_neutral e (in_snd x) = stays_neutral e x
 
-  pub stays_expression : {a b : Expression} → expression_without_steps a ≡ true → ExchangedExpression a b → ⊥
+  pub stays_expression : {a b : PlainExpression} → expression_without_steps a ≡ true → ExchangedExpression a b → ⊥
   stays_expression e (in_right_side x) = no_steps e
   stays_expression e (in_later_steps x) = no_steps e
   stays_expression e (in_done x) = stays_tuple e x
   stays_expression e (exchange h k l) = no_steps e
 
-  pub stays_tuple : {a b : Tuple} → tuple_without_steps a ≡ true → ExchangedTuple a b → ⊥
+  pub stays_tuple : {a b : PlainTuple} → tuple_without_steps a ≡ true → ExchangedTuple a b → ⊥
   stays_tuple e (in_entry {o = o} {t = t} x) = stays (first_of_both (without_steps o) (tuple_without_steps t) e) x
   stays_tuple e (in_later_entry {o = o} {t = t} x) = stays_tuple (second_of_both (without_steps o) (tuple_without_steps t) e) x
 
-only_itself : {a b : Object} → without_steps a ≡ true → Joined a b → a ≡ b
+only_itself : {a b : PlainObject} → without_steps a ≡ true → Joined a b → a ≡ b
 only_itself e stop = refl
 only_itself e (next x p) = absurd (stays e x)
 
@@ -87,6 +87,6 @@ only_itself_neutral e stop = refl
 only_itself_neutral e (next x p) = absurd (stays_neutral e x)
 
 pub joined_without_steps : JoinedWithoutSteps
-joined_without_steps = ((λ o u e. (only_itself e, (λ h. subst (λ (x : Object). Joined o x) h stop))), (λ n r e. (only_itself_neutral e, (λ h. subst (λ (x : PlainNeutral). JoinedNeutral n x) h stop))))
+joined_without_steps = ((λ o u e. (only_itself e, (λ h. subst (λ (x : PlainObject). Joined o x) h stop))), (λ n r e. (only_itself_neutral e, (λ h. subst (λ (x : PlainNeutral). JoinedNeutral n x) h stop))))
 
 pub ruleset exchange_laws = (joined_matches, independence_in_words, joined_is_equivalence, joined_without_steps)

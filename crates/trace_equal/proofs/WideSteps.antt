@@ -3,7 +3,7 @@ use Rattle.std.specs.Prelude.{ℕ, zero, suc, ◌+◌, ◌-◌, ◌≡◌, ◌<�
 use Rattle.std.proofs.Common.{ap, sym, subst, ◌∙◌, arith}
 use Rattle.clf_syntax.proofs.RenamingLaws.{composed_neutral, composed_tuple, cross_cross, cross_new, cross_old, cross_out, ext, identity_neutral, identity_tuple, lift_comp, lift_id, lift_in, lift_up, square_neutral}
 use Rattle.clf_syntax.specs.Renaming.{Renumbering, crossed, lifted, ren_expression, ren_neutral, ren_tuple, up}
-use Rattle.clf_syntax.specs.Tree.{Expression, PlainNeutral, done, step}
+use Rattle.clf_syntax.specs.Tree.{PlainExpression, PlainNeutral, done, step}
 use Rattle.clf_syntax.specs.declared.tree.Mode.{Mode}
 use Rattle.trace_equal.specs.Matching.{Pulled, pulled_here, pulled_later}
 use Rattle.trace_equal.specs.Steps.{WideStep, below, ren_wide_step, result_of, size, wide_step, wide_steps}
@@ -48,7 +48,7 @@ own_to f a b (suc n) h = both (h n (omega arith)) (own_to f a b n (λ c k. h c (
     both : {i j : ℕ} {is js : List ℕ} → i ≡ j → is ≡ js → (i ∷ is) ≡ (j ∷ js)
     both e k = cc
 
-pub size_ren : (r : Renumbering) (e : Expression) → size (ren_expression r e) ≡ size e
+pub size_ren : (r : Renumbering) (e : PlainExpression) → size (ren_expression r e) ≡ size e
 size_ren r (step ms x e) = ap (λ k. k + length ms) (size_ren (lifted (length ms) r) e)
 size_ren r (done t) = refl
 
@@ -66,39 +66,39 @@ wide_head : (r : Renumbering) (a b n : ℕ) (ms : List Mode) (x : PlainNeutral) 
 wide_head r a b n ms x e = subst (λ k. wide_step (map (up k) (below n)) ms (ren_neutral (up (k + n)) (ren_neutral r x)) ≡ ren_wide_step (lifted (a + n) r) (wide_step (map (up a) (below n)) ms (ren_neutral (up (a + n)) x))) (sym e)
     (lines ms (sym (own_to (lifted (a + n) r) a a n (λ c h. inside a n c r h))) (square_neutral (up (a + n)) r (lifted (a + n) r) (up (a + n)) (λ i. sym (lift_up (a + n) r i)) x))
 
-pub wide_ren : (r : Renumbering) (e : Expression) → wide_steps (ren_expression r e) ≡ map (ren_wide_step (lifted (size e) r)) (wide_steps e)
+pub wide_ren : (r : Renumbering) (e : PlainExpression) → wide_steps (ren_expression r e) ≡ map (ren_wide_step (lifted (size e) r)) (wide_steps e)
 wide_ren r (step ms x e) = conses (wide_head r (size e) (size (ren_expression (lifted (length ms) r) e)) (length ms) ms x (size_ren (lifted (length ms) r) e))
     (wide_ren (lifted (length ms) r) e ∙ ap (λ f. map (ren_wide_step f) (wide_steps e)) (lift_lift (size e) (length ms) r))
 wide_ren r (done t) = refl
 
-pub result_ren : (r : Renumbering) (e : Expression) → result_of (ren_expression r e) ≡ ren_tuple (lifted (size e) r) (result_of e)
+pub result_ren : (r : Renumbering) (e : PlainExpression) → result_of (ren_expression r e) ≡ ren_tuple (lifted (size e) r) (result_of e)
 result_ren r (step ms x e) = result_ren (lifted (length ms) r) e ∙ ap (λ f. ren_tuple f (result_of e)) (lift_lift (size e) (length ms) r)
 result_ren r (done t) = ap (λ f. ren_tuple f t) (sym (lift_zero r))
 
 -- the place of a pulled step, and how the variables move when it goes back there
-abbrev pub place : {q : List Mode} {v : PlainNeutral} {e f : Expression} → Pulled q v e f → ℕ
+abbrev pub place : {q : List Mode} {v : PlainNeutral} {e f : PlainExpression} → Pulled q v e f → ℕ
 place pulled_here = 0
 place (pulled_later h k l u) = suc (place u)
 
-abbrev pub there : {q : List Mode} {v : PlainNeutral} {e f : Expression} → Pulled q v e f → Renumbering
+abbrev pub there : {q : List Mode} {v : PlainNeutral} {e f : PlainExpression} → Pulled q v e f → Renumbering
 there pulled_here = λ i. i
 there (pulled_later {p = p} {q = q} {e = e} h k l u) = λ i. there u (lifted (size e) (crossed (length q) (length p)) i)
 
-abbrev pub back : {q : List Mode} {v : PlainNeutral} {e f : Expression} → Pulled q v e f → Renumbering
+abbrev pub back : {q : List Mode} {v : PlainNeutral} {e f : PlainExpression} → Pulled q v e f → Renumbering
 back pulled_here = λ i. i
 back (pulled_later {p = p} {q = q} {e = e} h k l u) = λ i. lifted (size e) (crossed (length p) (length q)) (back u i)
 
 uncross : (a p q i : ℕ) → lifted a (crossed q p) (lifted a (crossed p q) i) ≡ i
 uncross a p q i = ap (λ f. f i) (lift_comp a (crossed q p) (crossed p q) ∙ ap (lifted a) (ext (cross_cross p q)) ∙ lift_id a)
 
-pub back_there : {q : List Mode} {v : PlainNeutral} {e f : Expression} (u : Pulled q v e f) (i : ℕ) → back u (there u i) ≡ i
+pub back_there : {q : List Mode} {v : PlainNeutral} {e f : PlainExpression} (u : Pulled q v e f) (i : ℕ) → back u (there u i) ≡ i
 back_there pulled_here i = refl
 back_there (pulled_later {p = p} {q = q} {e = e} h k l u) i = ap (lifted (size e) (crossed (length p) (length q))) (back_there u (lifted (size e) (crossed (length q) (length p)) i)) ∙ uncross (size e) (length q) (length p) i
 
-rest_size : (r : Renumbering) (e f : Expression) → f ≡ ren_expression r e → size f ≡ size e
+rest_size : (r : Renumbering) (e f : PlainExpression) → f ≡ ren_expression r e → size f ≡ size e
 rest_size r e f h = ap size h ∙ size_ren r e
 
-pub size_pull : {q : List Mode} {v : PlainNeutral} {e f : Expression} → Pulled q v e f → size f ≡ size e + length q
+pub size_pull : {q : List Mode} {v : PlainNeutral} {e f : PlainExpression} → Pulled q v e f → size f ≡ size e + length q
 size_pull pulled_here = refl
 size_pull (pulled_later {p = p} {q = q} {e = e} {f = f} {g = g} h k l u) = sums (size_pull u) (rest_size (crossed (length p) (length q)) e f l)
   where
@@ -106,7 +106,7 @@ size_pull (pulled_later {p = p} {q = q} {e = e} {f = f} {g = g} h k l u) = sums 
     sums a b = omega arith
 
 -- the variables outside
-pub outer : {q : List Mode} {v : PlainNeutral} {e f : Expression} (u : Pulled q v e f) (i : ℕ) → there u (i + (size e + length q)) ≡ i + size f
+pub outer : {q : List Mode} {v : PlainNeutral} {e f : PlainExpression} (u : Pulled q v e f) (i : ℕ) → there u (i + (size e + length q)) ≡ i + size f
 outer pulled_here i = refl
 outer (pulled_later {p = p} {q = q} {e = e} {f = f} {g = g} h k l u) i =
     ap (λ j. there u (lifted (size e) (crossed (length q) (length p)) j)) (first (rest_size (crossed (length p) (length q)) e f l))
@@ -122,7 +122,7 @@ outer (pulled_later {p = p} {q = q} {e = e} {f = f} {g = g} h k l u) i =
     third : i + length p + size g ≡ i + (size g + length p)
     third = omega arith
 
-pub wide_pull : {q : List Mode} {v : PlainNeutral} {e f : Expression} (u : Pulled q v e f) → wide_steps f ≡ insert_at (place u) (wide_step (map (there u) (map (up (size e)) (below (length q)))) q (ren_neutral (up (size f)) v)) (map (ren_wide_step (there u)) (wide_steps e))
+pub wide_pull : {q : List Mode} {v : PlainNeutral} {e f : PlainExpression} (u : Pulled q v e f) → wide_steps f ≡ insert_at (place u) (wide_step (map (there u) (map (up (size e)) (below (length q)))) q (ren_neutral (up (size f)) v)) (map (ren_wide_step (there u)) (wide_steps e))
 wide_pull (pulled_here {q = q} {v = v} {e = e}) = conses (lines q (sym (map_idle (λ i. i) (map (up (size e)) (below (length q))) (λ i. refl))) refl) (sym (map_idle (ren_wide_step (λ i. i)) (wide_steps e) line_idle))
 wide_pull (pulled_later {p = p} {q = q} {r = r} {s = s} {v = v} {w = w} {e = e} {f = f} {g = g} h k l u) = conses (sym (lines p front right)) (wide_pull u ∙ ap2 (lines q mine over) (sym tail))
   where
@@ -178,7 +178,7 @@ wide_pull (pulled_later {p = p} {q = q} {r = r} {s = s} {v = v} {w = w} {e = e} 
     tail = ap (λ o. map (ren_wide_step moves) (wide_steps o)) l ∙ ap (map (ren_wide_step moves)) (wide_ren (crossed (length p) (length q)) e) ∙ lines_comp moves (lifted (size e) (crossed (length p) (length q))) (wide_steps e)
         ∙ ap (λ m. map (ren_wide_step m) (wide_steps e)) (ext (λ i. ap (there u) (uncross (size e) (length p) (length q) i)))
 
-pub result_pull : {q : List Mode} {v : PlainNeutral} {e f : Expression} (u : Pulled q v e f) → result_of f ≡ ren_tuple (there u) (result_of e)
+pub result_pull : {q : List Mode} {v : PlainNeutral} {e f : PlainExpression} (u : Pulled q v e f) → result_of f ≡ ren_tuple (there u) (result_of e)
 result_pull (pulled_here {e = e}) = sym (identity_tuple (result_of e))
 result_pull (pulled_later {p = p} {q = q} {e = e} {f = f} h k l u) = result_pull u ∙ sym (
     ap (λ o. ren_tuple moves (result_of o)) l ∙ ap (ren_tuple moves) (result_ren (crossed (length p) (length q)) e) ∙ composed_tuple moves (lifted (size e) (crossed (length p) (length q))) (result_of e)

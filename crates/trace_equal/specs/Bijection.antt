@@ -3,7 +3,7 @@
 use Rattle.std.specs.Prelude.{ℕ, zero, suc, ◌+◌, ◌≡◌, ◌≢◌, ◌<◌, ◌⊎◌, List, [], ◌∷◌, length, map, Some, None}
 use Rattle.std.proofs.Common.{Option}
 use Rattle.clf_syntax.specs.Renaming.{Renumbering, ren_tuple}
-use Rattle.clf_syntax.specs.Tree.{Expression}
+use Rattle.clf_syntax.specs.Tree.{PlainExpression}
 use Rattle.trace_equal.specs.Exchange.{JoinedNeutral, JoinedTuple}
 use Rattle.trace_equal.specs.Steps.{WideStep, ren_wide_step, result_of, size, wide_step, wide_steps}
 
@@ -36,7 +36,7 @@ Distinct (i ∷ m) = Absent i m × Distinct m
 
 -- The list m gives for each step of e its step in f, each step of f once. The renaming r takes the variables of each step to those of its step,
 -- and leaves the variables outside.
-abbrev pub IsMatching : List ℕ → Expression → Expression → Type 0
+abbrev pub IsMatching : List ℕ → PlainExpression → PlainExpression → Type 0
 IsMatching m e f = (r : Renumbering) × ((i : ℕ) → r (i + size e) ≡ i + size f) × (length (wide_steps e) ≡ length (wide_steps f)) × Distinct m
     × Paired m (map (ren_wide_step r) (wide_steps e)) (wide_steps f) × JoinedTuple (ren_tuple r (result_of e)) (result_of f)
 
@@ -47,6 +47,6 @@ IsAtMost (i ∷ m) [] = ⊥
 IsAtMost (i ∷ m) (j ∷ l) = (i < j) ⊎ ((i ≡ j) × IsAtMost m l)
 
 -- the first matching in the order of its numbers, or none where there is none
-abbrev pub IsFirstMatching : Expression → Expression → Option (List ℕ) → Type 0
+abbrev pub IsFirstMatching : PlainExpression → PlainExpression → Option (List ℕ) → Type 0
 IsFirstMatching e f None = (m : List ℕ) → IsMatching m e f → ⊥
 IsFirstMatching e f (Some m) = IsMatching m e f × ((l : List ℕ) → IsMatching l e f → IsAtMost m l)

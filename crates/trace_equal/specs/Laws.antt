@@ -1,6 +1,6 @@
 -- Laws of exchange, as statements; the functions of the crate's `laws` state them.
 use Rattle.std.specs.Prelude.{ℕ, ◌≡◌, ◌<◌, ◌↔◌, Bool, true, false, ◌&&◌, List}
-use Rattle.clf_syntax.specs.Tree.{Object, lam, pair, unit, monadic, atomic, hole, PlainNeutral, bare, app, fst, snd, Expression, step, done, Tuple, empty, entry}
+use Rattle.clf_syntax.specs.Tree.{PlainObject, lam, pair, unit, monadic, atomic, hole, PlainNeutral, head_alone, app, fst, snd, PlainExpression, step, done, PlainTuple, empty, entry}
 use Rattle.clf_syntax.specs.Renaming.{ren_neutral, up}
 use Rattle.clf_syntax.specs.Occurs.{occurs_neutral}
 use Rattle.trace_equal.specs.Exchange.{Joined, JoinedNeutral, JoinedExpression, JoinedTuple}
@@ -10,10 +10,10 @@ use Rattle.trace_equal.specs.Search.{first, same}
 
 -- Trees are joined exactly where they match.
 abbrev pub JoinedMatches : Type 0
-JoinedMatches = ((o u : Object) → Joined o u ↔ Matches o u)
+JoinedMatches = ((o u : PlainObject) → Joined o u ↔ Matches o u)
     × ((n r : PlainNeutral) → JoinedNeutral n r ↔ MatchesNeutral n r)
-    × ((e f : Expression) → JoinedExpression e f ↔ MatchesExpression e f)
-    × ((t u : Tuple) → JoinedTuple t u ↔ MatchesTuple t u)
+    × ((e f : PlainExpression) → JoinedExpression e f ↔ MatchesExpression e f)
+    × ((t u : PlainTuple) → JoinedTuple t u ↔ MatchesTuple t u)
 
 -- A right side mentions none of the n newest variables exactly where it is some neutral, renumbered past them.
 abbrev pub IndependenceInWords : Type 0
@@ -21,7 +21,7 @@ IndependenceInWords = (n : ℕ) (w : PlainNeutral) → ((i : ℕ) → i < n → 
 
 -- whether a tree has no steps
 abbrev mutual
-  pub without_steps : Object → Bool
+  pub without_steps : PlainObject → Bool
   without_steps (lam m b) = without_steps b
   without_steps (pair l r) = without_steps l && without_steps r
   without_steps unit = true
@@ -30,36 +30,36 @@ abbrev mutual
   without_steps hole = true
 
   pub neutral_without_steps : PlainNeutral → Bool
-  neutral_without_steps (bare h) = true
+  neutral_without_steps (head_alone h) = true
   neutral_without_steps (app m r n) = neutral_without_steps r && without_steps n
   neutral_without_steps (fst r) = neutral_without_steps r
   neutral_without_steps (snd r) = neutral_without_steps r
 
-  pub expression_without_steps : Expression → Bool
+  pub expression_without_steps : PlainExpression → Bool
   expression_without_steps (step ms r e) = false
   expression_without_steps (done t) = tuple_without_steps t
 
-  pub tuple_without_steps : Tuple → Bool
+  pub tuple_without_steps : PlainTuple → Bool
   tuple_without_steps empty = true
   tuple_without_steps (entry m n t) = without_steps n && tuple_without_steps t
 
 -- A tree without steps is joined with itself alone.
 abbrev pub JoinedWithoutSteps : Type 0
-JoinedWithoutSteps = ((o u : Object) → without_steps o ≡ true → Joined o u ↔ (o ≡ u))
+JoinedWithoutSteps = ((o u : PlainObject) → without_steps o ≡ true → Joined o u ↔ (o ≡ u))
     × ((n r : PlainNeutral) → neutral_without_steps n ≡ true → JoinedNeutral n r ↔ (n ≡ r))
 
 -- Joined is an equivalence.
 abbrev pub JoinedIsEquivalence : Type 0
-JoinedIsEquivalence = ((o : Object) → Joined o o) × ((o u : Object) → Joined o u → Joined u o) × ((o u v : Object) → Joined o u → Joined u v → Joined o v)
+JoinedIsEquivalence = ((o : PlainObject) → Joined o o) × ((o u : PlainObject) → Joined o u → Joined u o) × ((o u v : PlainObject) → Joined o u → Joined u v → Joined o v)
 
 -- Expressions are joined exactly where they have a matching.
 abbrev pub JoinedHasMatching : Type 0
-JoinedHasMatching = (e f : Expression) → JoinedExpression e f ↔ ((m : List ℕ) × IsMatching m e f)
+JoinedHasMatching = (e f : PlainExpression) → JoinedExpression e f ↔ ((m : List ℕ) × IsMatching m e f)
 
 -- The search answers the first matching, or none where there is none.
 abbrev pub FirstIsFound : Type 0
-FirstIsFound = (e f : Expression) → IsFirstMatching e f (first e f)
+FirstIsFound = (e f : PlainExpression) → IsFirstMatching e f (first e f)
 
 -- The test tells whether two objects are joined.
 abbrev pub SameIsJoined : Type 0
-SameIsJoined = (o u : Object) → (same o u ≡ true) ↔ Joined o u
+SameIsJoined = (o u : PlainObject) → (same o u ≡ true) ↔ Joined o u

@@ -2,7 +2,7 @@
 use Rattle.std.specs.Prelude.{ℕ, Bool, true, false, zero, suc, ◌+◌, ◌&&◌, ◌||◌, nat_lt, nat_le, nat_eq, if◌then◌else◌, List, [], ◌∷◌, length, map, Some, None, is_some}
 use Rattle.std.proofs.Common.{Option}
 use Rattle.clf_syntax.specs.Renaming.{crossed, down, ren_expression, ren_neutral, up}
-use Rattle.clf_syntax.specs.Tree.{Expression, Object, PlainNeutral, Tuple, app, atomic, bare, done, empty, entry, fst, hole, lam, monadic, pair, snd, step, unit}
+use Rattle.clf_syntax.specs.Tree.{PlainExpression, PlainObject, PlainNeutral, PlainTuple, app, atomic, head_alone, done, empty, entry, fst, hole, lam, monadic, pair, snd, step, unit}
 use Rattle.clf_syntax.specs.declared.tree.Head.{Head}
 use Rattle.clf_syntax.specs.declared.tree.Head.TheVariants.{Const, Meta, Var}
 use Rattle.clf_syntax.specs.declared.tree.Mode.{Mode}
@@ -11,7 +11,7 @@ use Rattle.trace_equal.specs.Steps.{wide_steps}
 
 -- none of the n variables from k on occurs
 abbrev mutual
-  pub free : ℕ → ℕ → Object → Bool
+  pub free : ℕ → ℕ → PlainObject → Bool
   free k n (lam m b) = free (1 + k) n b
   free k n (pair l r) = free k n l && free k n r
   free k n unit = true
@@ -20,30 +20,30 @@ abbrev mutual
   free k n hole = true
 
   pub free_neutral : ℕ → ℕ → PlainNeutral → Bool
-  free_neutral k n (bare (Const c)) = true
-  free_neutral k n (bare (Var i)) = nat_lt i k || nat_le (k + n) i
-  free_neutral k n (bare (Meta m)) = true
+  free_neutral k n (head_alone (Const c)) = true
+  free_neutral k n (head_alone (Var i)) = nat_lt i k || nat_le (k + n) i
+  free_neutral k n (head_alone (Meta m)) = true
   free_neutral k n (app m r o) = free_neutral k n r && free k n o
   free_neutral k n (fst r) = free_neutral k n r
   free_neutral k n (snd r) = free_neutral k n r
 
-  pub free_expression : ℕ → ℕ → Expression → Bool
+  pub free_expression : ℕ → ℕ → PlainExpression → Bool
   free_expression k n (step ms r e) = free_neutral k n r && free_expression (length ms + k) n e
   free_expression k n (done t) = free_tuple k n t
 
-  pub free_tuple : ℕ → ℕ → Tuple → Bool
+  pub free_tuple : ℕ → ℕ → PlainTuple → Bool
   free_tuple k n empty = true
   free_tuple k n (entry m o t) = free k n o && free_tuple k n t
 
 -- the step at place i, in front
 pub data Front : Type 0 where
-  front : List Mode → PlainNeutral → Expression → Front
+  front : List Mode → PlainNeutral → PlainExpression → Front
 
 abbrev pub later_front : List Mode → PlainNeutral → Option Front → Option Front
 later_front p r None = None
 later_front p r (Some (front q w e)) = if free_neutral 0 (length p) w then Some (front q (ren_neutral (down (length p)) w) (step p (ren_neutral (up (length q)) r) (ren_expression (crossed (length p) (length q)) e))) else None
 
-abbrev pub pull_at : ℕ → Expression → Option Front
+abbrev pub pull_at : ℕ → PlainExpression → Option Front
 pull_at i (done t) = None
 pull_at zero (step q v e) = Some (front q v e)
 pull_at (suc i) (step p r g) = later_front p r (pull_at i g)
@@ -80,7 +80,7 @@ prefixed i None = None
 prefixed i (Some l) = Some (i ∷ map (past i) l)
 
 -- whether the step at place i serves, and the rest from there
-abbrev pub attempt : List Mode → (PlainNeutral → Bool) → (Expression → Option (List ℕ)) → ℕ → Option Front → Option (List ℕ)
+abbrev pub attempt : List Mode → (PlainNeutral → Bool) → (PlainExpression → Option (List ℕ)) → ℕ → Option Front → Option (List ℕ)
 attempt p test rec i None = None
 attempt p test rec i (Some (front q v e)) = if same_modes p q && test v then prefixed i (rec e) else None
 
@@ -90,7 +90,7 @@ places zero i h = None
 places (suc n) i h = or_else (h i) (places n (suc i) h)
 
 abbrev mutual
-  pub same : Object → Object → Bool
+  pub same : PlainObject → PlainObject → Bool
   same (lam m b) (lam k c) = same_mode m k && same b c
   same (pair l r) (pair k s) = same l k && same r s
   same unit unit = true
@@ -100,18 +100,18 @@ abbrev mutual
   same _ _ = false
 
   pub same_neutral : PlainNeutral → PlainNeutral → Bool
-  same_neutral (bare h) (bare j) = same_head h j
+  same_neutral (head_alone h) (head_alone j) = same_head h j
   same_neutral (app m r o) (app k s u) = same_mode m k && (same_neutral r s && same o u)
   same_neutral (fst r) (fst s) = same_neutral r s
   same_neutral (snd r) (snd s) = same_neutral r s
   same_neutral _ _ = false
 
-  pub first : Expression → Expression → Option (List ℕ)
+  pub first : PlainExpression → PlainExpression → Option (List ℕ)
   first (step p r d) f = places (length (wide_steps f)) 0 (λ i. attempt p (λ v. same_neutral r v) (λ e. first d e) i (pull_at i f))
   first (done t) (done u) = if same_tuple t u then Some [] else None
   first (done t) (step q v e) = None
 
-  pub same_tuple : Tuple → Tuple → Bool
+  pub same_tuple : PlainTuple → PlainTuple → Bool
   same_tuple empty empty = true
   same_tuple (entry m o t) (entry k u w) = same_mode m k && (same o u && same_tuple t w)
   same_tuple _ _ = false

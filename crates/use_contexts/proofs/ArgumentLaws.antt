@@ -2,12 +2,12 @@
 use Rattle.std.proofs.Common.{◌≡◌, suc, Bool, true, false, not, ◌&&◌, ◌||◌, List, [], ◌∷◌, length, None, Some, if◌then◌else◌, refl, ap, sym, subst, arith}
 use Rattle.clf_syntax.specs.declared.tree.Mode.{Mode}
 use Rattle.clf_syntax.specs.declared.tree.Mode.TheVariants.{Persistent, Affine, Linear}
-use Rattle.use_contexts.specs.Holding.{Holding, WellMarked, Split, is_weak, is_bare, is_persistent, is_linear, persistent_alone, part}
-use Rattle.use_contexts.specs.Rows.{implies, within, stands, now, later, EachWithin, EachStands, IsPart, Stands, Answer, Agrees, Shared, in_turn, without_linear, linear_of, allowed, outside, slack_outside, argued}
+use Rattle.use_contexts.specs.Holding.{Holding, WellMarked, Split, is_weak, is_unrestricted, is_persistent, is_linear, persistent_alone, may_use}
+use Rattle.use_contexts.specs.Rows.{implies, within, stands, newest, older, EachWithin, EachStands, IsSubholding, Stands, Answer, Agrees, Shared, in_turn, without_linear, linear_of, allowed, outside, slack_outside, argued}
 use Rattle.use_contexts.specs.Laws.{OfAffineArguments, OfPersistentArguments}
 use Rattle.use_contexts.proofs.Bits.{at_entry, given, given_2, given_3, and-left, and-right, and-both}
 use Rattle.use_contexts.proofs.Splits.{splits, EachSplit, split_each, each_split}
-use Rattle.use_contexts.proofs.RowLaws.{turn-agrees, none-agrees, agrees-same, IsPart-stands}
+use Rattle.use_contexts.proofs.RowLaws.{turn-agrees, none-agrees, agrees-same, IsSubholding-stands}
 use Rattle.use_contexts.proofs.UseLaws.{WellMarked-part}
 
 -- ---- affine arguments, one entry: l is the row's mark at the begin, r the mark that is left, p the part's
@@ -81,7 +81,7 @@ stands_affine (m ∷ ms) (x ∷ l) (y ∷ r) t (z ∷ p) a b c w s =
       (and-right (not (is_linear m && z)) (stands m (restricted m x) y t z) here, rest.1),
     )
 
-pub affine-agrees : (ms : List Mode) (l : Holding) (r : Answer) (Q : Holding → Type 0) → IsPart ms l l → Agrees ms (without_linear ms l) r Q
+pub affine-agrees : (ms : List Mode) (l : Holding) (r : Answer) (Q : Holding → Type 0) → IsSubholding ms l l → Agrees ms (without_linear ms l) r Q
     → Agrees ms l (argued Affine ms l r) (λ k. (is_weak ms k ≡ true) × Q k)
 affine-agrees ms l None Q a b = λ p w x. b p (w.0, each-restricted ms l p a.0 w.0 w.1 x.0) x.1
 affine-agrees ms l (Some r) Q a b = (
@@ -89,7 +89,7 @@ affine-agrees ms l (Some r) Q a b = (
   (λ p w x. let y = b.1 p (w.0, each-restricted ms l p a.0 w.0 w.1 x.0) x.1 in (w.0, affine_stands ms l r.0 r.1 p a.0 b.0.0 w.0 a.1 x.0 y.1)),
   (λ p w x.
       let y = stands_affine ms l r.0 r.1 p a.0 b.0.0 w.0 b.0.1 x.1 in
-      (y.0, b.2 p (IsPart-stands ms (without_linear ms l) r.0 r.1 p (w.0, y.1)) (w.0, y.1))),
+      (y.0, b.2 p (IsSubholding-stands ms (without_linear ms l) r.0 r.1 p (w.0, y.1)) (w.0, y.1))),
 )
 
 -- ---- persistent arguments
@@ -103,10 +103,10 @@ alone_within (Persistent ∷ ms) = (refl, alone_within ms)
 alone_within (Affine ∷ ms) = (refl, alone_within ms)
 alone_within (Linear ∷ ms) = (refl, alone_within ms)
 
-alone_part : (ms : List Mode) → IsPart ms (persistent_alone ms) (persistent_alone ms)
+alone_part : (ms : List Mode) → IsSubholding ms (persistent_alone ms) (persistent_alone ms)
 alone_part ms = (alone_length ms, alone_within ms)
 
-alone_bare : (ms : List Mode) → is_bare ms (persistent_alone ms) ≡ true
+alone_bare : (ms : List Mode) → is_unrestricted ms (persistent_alone ms) ≡ true
 alone_bare [] = refl
 alone_bare (Persistent ∷ ms) = alone_bare ms
 alone_bare (Affine ∷ ms) = alone_bare ms
@@ -119,9 +119,9 @@ alone_entry m r t a =
 
 alone_each : (ms : List Mode) (r : Holding) (t : Bool) → EachWithin ms (persistent_alone ms) r → EachStands ms (persistent_alone ms) r t (persistent_alone ms)
 alone_each [] r t w = tt
-alone_each (m ∷ ms) r t w = (alone_entry m (now r) t w.0, alone_each ms (later r) t w.1)
+alone_each (m ∷ ms) r t w = (alone_entry m (newest r) t w.0, alone_each ms (older r) t w.1)
 
-pub alone_stands : (ms : List Mode) (r : Holding) (t : Bool) → IsPart ms (persistent_alone ms) r → Stands ms (persistent_alone ms) r t (persistent_alone ms)
+pub alone_stands : (ms : List Mode) (r : Holding) (t : Bool) → IsSubholding ms (persistent_alone ms) r → Stands ms (persistent_alone ms) r t (persistent_alone ms)
 alone_stands ms r t w = (alone_length ms, alone_each ms r t w.1)
 
 bare_entry : (m : Mode) (k : Bool) → (is_persistent m ≡ true → k ≡ true) → not (not (is_persistent m) && k) ≡ true → k ≡ is_persistent m
@@ -132,13 +132,13 @@ bare_entry Linear true e b = sym b
 bare_entry Linear false e b = refl
 
 -- a holding without linear and affine entries has the persistent ones alone
-pub bare_is_alone : (ms : List Mode) (k : Holding) → WellMarked ms k → is_bare ms k ≡ true → k ≡ persistent_alone ms
+pub bare_is_alone : (ms : List Mode) (k : Holding) → WellMarked ms k → is_unrestricted ms k ≡ true → k ≡ persistent_alone ms
 bare_is_alone [] [] w b = refl
 bare_is_alone [] (x ∷ k) w b = absurd w
 bare_is_alone (m ∷ ms) [] w b = absurd w
 bare_is_alone (m ∷ ms) (x ∷ k) w b =
-    let here = bare_entry m x w.0 (and-left (not (not (is_persistent m) && x)) (is_bare ms k) b) in
-    let rest = bare_is_alone ms k w.1 (and-right (not (not (is_persistent m) && x)) (is_bare ms k) b) in
+    let here = bare_entry m x w.0 (and-left (not (not (is_persistent m) && x)) (is_unrestricted ms k) b) in
+    let rest = bare_is_alone ms k w.1 (and-right (not (not (is_persistent m) && x)) (is_unrestricted ms k) b) in
     cc (here, rest)
 
 marked_entry : (m : Mode) (p g k : Bool) → splits m p g k ≡ true → is_persistent m ≡ true → k ≡ true
@@ -150,7 +150,7 @@ split_marked : (ms : List Mode) (p g k : Holding) → length k ≡ length ms →
 split_marked [] p g [] n s = tt
 split_marked [] p g (x ∷ k) n s = absurd (omega arith)
 split_marked (m ∷ ms) p g [] n s = absurd (omega arith)
-split_marked (m ∷ ms) p g (x ∷ k) n s = (marked_entry m (now p) (now g) x s.0, split_marked ms (later p) (later g) k (omega arith) s.1)
+split_marked (m ∷ ms) p g (x ∷ k) n s = (marked_entry m (newest p) (newest g) x s.0, split_marked ms (older p) (older g) k (omega arith) s.1)
 
 swapped_entry : (m : Mode) (p g k : Bool) → splits m p g k ≡ true → splits m p k g ≡ true
 swapped_entry m p g k a =
@@ -158,7 +158,7 @@ swapped_entry m p g k a =
 
 each_swapped : (ms : List Mode) (p g k : Holding) → EachSplit ms p g k → EachSplit ms p k g
 each_swapped [] p g k s = tt
-each_swapped (m ∷ ms) p g k s = (swapped_entry m (now p) (now g) (now k) s.0, each_swapped ms (later p) (later g) (later k) s.1)
+each_swapped (m ∷ ms) p g k s = (swapped_entry m (newest p) (newest g) (newest k) s.0, each_swapped ms (older p) (older g) (older k) s.1)
 
 rest_entry : (m : Mode) (p g : Bool) → splits m p g (is_persistent m) ≡ true → g ≡ p
 rest_entry Persistent true true s = refl
@@ -198,13 +198,13 @@ all_and_alone (m ∷ ms) [] w = absurd w
 all_and_alone (m ∷ ms) (x ∷ p) w = (all_entry m x w.0, all_and_alone ms p w.1)
 
 -- a bare second part is the persistent entries alone, and the first part is all
-bare_second : (ms : List Mode) (p g k : Holding) → length p ≡ length ms → Split ms p g k → is_bare ms k ≡ true → (k ≡ persistent_alone ms) × (g ≡ p)
+bare_second : (ms : List Mode) (p g k : Holding) → length p ≡ length ms → Split ms p g k → is_unrestricted ms k ≡ true → (k ≡ persistent_alone ms) × (g ≡ p)
 bare_second ms p g k n s b =
     let e = split_each ms p g k s in
     let alone = bare_is_alone ms k (split_marked ms p g k e.2 e.0) b in
     (alone, rest_is_all ms p g n e.1 (subst (EachSplit ms p g) alone e.0))
 
-bare_first : (ms : List Mode) (p g k : Holding) → length p ≡ length ms → Split ms p g k → is_bare ms g ≡ true → (g ≡ persistent_alone ms) × (k ≡ p)
+bare_first : (ms : List Mode) (p g k : Holding) → length p ≡ length ms → Split ms p g k → is_unrestricted ms g ≡ true → (g ≡ persistent_alone ms) × (k ≡ p)
 bare_first ms p g k n s b =
     let e = split_each ms p g k s in
     bare_second ms p k g n (each_split ms p k g n e.2 e.1 (each_swapped ms p g k e.0)) b
@@ -214,12 +214,12 @@ or-false true = refl
 or-false false = refl
 
 persistent_argument : (ms : List Mode) (h l : Holding) (s : Bool) (r : Answer) (P Q : Holding → Type 0) → Agrees ms h (Some (l, s)) P → Agrees ms (persistent_alone ms) r Q
-    → Agrees ms h (in_turn (argued Persistent ms l r) s) (Shared ms P (λ k. (is_bare ms k ≡ true) × Q k))
+    → Agrees ms h (in_turn (argued Persistent ms l r) s) (Shared ms P (λ k. (is_unrestricted ms k ≡ true) × Q k))
 persistent_argument ms h l s None P Q a b = λ p w x.
     let y = bare_second ms p x.0 x.1 w.0 x.2 x.4.0 in
     b (persistent_alone ms) (alone_part ms) (subst Q y.0 x.4.1)
 persistent_argument ms h l s (Some r) P Q a b =
-    let X : Holding → Type 0 = Shared ms P (λ k. (is_bare ms k ≡ true) × Q k) in
+    let X : Holding → Type 0 = Shared ms P (λ k. (is_unrestricted ms k ≡ true) × Q k) in
     let whole : Agrees ms h (Some (l, s)) X = (
       a.0,
       (λ p w x. a.1 p w (subst P (bare_second ms p x.0 x.1 w.0 x.2 x.4.0).1 x.3)),
@@ -233,13 +233,13 @@ persistent_argument ms h l s (Some r) P Q a b =
     ) in
     subst (λ (c : Bool). Agrees ms h (Some (l, c)) X) (sym (or-false s)) whole
 
-persistent_entry_none : (ms : List Mode) (h : Holding) (P Q : Holding → Type 0) → Agrees ms (persistent_alone ms) None P → Agrees ms h None (Shared ms (λ k. (is_bare ms k ≡ true) × P k) Q)
+persistent_entry_none : (ms : List Mode) (h : Holding) (P Q : Holding → Type 0) → Agrees ms (persistent_alone ms) None P → Agrees ms h None (Shared ms (λ k. (is_unrestricted ms k ≡ true) × P k) Q)
 persistent_entry_none ms h P Q a = λ p w x.
     let y = bare_first ms p x.0 x.1 w.0 x.2 x.3.0 in
     a (persistent_alone ms) (alone_part ms) (subst P y.0 x.3.1)
 
 persistent_entry : (ms : List Mode) (h r : Holding) (t : Bool) (b : Answer) (P Q : Holding → Type 0) → Agrees ms (persistent_alone ms) (Some (r, t)) P → Agrees ms h b Q
-    → Agrees ms h (in_turn b false) (Shared ms (λ k. (is_bare ms k ≡ true) × P k) Q)
+    → Agrees ms h (in_turn b false) (Shared ms (λ k. (is_unrestricted ms k ≡ true) × P k) Q)
 persistent_entry ms h r t None P Q a b = λ p w x. b p w (subst Q (bare_first ms p x.0 x.1 w.0 x.2 x.3.0).1 x.4)
 persistent_entry ms h r t (Some c) P Q a b = (
   b.0,
@@ -255,8 +255,8 @@ persistent_entry ms h r t (Some c) P Q a b = (
 
 -- ---- arguments of all modes
 -- behind what left the row l: the part that the argument gets is one that its mode allows
-pub argument-agrees : (m : Mode) (ms : List Mode) (h l : Holding) (s : Bool) (r : Answer) (P Q : Holding → Type 0) → IsPart ms l l → Agrees ms h (Some (l, s)) P → Agrees ms (allowed m ms l) r Q
-    → Agrees ms h (in_turn (argued m ms l r) s) (Shared ms P (λ k. (part m ms k ≡ true) × Q k))
+pub argument-agrees : (m : Mode) (ms : List Mode) (h l : Holding) (s : Bool) (r : Answer) (P Q : Holding → Type 0) → IsSubholding ms l l → Agrees ms h (Some (l, s)) P → Agrees ms (allowed m ms l) r Q
+    → Agrees ms h (in_turn (argued m ms l r) s) (Shared ms P (λ k. (may_use m ms k ≡ true) × Q k))
 argument-agrees Persistent ms h l s r P Q w a b = persistent_argument ms h l s r P Q a b
 argument-agrees Affine ms h l s r P Q w a b =
     turn-agrees ms h l s (argued Affine ms l r) P (λ k. (is_weak ms k ≡ true) × Q k) a (affine-agrees ms l r Q w b)
@@ -266,15 +266,15 @@ argument-agrees Linear ms h l s (Some r) P Q w a b =
     turn-agrees ms h l s (Some r) P (λ k. (true ≡ true) × Q k) a (agrees-same ms l (Some r) Q (λ k. (true ≡ true) × Q k) (λ k x. (refl, x)) (λ k x. x.1) b)
 
 -- before the rest of a tuple: an entry that has no answer
-pub entry-refused : (m : Mode) (ms : List Mode) (h : Holding) (P Q : Holding → Type 0) → IsPart ms h h → Agrees ms (allowed m ms h) None P
-    → Agrees ms h None (Shared ms (λ k. (part m ms k ≡ true) × P k) Q)
+pub entry-refused : (m : Mode) (ms : List Mode) (h : Holding) (P Q : Holding → Type 0) → IsSubholding ms h h → Agrees ms (allowed m ms h) None P
+    → Agrees ms h None (Shared ms (λ k. (may_use m ms k ≡ true) × P k) Q)
 entry-refused Persistent ms h P Q w a = persistent_entry_none ms h P Q a
 entry-refused Affine ms h P Q w a = none-agrees ms h (λ k. (is_weak ms k ≡ true) × P k) Q (affine-agrees ms h None P w a)
 entry-refused Linear ms h P Q w a = none-agrees ms h (λ k. (true ≡ true) × P k) Q (agrees-same ms h None P (λ k. (true ≡ true) × P k) (λ k x. (refl, x)) (λ k x. x.1) a)
 
 -- and one that has, with the answer b of the rest, which starts from the row outside the entry
-pub entry-agrees : (m : Mode) (ms : List Mode) (h r : Holding) (t : Bool) (b : Answer) (P Q : Holding → Type 0) → IsPart ms h h → Agrees ms (allowed m ms h) (Some (r, t)) P
-    → Agrees ms (outside m ms h r) b Q → Agrees ms h (in_turn b (slack_outside m t)) (Shared ms (λ k. (part m ms k ≡ true) × P k) Q)
+pub entry-agrees : (m : Mode) (ms : List Mode) (h r : Holding) (t : Bool) (b : Answer) (P Q : Holding → Type 0) → IsSubholding ms h h → Agrees ms (allowed m ms h) (Some (r, t)) P
+    → Agrees ms (outside m ms h r) b Q → Agrees ms h (in_turn b (slack_outside m t)) (Shared ms (λ k. (may_use m ms k ≡ true) × P k) Q)
 entry-agrees Persistent ms h r t b P Q w a c = persistent_entry ms h r t b P Q a c
 entry-agrees Affine ms h r t b P Q w a c =
     turn-agrees ms h (linear_of ms h r) false b (λ k. (is_weak ms k ≡ true) × P k) Q (affine-agrees ms h (Some (r, t)) P w a) c

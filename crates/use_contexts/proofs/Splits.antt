@@ -3,7 +3,7 @@ use Rattle.std.proofs.Common.{◌≡◌, suc, Bool, true, false, not, ◌&&◌, 
 use Rattle.clf_syntax.specs.declared.tree.Mode.{Mode}
 use Rattle.clf_syntax.specs.declared.tree.Mode.TheVariants.{Persistent, Affine, Linear}
 use Rattle.use_contexts.specs.Holding.{Holding, Split, SplitEntry}
-use Rattle.use_contexts.specs.Rows.{implies, now, later}
+use Rattle.use_contexts.specs.Rows.{implies, newest, older}
 
 -- one entry: the part p is shared out to g and k
 abbrev pub splits : Mode → Bool → Bool → Bool → Bool
@@ -13,7 +13,7 @@ splits Linear p g k = implies p (g || k) && implies (g || k) p && not (g && k)
 
 abbrev pub EachSplit : List Mode → Holding → Holding → Holding → Type 0
 EachSplit [] p g k = Unit {0}
-EachSplit (m ∷ ms) p g k = (splits m (now p) (now g) (now k) ≡ true) × EachSplit ms (later p) (later g) (later k)
+EachSplit (m ∷ ms) p g k = (splits m (newest p) (newest g) (newest k) ≡ true) × EachSplit ms (older p) (older g) (older k)
 
 apart : (p g k : Bool) → (p ≡ (g || k)) × ((g && k) ≡ false) → (implies p (g || k) && implies (g || k) p && not (g && k)) ≡ true
 apart p true true h = let e : true ≡ false = h.1 in cc

@@ -3,17 +3,17 @@ use Rattle.std.proofs.Common.{◌≡◌, ℕ, zero, suc, Bool, true, false, not,
 use Rattle.clf_syntax.specs.declared.tree.Mode.{Mode}
 use Rattle.clf_syntax.specs.declared.tree.Mode.TheVariants.{Persistent, Affine, Linear}
 use Rattle.use_contexts.specs.Holding.{Holding, WellMarked, Uses, without, is_weak, is_persistent, is_linear, all_held}
-use Rattle.use_contexts.specs.Rows.{implies, within, stands, now, later, EachWithin, EachStands, IsPart, Answer, Agrees, taken, is_unused, closed, closed_all, entered}
+use Rattle.use_contexts.specs.Rows.{implies, within, stands, newest, older, EachWithin, EachStands, IsSubholding, Answer, Agrees, taken, is_unused, closed, closed_all, entered}
 use Rattle.use_contexts.specs.Laws.{OfUses, OfNothing, OfScopes}
 use Rattle.use_contexts.proofs.Bits.{at_entry, given, given_2, given_3, and-left, and-right, and-both}
 
 -- ---- holdings as rows of themselves
 -- a holding that fits its modes is a part of itself
-pub IsPart-self : (ms : List Mode) (h : Holding) → WellMarked ms h → IsPart ms h h
-IsPart-self [] [] w = (refl, tt)
-IsPart-self [] (x ∷ h) w = absurd w
-IsPart-self (m ∷ ms) [] w = absurd w
-IsPart-self (m ∷ ms) (x ∷ h) w = let r = IsPart-self ms h w.1 in (ap suc r.0, (own m x w.0, r.1))
+pub IsSubholding-self : (ms : List Mode) (h : Holding) → WellMarked ms h → IsSubholding ms h h
+IsSubholding-self [] [] w = (refl, tt)
+IsSubholding-self [] (x ∷ h) w = absurd w
+IsSubholding-self (m ∷ ms) [] w = absurd w
+IsSubholding-self (m ∷ ms) (x ∷ h) w = let r = IsSubholding-self ms h w.1 in (ap suc r.0, (own m x w.0, r.1))
   where
     own : (m : Mode) (x : Bool) → (is_persistent m ≡ true → x ≡ true) → within m x x ≡ true
     own Persistent x e = let y : x ≡ true = e refl in cc
@@ -23,11 +23,11 @@ IsPart-self (m ∷ ms) (x ∷ h) w = let r = IsPart-self ms h w.1 in (ap suc r.0
     own Linear false e = refl
 
 -- and each part fits the modes too
-pub WellMarked-part : (ms : List Mode) (h p : Holding) → IsPart ms h p → WellMarked ms p
+pub WellMarked-part : (ms : List Mode) (h p : Holding) → IsSubholding ms h p → WellMarked ms p
 WellMarked-part [] h [] w = tt
 WellMarked-part [] h (x ∷ p) w = let e = w.0 in absurd (omega arith)
 WellMarked-part (m ∷ ms) h [] w = let e = w.0 in absurd (omega arith)
-WellMarked-part (m ∷ ms) h (x ∷ p) w = let e = w.0 in (held m (now h) x w.1.0, WellMarked-part ms (later h) p (omega arith, w.1.1))
+WellMarked-part (m ∷ ms) h (x ∷ p) w = let e = w.0 in (held m (newest h) x w.1.0, WellMarked-part ms (older h) p (omega arith, w.1.1))
   where
     held : (m : Mode) (h x : Bool) → within m h x ≡ true → is_persistent m ≡ true → x ≡ true
     held Persistent h x e q = and-right h x e
@@ -38,13 +38,13 @@ WellMarked-part (m ∷ ms) h (x ∷ p) w = let e = w.0 in (held m (now h) x w.1.
 each-free : (ms : List Mode) (h p : Holding) → EachWithin ms h h → EachWithin ms h p → EachStands ms h h true p
 each-free [] h p a w = tt
 each-free (m ∷ ms) h p a w = (
-  given_2 (within m (now h) (now h)) (within m (now h) (now p)) (stands m (now h) (now h) true (now p))
-      (at_entry (λ m h p _ _ _ _ _ _. implies (within m h h) (implies (within m h p) (stands m h h true p))) refl refl refl m (now h) (now p) true true true true true true) a.0 w.0,
-  each-free ms (later h) (later p) a.1 w.1,
+  given_2 (within m (newest h) (newest h)) (within m (newest h) (newest p)) (stands m (newest h) (newest h) true (newest p))
+      (at_entry (λ m h p _ _ _ _ _ _. implies (within m h h) (implies (within m h p) (stands m h h true p))) refl refl refl m (newest h) (newest p) true true true true true true) a.0 w.0,
+  each-free ms (older h) (older p) a.1 w.1,
 )
 
 -- the additive unit: all is left, with slack
-pub unit-agrees : (ms : List Mode) (h : Holding) → IsPart ms h h → Agrees ms h (Some (h, true)) (λ p. Unit {0})
+pub unit-agrees : (ms : List Mode) (h : Holding) → IsSubholding ms h h → Agrees ms h (Some (h, true)) (λ p. Unit {0})
 unit-agrees ms h a = (a, (λ p w x. (w.0, each-free ms h p a.1 w.1)), (λ p w x. tt))
 
 idle_stands : (m : Mode) (h p : Bool) → within m h h ≡ true → within m h p ≡ true → not (is_linear m && p) ≡ true → stands m h h false p ≡ true
@@ -61,15 +61,15 @@ each-idle : (ms : List Mode) (h p : Holding) → length p ≡ length ms → Each
 each-idle [] h p n a w i = tt
 each-idle (m ∷ ms) h [] n a w i = absurd (omega arith)
 each-idle (m ∷ ms) h (x ∷ p) n a w i =
-    (idle_stands m (now h) x a.0 w.0 (and-left (not (is_linear m && x)) (is_weak ms p) i), each-idle ms (later h) p (omega arith) a.1 w.1 (and-right (not (is_linear m && x)) (is_weak ms p) i))
+    (idle_stands m (newest h) x a.0 w.0 (and-left (not (is_linear m && x)) (is_weak ms p) i), each-idle ms (older h) p (omega arith) a.1 w.1 (and-right (not (is_linear m && x)) (is_weak ms p) i))
 
 idle-each : (ms : List Mode) (h p : Holding) → length p ≡ length ms → EachStands ms h h false p → is_weak ms p ≡ true
 idle-each [] h p n s = refl
 idle-each (m ∷ ms) h [] n s = absurd (omega arith)
-idle-each (m ∷ ms) h (x ∷ p) n s = and-both (not (is_linear m && x)) (is_weak ms p) (stands_idle m (now h) x s.0) (idle-each ms (later h) p (omega arith) s.1)
+idle-each (m ∷ ms) h (x ∷ p) n s = and-both (not (is_linear m && x)) (is_weak ms p) (stands_idle m (newest h) x s.0) (idle-each ms (older h) p (omega arith) s.1)
 
 -- what uses nothing, as a constant or the empty tuple: all is left, without slack
-pub idle-agrees : (ms : List Mode) (h : Holding) → IsPart ms h h → Agrees ms h (Some (h, false)) (λ p. is_weak ms p ≡ true)
+pub idle-agrees : (ms : List Mode) (h : Holding) → IsSubholding ms h h → Agrees ms h (Some (h, false)) (λ p. is_weak ms p ≡ true)
 idle-agrees ms h a = (a, (λ p w x. (w.0, each-idle ms h p w.0 a.1 w.1 x)), (λ p w x. idle-each ms h p w.0 x.1))
 
 -- ---- uses of variables
@@ -160,7 +160,7 @@ used-each (m ∷ ms) (suc i) (x ∷ h) (y ∷ p) l n e s =
     (r.0, and-both (not (is_linear m && y)) (is_weak ms (without i p)) (stands_idle m x y s.0) r.1)
 
 -- a variable that is held is used, and all else is left
-pub take-agrees : (ms : List Mode) (h : Holding) (i : ℕ) → IsPart ms h h → slice_get h i ≡ Some true → Agrees ms h (Some (taken ms i h, false)) (λ p. Uses ms p i)
+pub take-agrees : (ms : List Mode) (h : Holding) (i : ℕ) → IsSubholding ms h h → slice_get h i ≡ Some true → Agrees ms h (Some (taken ms i h, false)) (λ p. Uses ms p i)
 take-agrees ms h i a e = (
   (kept_length ms i h ∙ a.0, each-kept ms i h a.1 a.0),
   (λ p w x. (w.0, each-used ms i h p a.0 w.0 a.1 w.1 e x.0 x.1)),
@@ -189,23 +189,23 @@ within_held Persistent = refl
 within_held Affine = refl
 within_held Linear = refl
 
-length-later : (ms : List Mode) (m : Mode) (l : Holding) → length l ≡ length (m ∷ ms) → length (later l) ≡ length ms
+length-later : (ms : List Mode) (m : Mode) (l : Holding) → length l ≡ length (m ∷ ms) → length (older l) ≡ length ms
 length-later ms m [] e = absurd (omega arith)
 length-later ms m (x ∷ l) e = omega arith
 
-closes : (m : Mode) (ms : List Mode) (h l : Holding) (s : Bool) (P : Holding → Type 0) (b : Bool) → is_unused m (now l) s ≡ b
-    → Agrees (m ∷ ms) (true ∷ h) (Some (l, s)) P → Agrees ms h (if b then None else Some (later l, s)) (λ p. P (true ∷ p))
+closes : (m : Mode) (ms : List Mode) (h l : Holding) (s : Bool) (P : Holding → Type 0) (b : Bool) → is_unused m (newest l) s ≡ b
+    → Agrees (m ∷ ms) (true ∷ h) (Some (l, s)) P → Agrees ms h (if b then None else Some (older l, s)) (λ p. P (true ∷ p))
 closes m ms h l s P false e a = (
   (length-later ms m l a.0.0, a.0.1.1),
   (λ p w x. let y = a.1 (true ∷ p) (ap suc w.0, (within_held m, w.1)) x in (w.0, y.1.1)),
-  (λ p w x. a.2 (true ∷ p) (ap suc w.0, (within_held m, w.1)) (ap suc w.0, (unused_stands m (now l) s a.0.1.0 e, x.1))),
+  (λ p w x. a.2 (true ∷ p) (ap suc w.0, (within_held m, w.1)) (ap suc w.0, (unused_stands m (newest l) s a.0.1.0 e, x.1))),
 )
-closes m ms h l s P true e a = λ p w x. stands_unused m (now l) s e (a.1 (true ∷ p) (ap suc w.0, (within_held m, w.1)) x).1.0
+closes m ms h l s P true e a = λ p w x. stands_unused m (newest l) s e (a.1 (true ∷ p) (ap suc w.0, (within_held m, w.1)) x).1.0
 
 -- at the end of the scope of one new entry
 pub scope-agrees : (m : Mode) (ms : List Mode) (h : Holding) (r : Answer) (P : Holding → Type 0) → Agrees (m ∷ ms) (true ∷ h) r P → Agrees ms h (closed m r) (λ p. P (true ∷ p))
 scope-agrees m ms h None P a = λ p w x. a (true ∷ p) (ap suc w.0, (within_held m, w.1)) x
-scope-agrees m ms h (Some r) P a = closes m ms h r.0 r.1 P (is_unused m (now r.0) r.1) refl a
+scope-agrees m ms h (Some r) P a = closes m ms h r.0 r.1 P (is_unused m (newest r.0) r.1) refl a
 
 -- and of several
 pub scopes-agree : (ns ms : List Mode) (h : Holding) (r : Answer) (P : Holding → Type 0) → Agrees (entered ns ms) (all_held ns h) r P → Agrees ms h (closed_all ns r) (λ p. P (all_held ns p))
@@ -214,16 +214,16 @@ scopes-agree (n ∷ ns) ms h r P a = scope-agrees n ms h (closed_all ns r) (λ p
 
 -- ---- the laws
 pub uses-law : OfUses
-uses-law ms h i p m e w = let a = take-agrees ms h i (IsPart-self ms h m) e in ((λ x. a.2 p w x), (λ x. a.1 p w x))
+uses-law ms h i p m e w = let a = take-agrees ms h i (IsSubholding-self ms h m) e in ((λ x. a.2 p w x), (λ x. a.1 p w x))
 
 pub nothing-law : OfNothing
 nothing-law ms h p m w =
-    let self = IsPart-self ms h m in
+    let self = IsSubholding-self ms h m in
     let a = idle-agrees ms h self in
     (((λ x. a.2 p w x), (λ x. a.1 p w x)), (w.0, each-free ms h p self.1 w.1))
 
 pub scopes-law : OfScopes
 scopes-law m ms h l s p a w = (
-  (λ e. ((λ x. (ap suc w.0, (unused_stands m (now l) s a.1.0 e, x.1))), (λ x. (w.0, x.1.1)))),
-  (λ e x. stands_unused m (now l) s e x.1.0),
+  (λ e. ((λ x. (ap suc w.0, (unused_stands m (newest l) s a.1.0 e, x.1))), (λ x. (w.0, x.1.1)))),
+  (λ e x. stands_unused m (newest l) s e x.1.0),
 )

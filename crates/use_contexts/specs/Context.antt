@@ -3,7 +3,7 @@
 use Rattle.std.specs.Prelude.{ℕ, ◌+◌, ◌≡◌, List, [], ◌∷◌, map, Some}
 use Rattle.std.specs.List.{slice_get}
 use Rattle.clf_syntax.specs.declared.tree.Mode.{Mode}
-use Rattle.clf_syntax.specs.TypeTree.{PlainType, Telescope, end, binding}
+use Rattle.clf_syntax.specs.TypeTree.{PlainType, PlainTelescope, end, binding}
 use Rattle.clf_syntax.specs.Renaming.{ren_type, up}
 
 abbrev pub Context : Type 0
@@ -18,11 +18,11 @@ abbrev pub HasVariable : Context → ℕ → PlainType → Type 0
 HasVariable g i a = (m : Mode) × (b : PlainType) × (slice_get g i ≡ Some (m, b)) × (a ≡ ren_type (up (i + 1)) b)
 
 -- the modes of the entries of a telescope, in order
-abbrev pub telescope_modes : Telescope → List Mode
+abbrev pub telescope_modes : PlainTelescope → List Mode
 telescope_modes end = []
 telescope_modes (binding m a s) = m ∷ telescope_modes s
 
 -- a context with the entries of a telescope added, the last one the newest
-abbrev pub with_entries : Telescope → Context → Context
+abbrev pub with_entries : PlainTelescope → Context → Context
 with_entries end g = g
 with_entries (binding m a s) g = with_entries s ((m, a) ∷ g)

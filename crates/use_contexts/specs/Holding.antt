@@ -48,16 +48,16 @@ is_weak [] hs = true
 is_weak (m ∷ ms) [] = true
 
 -- No linear and no affine entry is held.
-abbrev pub is_bare : List Mode → Holding → Bool
-is_bare (m ∷ ms) (h ∷ hs) = not (not (is_persistent m) && h) && is_bare ms hs
-is_bare [] hs = true
-is_bare (m ∷ ms) [] = true
+abbrev pub is_unrestricted : List Mode → Holding → Bool
+is_unrestricted (m ∷ ms) (h ∷ hs) = not (not (is_persistent m) && h) && is_unrestricted ms hs
+is_unrestricted [] hs = true
+is_unrestricted (m ∷ ms) [] = true
 
 -- What an argument of a mode may use: a persistent one nothing linear or affine, an affine one nothing linear, a linear one anything.
-abbrev pub part : Mode → List Mode → Holding → Bool
-part Persistent ms h = is_bare ms h
-part Affine ms h = is_weak ms h
-part Linear ms h = true
+abbrev pub may_use : Mode → List Mode → Holding → Bool
+may_use Persistent ms h = is_unrestricted ms h
+may_use Affine ms h = is_weak ms h
+may_use Linear ms h = true
 
 -- the holding with variable i no longer held
 abbrev pub without : ℕ → Holding → Holding

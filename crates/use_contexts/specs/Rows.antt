@@ -49,25 +49,25 @@ stands Affine h l s p = implies l h && implies p h && implies (h && not l) p
 stands Linear h l s p = implies l h && implies p h && implies (h && not l) p && implies (l && p) s
 
 -- the newest mark, and the marks of the older entries
-abbrev pub now : Holding → Bool
-now [] = false
-now (b ∷ bs) = b
+abbrev pub newest : Holding → Bool
+newest [] = false
+newest (b ∷ bs) = b
 
-abbrev pub later : Holding → Holding
-later [] = []
-later (b ∷ bs) = bs
+abbrev pub older : Holding → Holding
+older [] = []
+older (b ∷ bs) = bs
 
 abbrev pub EachWithin : List Mode → Holding → Holding → Type 0
 EachWithin [] h p = Unit {0}
-EachWithin (m ∷ ms) h p = (within m (now h) (now p) ≡ true) × EachWithin ms (later h) (later p)
+EachWithin (m ∷ ms) h p = (within m (newest h) (newest p) ≡ true) × EachWithin ms (older h) (older p)
 
 abbrev pub EachStands : List Mode → Holding → Holding → Bool → Holding → Type 0
 EachStands [] h l s p = Unit {0}
-EachStands (m ∷ ms) h l s p = (stands m (now h) (now l) s (now p) ≡ true) × EachStands ms (later h) (later l) s (later p)
+EachStands (m ∷ ms) h l s p = (stands m (newest h) (newest l) s (newest p) ≡ true) × EachStands ms (older h) (older l) s (older p)
 
 -- p is a part of the holding h: it has the same entries, and holds none that h does not.
-abbrev pub IsPart : List Mode → Holding → Holding → Type 0
-IsPart ms h p = (length p ≡ length ms) × EachWithin ms h p
+abbrev pub IsSubholding : List Mode → Holding → Holding → Type 0
+IsSubholding ms h p = (length p ≡ length ms) × EachWithin ms h p
 
 -- Stands ms h l s p: p is a part of the holding h that the row l, which is left of h, and the slack s stand for.
 abbrev pub Stands : List Mode → Holding → Holding → Bool → Holding → Type 0
@@ -79,8 +79,8 @@ Answer = Option (Holding × Bool)
 
 -- An answer agrees with a property of the parts of h: without an answer no part has it, and a row stands for exactly the parts that have it.
 abbrev pub Agrees : List Mode → Holding → Answer → (Holding → Type 0) → Type 0
-Agrees ms h None P = (p : Holding) → IsPart ms h p → P p → ⊥
-Agrees ms h (Some a) P = IsPart ms h a.0 × ((p : Holding) → IsPart ms h p → P p → Stands ms h a.0 a.1 p) × ((p : Holding) → IsPart ms h p → Stands ms h a.0 a.1 p → P p)
+Agrees ms h None P = (p : Holding) → IsSubholding ms h p → P p → ⊥
+Agrees ms h (Some a) P = IsSubholding ms h a.0 × ((p : Holding) → IsSubholding ms h p → P p → Stands ms h a.0 a.1 p) × ((p : Holding) → IsSubholding ms h p → Stands ms h a.0 a.1 p → P p)
 
 -- The holding is split between a part with the first property and one with the second.
 abbrev pub Shared : List Mode → (Holding → Type 0) → (Holding → Type 0) → Holding → Type 0
@@ -93,14 +93,14 @@ in_turn None s = None
 in_turn (Some b) s = Some (b.0, s || b.1)
 
 -- the answer of a pair, from those of its parts
-abbrev pub joined_unless : Option ℕ → Holding × Bool → Answer
-joined_unless None a = Some a
-joined_unless (Some i) a = None
+abbrev pub paired_unless : Option ℕ → Holding × Bool → Answer
+paired_unless None a = Some a
+paired_unless (Some i) a = None
 
-abbrev pub joined : List Mode → Answer → Answer → Answer
-joined ms None b = None
-joined ms (Some a) None = None
-joined ms (Some a) (Some b) = joined_unless (newest_difference ms a.0 a.1 b.0 b.1) (left_in_both a.0 b.0, a.1 && b.1)
+abbrev pub paired : List Mode → Answer → Answer → Answer
+paired ms None b = None
+paired ms (Some a) None = None
+paired ms (Some a) (Some b) = paired_unless (newest_difference ms a.0 a.1 b.0 b.1) (left_in_both a.0 b.0, a.1 && b.1)
 
 -- a linear entry is left at the end of its scope, without slack
 abbrev pub is_unused : Mode → Bool → Bool → Bool
@@ -109,7 +109,7 @@ is_unused m l s = is_linear m && l && not s
 -- the answer outside the scope of the newest entry
 abbrev pub closed : Mode → Answer → Answer
 closed m None = None
-closed m (Some a) = if is_unused m (now a.0) a.1 then None else Some (later a.0, a.1)
+closed m (Some a) = if is_unused m (newest a.0) a.1 then None else Some (older a.0, a.1)
 
 -- the answer outside the scope of several entries, the last one the newest
 abbrev pub closed_all : List Mode → Answer → Answer

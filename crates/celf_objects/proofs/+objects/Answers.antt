@@ -1,7 +1,7 @@
 use borrow.Author.Tests.{tests}
 use Rattle.std.proofs.Common.{rules, refl, ap}
 use Rattle.std.proofs.lemmas.List.{map-append}
-use Rattle.celf_surface.specs.Surface.{Steps, Tuple, argument-of, step-of, tuple-One, tuple-List, tuple-Marked, tuple-Bare}
+use Rattle.celf_surface.specs.Surface.{WrittenSteps, WrittenTuple, argument-of, step-of, tuple-One, tuple-List, tuple-Marked, tuple-Bare}
 use Rattle.celf_lexer.specs.declared.token.TokenKind.TheVariants as token
 use Rattle.celf_cursor.specs.Faults.{fault_memory}
 use Rattle.celf_cursor.proofs.Faulty.{passed, refused, expect-missed, close-missed, taken-missed}
@@ -14,7 +14,7 @@ use Rattle.celf_objects.proofs.+objects.Goals as goal
 pub expression::expression_at-returns-clause-read : goal.expression::expression_at-returns-clause-read
 expression::expression_at-returns-clause-read t c =
     expression-read c.in_ok-steps.ensures.read c.in_ok-steps.ensures.ends c.in_ok-tuple.ensures.read
-    (ap (λ (e : Steps × Tuple). e.0) c.expression.ensures) (ap (λ (e : Steps × Tuple). e.1) c.expression.ensures)
+    (ap (λ (e : WrittenSteps × WrittenTuple). e.0) c.expression.ensures) (ap (λ (e : WrittenSteps × WrittenTuple). e.1) c.expression.ensures)
 
 pub arguments::arguments_at-loop-alloc-init : goal.arguments::arguments_at-loop-alloc-init
 arguments::arguments_at-loop-alloc-init t c = search (tests, rules, arguments_none-read)

@@ -2,7 +2,7 @@ use Rattle.std.proofs.Common.{ap, sym, ◌∙◌}
 use Rattle.std.specs.Prelude.{map, option_copied, option_map}
 use Rattle.clf_syntax.specs.Plain.{plain_elim}
 use Rattle.clf_sig.specs.Signature.{plain_signature}
-use Rattle.celf_sugar.specs.Plain.{plain_elim as written_elim}
+use Rattle.celf_sugar.specs.Plain.{desugared_elim as written_elim}
 use Rattle.celf_explicit.specs.Locals.{plain_place, plain_locals}
 use Rattle.celf_explicit.specs.Reading.{read_act}
 use Rattle.celf_explicit.specs.ReadingLists.{read_acts}

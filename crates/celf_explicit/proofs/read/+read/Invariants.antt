@@ -3,7 +3,7 @@ use Rattle.std.proofs.Common.{◌≡◌, map, drop}
 use Rattle.std.specs.Prelude.{option_copied}
 use Rattle.clf_syntax.specs.Plain.{plain_elim}
 use Rattle.clf_sig.specs.Signature.{plain_signature}
-use Rattle.celf_sugar.specs.Plain.{plain_elim as written_elim}
+use Rattle.celf_sugar.specs.Plain.{desugared_elim as written_elim}
 use Rattle.celf_explicit.specs.Locals.{plain_place, plain_locals}
 use Rattle.celf_explicit.specs.ReadingLists.{read_acts, with_more}
 use Rattle.celf_explicit.proofs.read.+read.Given as goal

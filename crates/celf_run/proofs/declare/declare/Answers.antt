@@ -1,7 +1,7 @@
 use Rattle.std.proofs.Common.{◌≡◌, ◌≢◌, ◌++◌, ◌∷◌, [], List, ℕ, false, length, None, Some, subst}
 use Rattle.clf_sig.specs.Entry.{place_of}
 use Rattle.clf_sig.specs.Signature.{plain_signature, plain_entry}
-use Rattle.celf_sugar.specs.Plain.{plain_item, class_of}
+use Rattle.celf_sugar.specs.Plain.{desugared_item, class_of}
 use Rattle.celf_explicit.specs.Unknown.{first_unknown}
 use Rattle.celf_explicit.specs.Entries.{read_entry}
 use Rattle.celf_reading.proofs.Bare.{read_entry-bare}
@@ -17,18 +17,18 @@ use Rattle.celf_run.proofs.declare.declare.Goals as goal
 
 pub accepted-requires-clause-new : goal.accepted-requires-clause-new
 accepted-requires-clause-new c =
-    let P : Declaration → Type 0 = ComesOf (plain_signature c.args.sig.now) (plain_item c.args.plain.now) c.args.name.now c.args.implicit (class_of c.args.class.now) in
+    let P : Declaration → Type 0 = ComesOf (plain_signature c.args.sig.now) (desugared_item c.args.plain.now) c.args.name.now c.args.implicit (class_of c.args.class.now) in
     (subst P c.in-Accepted.is c.in_ok-answered.ensures).0
 
 pub accepted-requires-clause-entry : goal.accepted-requires-clause-entry
 accepted-requires-clause-entry c =
-    let P : Declaration → Type 0 = ComesOf (plain_signature c.args.sig.now) (plain_item c.args.plain.now) c.args.name.now c.args.implicit (class_of c.args.class.now) in
+    let P : Declaration → Type 0 = ComesOf (plain_signature c.args.sig.now) (desugared_item c.args.plain.now) c.args.name.now c.args.implicit (class_of c.args.class.now) in
     read_entry-bare (plain_signature c.args.sig.now) c.args.implicit (class_of c.args.class.now) (plain_entry c.in-Accepted.entry) c.requires.bare (subst P c.in-Accepted.is c.in_ok-answered.ensures).3
 
 pub returns-in-Accepted-clause-answered : goal.returns-in-Accepted-clause-answered
 returns-in-Accepted-clause-answered c =
     let sig = plain_signature c.args.sig.now in
-    let item = plain_item c.args.plain.now in
+    let item = desugared_item c.args.plain.now in
     let name = c.args.name.now in
     let class = class_of c.args.class.now in
     let entry = plain_entry c.in-Accepted.entry in

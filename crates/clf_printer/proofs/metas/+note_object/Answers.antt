@@ -3,7 +3,7 @@ use Rattle.std.proofs.lemmas.List.{at_drop_all}
 use Rattle.std.proofs.lemmas.Result.{on_ok_weaker}
 use Rattle.clf_syntax.specs.declared.tree.Expr.{out-Expr}
 use Rattle.clf_syntax.specs.Plain.{plain_obj, plain_elim, plain_expr, plain_neutral, plain_step, plain_entry, plain-Lam, plain-Pair, plain-Unit, plain-Mon, plain-At, plain-Hole, plain-Arg, plain-First, plain-Second, plain-expr, plain-neutral}
-use Rattle.clf_syntax.specs.Tree.{lam, pair, unit, monadic, atomic, hole, arg, first, second, bare, done, steps_on, tuple_of}
+use Rattle.clf_syntax.specs.Tree.{lam, pair, unit, monadic, atomic, hole, arg, first, second, head_alone, done, steps_on, tuple_of}
 use Rattle.clf_printer.specs.Metas.{appearing, appearing_head, appearing_neutral, appearing_spine, appearing_expression, appearing_tuple}
 use Rattle.clf_printer.proofs.Lists.{dropped}
 use Rattle.clf_printer.proofs.Appearances.{appearing-spine}
@@ -79,7 +79,7 @@ note_neutral-returns t c =
     (λ e. e
     ∙ ap (λ m. appearing_spine m (map plain_elim c.as_slice.result.now)) c.in_ok-note_head.ensures
     ∙ ap (λ acts. appearing_spine (appearing_head metas neutral.head) (map plain_elim acts)) c.as_slice.ensures
-    ∙ sym (ap (λ n. appearing_neutral metas n) (plain-neutral neutral) ∙ appearing-spine metas (map plain_elim neutral.spine) (bare neutral.head)))
+    ∙ sym (ap (λ n. appearing_neutral metas n) (plain-neutral neutral) ∙ appearing-spine metas (map plain_elim neutral.spine) (head_alone neutral.head)))
     c.note_spine.ensures
 
 pub note_elimination-returns-in-Arg : goal.note_elimination-returns-in-Arg

@@ -4,7 +4,7 @@ use Rattle.std.proofs.lemmas.List.{take_all, at_drop_all}
 use Rattle.clf_syntax.specs.declared.tree.Mode.TheVariants.{Persistent, Affine, Linear}
 use Rattle.clf_syntax.specs.declared.tree.Expr.{out-Expr}
 use Rattle.clf_syntax.specs.Plain.{plain_obj, plain_elim, plain_expr, plain_neutral, plain_step, plain_entry, plain-Lam, plain-Pair, plain-Unit, plain-Mon, plain-At, plain-Hole, plain-Arg, plain-First, plain-Second, plain-expr, plain-entry, plain-step-modes, plain-step-rhs}
-use Rattle.clf_syntax.specs.Tree.{lam, pair, unit, monadic, atomic, hole, arg, first, second, bare, spine_on, steps_on, done, tuple_of}
+use Rattle.clf_syntax.specs.Tree.{lam, pair, unit, monadic, atomic, hole, arg, first, second, head_alone, spine_on, steps_on, done, tuple_of}
 use Rattle.clf_sig.specs.Signature.{plain_signature}
 use Rattle.clf_printer.specs.Text.{when, grouped, is_application, is_atom, listed, mark_text, binder_text, pattern_text, object_text, neutral_text, expression_text, tuple_text}
 use Rattle.clf_printer.specs.Spine.{elimination_text, back_text}
@@ -22,7 +22,7 @@ push_back-loop-act-preserved t c h =
     let lt : i < length spine = omega arith in
     let known = c.loop-act.invariant h in
     let more = longer spine i (i + 1) act h (omega arith) lt c.act-item.is in (
-      c.is_argument-applied.ensures ∙ sym (ap is_application more ∙ is_application-eliminated (plain_elim act) (spine_on (map plain_elim (take i spine)) (bare h))),
+      c.is_argument-applied.ensures ∙ sym (ap is_application more ∙ is_application-eliminated (plain_elim act) (spine_on (map plain_elim (take i spine)) (head_alone h))),
       elimination-appended (plain_signature c.args.sig.now) c.args.metas.now c.args.level spine i act c.loop-act.applied c.args.out.now.items c.loop-act.out.items c.push_elimination.new.out.items h
           lt c.act-item.is known.0 known.1 c.in_ok-push_elimination.ensures,
     )
@@ -199,7 +199,7 @@ push_back-returns t c h =
     let i = c.loop-act.act-index in
     let ended : length spine ≤ i = omega arith in
     (c.loop-act.invariant h).1
-    ∙ ap (λ acts. c.args.out.now.items ++ back_text (plain_signature c.args.sig.now) c.args.metas.now c.args.level (spine_on (map plain_elim acts) (bare h))) (take_all i spine ended)
+    ∙ ap (λ acts. c.args.out.now.items ++ back_text (plain_signature c.args.sig.now) c.args.metas.now c.args.level (spine_on (map plain_elim acts) (head_alone h))) (take_all i spine ended)
 
 pub push_elimination-returns-in-First : goal.push_elimination-returns-in-First
 push_elimination-returns-in-First t c =

@@ -1,6 +1,6 @@
 use Rattle.std.proofs.Common.{◌-◌, ◌∙◌, sym, ap, arith, map, take}
 use Rattle.clf_syntax.specs.Plain.{plain_elim}
-use Rattle.clf_syntax.specs.Tree.{bare, spine_on}
+use Rattle.clf_syntax.specs.Tree.{head_alone, spine_on}
 use Rattle.clf_printer.specs.Text.{is_application}
 use Rattle.clf_printer.proofs.Spines.{longer, is_application-eliminated}
 use Rattle.clf_printer.proofs.objects.is_applied.Goals as goal
@@ -11,4 +11,4 @@ returns-then-end-gt0 c h =
     let act = c.index-spine-end.result in
     let spine = c.args.spine.now in
     let more = longer spine i c.args.end act h (omega (arith, c.if-end-gt0.true)) (omega (arith, c.requires, c.if-end-gt0.true)) c.index-spine-end.is in
-    c.is_argument.ensures ∙ sym (ap is_application more ∙ is_application-eliminated (plain_elim act) (spine_on (map plain_elim (take i spine)) (bare h)))
+    c.is_argument.ensures ∙ sym (ap is_application more ∙ is_application-eliminated (plain_elim act) (spine_on (map plain_elim (take i spine)) (head_alone h)))
