@@ -1,5 +1,5 @@
 -- Where both sides are simply typed, a substitution has a result, and the result is typed.
-use Rattle.std.specs.Prelude.{ℕ, Bool, true, false, zero, suc, ◌+◌, ◌-◌, ◌≡◌, ◌<◌, ◌≤◌, ◌⊎◌, List, [], ◌∷◌, ◌++◌, length, Option, Some, refl}
+use Rattle.std.specs.Prelude.{ℕ, Bool, true, false, zero, suc, ◌+◌, ◌-◌, ◌≡◌, ◌<◌, ◌≤◌, ◌⊎◌, List, [], ◌∷◌, ◌++◌, length, Some, refl}
 use Rattle.std.proofs.Common.{ap, sym, subst, ◌∙◌, arith, inl, inr, ⊎_elim, add-one}
 use Rattle.clf_syntax.specs.declared.tree.Mode.{Mode}
 use Rattle.clf_syntax.specs.declared.tree.Head.{Head}
@@ -10,26 +10,27 @@ use Rattle.clf_syntax.specs.Simple.{Assignment, extended, extended_by, simple_mo
 use Rattle.clf_syntax.specs.Renaming.{Renumbering, lifted, ren_head, ren, ren_expression, up}
 use Rattle.clf_syntax.proofs.RenamingLaws.{cut}
 use Rattle.hered_subst.specs.Substitution.{Image, keep, put, Environment, ren_image, under, among, putting, single, objects, Substituted, through_lam, through_pair, through_unit, through_monadic, through_kept, through_value, KeepsHead, kept_bare, kept_app, kept_fst, kept_snd, HasValue, value_bare, value_app, value_fst, value_snd, SubstitutedExpression, through_done, step_kept, step_value, step_meta, Flattened, flat_step, flat_done, SubstitutedTuple, through_empty, through_entry}
+use Rattle.hered_subst.specs.TypedEnvironments.{is_metavariable}
 use Rattle.hered_subst.proofs.Renamed.{under_in, single_out}
 use Rattle.hered_subst.proofs.SimpleTyping.{Typed, typed_lam, typed_pair, typed_unit, typed_monadic, typed_metavariable, typed_atomic, TypedNeutral, typed_bare, typed_app, typed_fst, typed_snd, TypedExpression, typed_step, typed_done, TypedTuple, typed_empty, typed_entry, rank, ranks, under_under, under_zero, under_next, suited_all, extended_out, renamed_typed, renamed_typed_expression, among_there, among_first, among_past, tuple_length}
 
-abbrev pub is_metavariable : Head → Bool
-is_metavariable (Const c) = false
-is_metavariable (Var i) = false
-is_metavariable (Meta m) = true
-
-the_type : {t u : SimpleType} → Some t ≡ Some u → t ≡ u
+pub the_type : {t u : SimpleType} → Some t ≡ Some u → t ≡ u
 the_type e = cc
 
--- a head is kept at its type, or an object of its type is put, of at most the rank
-abbrev pub Suits : Bool → ℕ → Assignment → Option SimpleType → Head → Image → Type 0
-Suits w k z t h i = ((j : Head) × (i ≡ keep j) × (z j ≡ t) × (is_metavariable j ≡ is_metavariable h)) ⊎ ((n : PlainObject) × (u : SimpleType) × (i ≡ put n) × (t ≡ Some u) × Typed w z n u × (rank u ≤ k))
+-- a rank that is at most its own, at an equal type
+pub at_most : {t u : SimpleType} → t ≡ u → rank u ≤ rank t
+at_most {t} e = subst (λ v. rank v ≤ rank t) e (omega arith)
 
-abbrev pub TypedEnvironment : Bool → ℕ → Assignment → Assignment → Environment → Type 0
-TypedEnvironment w k g z s = (h : Head) → Suits w k z (g h) h (s h)
+-- a head is kept at its type, or an object of its type is put, of at most the rank
+abbrev pub Suits : Bool → ℕ → Assignment → SimpleType → Head → Image → Type 0
+Suits w k z u h i = ((j : Head) × (i ≡ keep j) × (z j ≡ Some u) × (is_metavariable j ≡ is_metavariable h)) ⊎ ((n : PlainObject) × (i ≡ put n) × Typed w z n u × (rank u ≤ k))
+
+-- so it is at each head that has a type: a typed environment with ranks, by which the proof goes down
+abbrev pub RankedEnvironment : Bool → ℕ → Assignment → Assignment → Environment → Type 0
+RankedEnvironment w k g z s = (h : Head) (u : SimpleType) → g h ≡ Some u → Suits w k z u h (s h)
 
 abbrev pub IsTotal : Bool → ℕ → Type 0
-IsTotal w k = (g z : Assignment) (s : Environment) → TypedEnvironment w k g z s
+IsTotal w k = (g z : Assignment) (s : Environment) → RankedEnvironment w k g z s
     → ((o : PlainObject) (t : SimpleType) → Typed w g o t → (x : PlainObject) × Substituted s o x × Typed w z x t) × ((e : PlainExpression) (ts : SimpleTelescope) → TypedExpression w g e ts → (x : PlainExpression) × SubstitutedExpression s e x × TypedExpression w z x ts)
 
 pub raised_types : (d : SimpleType) (z : Assignment) (h : Head) → extended d z (ren_head (up 1) h) ≡ z h
@@ -42,26 +43,26 @@ same_kind r (Const c) = refl
 same_kind r (Var i) = refl
 same_kind r (Meta m) = refl
 
-raised_suits : (w : Bool) (k : ℕ) (d : SimpleType) (z : Assignment) (t : Option SimpleType) (h : Head) (i : Image) → Suits w k z t h i → Suits w k (extended d z) t h (ren_image (up 1) i)
-raised_suits w k d z t h i c = ⊎_elim
+raised_suits : (w : Bool) (k : ℕ) (d : SimpleType) (z : Assignment) (u : SimpleType) (h : Head) (i : Image) → Suits w k z u h i → Suits w k (extended d z) u h (ren_image (up 1) i)
+raised_suits w k d z u h i c = ⊎_elim
     (λ a. inl (ren_head (up 1) a.0, ap (ren_image (up 1)) a.1, raised_types d z a.0 ∙ a.2, same_kind (up 1) a.0 ∙ a.3))
-    (λ a. inr (ren (up 1) a.0, a.1, ap (ren_image (up 1)) a.2, a.3, renamed_typed (extended d z) (up 1) a.4 (raised_types d z), a.5)) c
+    (λ a. inr (ren (up 1) a.0, ap (ren_image (up 1)) a.1, renamed_typed (extended d z) (up 1) a.2 (raised_types d z), a.3)) c
 
-pub env_bound : (w : Bool) (k : ℕ) (d : SimpleType) (g z : Assignment) (s : Environment) → TypedEnvironment w k g z s → TypedEnvironment w k (extended d g) (extended d z) (under 1 s)
-env_bound w k d g z s f (Const c) = raised_suits w k d z (g (Const c)) (Const c) (s (Const c)) (f (Const c))
-env_bound w k d g z s f (Meta m) = raised_suits w k d z (g (Meta m)) (Meta m) (s (Meta m)) (f (Meta m))
-env_bound w k d g z s f (Var zero) = inl (Var 0, under_in 1 s 0 (omega arith), refl, refl)
-env_bound w k d g z s f (Var (suc i)) = subst (Suits w k (extended d z) (g (Var i)) (Var i)) (sym (under_next s i)) (raised_suits w k d z (g (Var i)) (Var i) (s (Var i)) (f (Var i)))
+pub env_bound : (w : Bool) (k : ℕ) (d : SimpleType) (g z : Assignment) (s : Environment) → RankedEnvironment w k g z s → RankedEnvironment w k (extended d g) (extended d z) (under 1 s)
+env_bound w k d g z s f (Const c) u e = raised_suits w k d z u (Const c) (s (Const c)) (f (Const c) u e)
+env_bound w k d g z s f (Meta m) u e = raised_suits w k d z u (Meta m) (s (Meta m)) (f (Meta m) u e)
+env_bound w k d g z s f (Var zero) u e = inl (Var 0, under_in 1 s 0 (omega arith), e, refl)
+env_bound w k d g z s f (Var (suc i)) u e = subst (Suits w k (extended d z) u (Var i)) (sym (under_next s i)) (raised_suits w k d z u (Var i) (s (Var i)) (f (Var i) u e))
 
-pub env_bounds : (w : Bool) (k : ℕ) (ts : SimpleTelescope) (g z : Assignment) (s : Environment) → TypedEnvironment w k g z s → TypedEnvironment w k (extended_by ts g) (extended_by ts z) (under (length (simple_modes ts)) s)
-env_bounds w k simple_end g z s f = subst (TypedEnvironment w k g z) (sym (under_zero s)) f
-env_bounds w k (simple_binding m t ts) g z s f = subst (TypedEnvironment w k (extended_by ts (extended t g)) (extended_by ts (extended t z))) (under_under (length (simple_modes ts)) s) (env_bounds w k ts (extended t g) (extended t z) (under 1 s) (env_bound w k t g z s f))
+pub env_bounds : (w : Bool) (k : ℕ) (ts : SimpleTelescope) (g z : Assignment) (s : Environment) → RankedEnvironment w k g z s → RankedEnvironment w k (extended_by ts g) (extended_by ts z) (under (length (simple_modes ts)) s)
+env_bounds w k simple_end g z s f = subst (RankedEnvironment w k g z) (sym (under_zero s)) f
+env_bounds w k (simple_binding m t ts) g z s f = subst (RankedEnvironment w k (extended_by ts (extended t g)) (extended_by ts (extended t z))) (under_under (length (simple_modes ts)) s) (env_bounds w k ts (extended t g) (extended t z) (under 1 s) (env_bound w k t g z s f))
 
-pub single_env : (w : Bool) (d : SimpleType) (z : Assignment) (y : PlainObject) → Typed w z y d → TypedEnvironment w (rank d) (extended d z) z (single y 0)
-single_env w d z y p (Const c) = inl (Const c, refl, refl, refl)
-single_env w d z y p (Meta m) = inl (Meta m, refl, refl, refl)
-single_env w d z y p (Var zero) = inr (y, d, refl, refl, p, omega arith)
-single_env w d z y p (Var (suc i)) = inl (Var i, ap (λ j. single y 0 (Var j)) (sym (add-one i)) ∙ single_out y i, refl, refl)
+pub single_env : (w : Bool) (d : SimpleType) (z : Assignment) (y : PlainObject) → Typed w z y d → RankedEnvironment w (rank d) (extended d z) z (single y 0)
+single_env w d z y p (Const c) u e = inl (Const c, refl, e, refl)
+single_env w d z y p (Meta m) u e = inl (Meta m, refl, e, refl)
+single_env w d z y p (Var zero) u e = inr (y, refl, subst (λ v. Typed w z y v) (the_type e) p, at_most (the_type e))
+single_env w d z y p (Var (suc i)) u e = inl (Var i, ap (λ j. single y 0 (Var j)) (sym (add-one i)) ∙ single_out y i, e, refl)
 
 -- a typed tuple, put for the newest variables
 pub tuple_env : (w : Bool) {g : Assignment} {t : PlainTuple} {ts : SimpleTelescope} → TypedTuple w g t ts → (z : Assignment) (i : ℕ) → i < length (simple_modes ts)
@@ -104,24 +105,32 @@ pub extended_metavariable : (ts : SimpleTelescope) (g : Assignment) (c : ℕ) �
 extended_metavariable simple_end g c = refl
 extended_metavariable (simple_binding m t ts) g c = extended_metavariable ts (extended t g) c
 
-pub putting_env : (w : Bool) (ts : SimpleTelescope) (z : Assignment) (t : PlainTuple) → TypedTuple w z t ts → TypedEnvironment w (ranks ts) (extended_by ts z) z (putting (objects t))
-putting_env w ts z t p (Const c) = inl (Const c, refl, sym (extended_constant ts z c), refl)
-putting_env w ts z t p (Meta m) = inl (Meta m, refl, sym (extended_metavariable ts z m), refl)
-putting_env w ts z t p (Var i) = ⊎_elim (λ h. inr (tuple_env w p z i h)) (λ h. subst (λ j. Suits w (ranks ts) z (extended_by ts z (Var j)) (Var j) (among (objects t) j)) (back h) far) (cut i (length (simple_modes ts)))
+pub putting_env : (w : Bool) (ts : SimpleTelescope) (z : Assignment) (t : PlainTuple) → TypedTuple w z t ts → RankedEnvironment w (ranks ts) (extended_by ts z) z (putting (objects t))
+putting_env w ts z t p (Const c) u e = inl (Const c, refl, sym (extended_constant ts z c) ∙ e, refl)
+putting_env w ts z t p (Meta m) u e = inl (Meta m, refl, sym (extended_metavariable ts z m) ∙ e, refl)
+putting_env w ts z t p (Var i) u e = ⊎_elim (λ h. new (tuple_env w p z i h)) (λ h. far h) (cut i (length (simple_modes ts)))
   where
+    new : (n : PlainObject) × (v : SimpleType) × (among (objects t) i ≡ put n) × (extended_by ts z (Var i) ≡ Some v) × Typed w z n v × (rank v ≤ ranks ts) → Suits w (ranks ts) z u (Var i) (among (objects t) i)
+    new a = let q : a.1 ≡ u = the_type (sym a.3 ∙ e) in inr (a.0, a.2, subst (λ v. Typed w z a.0 v) q a.4, subst (λ v. rank v ≤ ranks ts) q a.5)
+
     back : length (simple_modes ts) ≤ i → i - length (simple_modes ts) + length (simple_modes ts) ≡ i
     back h = omega arith
 
-    far : Suits w (ranks ts) z (extended_by ts z (Var (i - length (simple_modes ts) + length (simple_modes ts)))) (Var (i - length (simple_modes ts) + length (simple_modes ts))) (among (objects t) (i - length (simple_modes ts) + length (simple_modes ts)))
-    far = inl (Var (i - length (simple_modes ts)), ap (λ n. among (objects t) (i - length (simple_modes ts) + n)) (sym (tuple_length p)) ∙ among_past (objects t) (i - length (simple_modes ts)), sym (extended_out ts z (i - length (simple_modes ts))), refl)
+    far : length (simple_modes ts) ≤ i → Suits w (ranks ts) z u (Var i) (among (objects t) i)
+    far h = inl (
+      Var (i - length (simple_modes ts)),
+      ap (among (objects t)) (sym (back h)) ∙ ap (λ n. among (objects t) (i - length (simple_modes ts) + n)) (sym (tuple_length p)) ∙ among_past (objects t) (i - length (simple_modes ts)),
+      sym (extended_out ts z (i - length (simple_modes ts))) ∙ ap (λ j. extended_by ts z (Var j)) (back h) ∙ e,
+      refl,
+    )
 
 pub raised_all : (ts : SimpleTelescope) (z : Assignment) (h : Head) → extended_by ts z (ren_head (up (length (simple_modes ts))) h) ≡ z h
 raised_all ts z (Const c) = extended_constant ts z c
 raised_all ts z (Var i) = extended_out ts z i
 raised_all ts z (Meta m) = extended_metavariable ts z m
 
-pub kept_kind : (w : Bool) (k : ℕ) {g z : Assignment} {s : Environment} {n x : PlainNeutral} → TypedEnvironment w k g z s → KeepsHead s n x → is_metavariable (head_of x) ≡ is_metavariable (head_of n)
-kept_kind w k f (kept_bare {h = h} e) = ⊎_elim (λ a. first_case (sym e ∙ a.1) a.3) (λ a. absurd (second_case (sym e ∙ a.2))) (f h)
+pub kept_kind : (w : Bool) (k : ℕ) {g z : Assignment} {s : Environment} {n x : PlainNeutral} {t : SimpleType} → TypedNeutral w g n t → RankedEnvironment w k g z s → KeepsHead s n x → is_metavariable (head_of x) ≡ is_metavariable (head_of n)
+kept_kind w k (typed_bare {h = h} {t = t} q) f (kept_bare e) = ⊎_elim (λ a. first_case (sym e ∙ a.1) a.3) (λ a. absurd (second_case (sym e ∙ a.1))) (f h t q)
   where
     first_case : {i j : Head} → keep i ≡ keep j → is_metavariable j ≡ is_metavariable h → is_metavariable i ≡ is_metavariable h
     first_case e p = ap is_metavariable (same e) ∙ p
@@ -131,9 +140,9 @@ kept_kind w k f (kept_bare {h = h} e) = ⊎_elim (λ a. first_case (sym e ∙ a.
 
     second_case : {i : Head} {n : PlainObject} → keep i ≡ put n → ⊥
     second_case e = cc
-kept_kind w k f (kept_app p q) = kept_kind w k f p
-kept_kind w k f (kept_fst p) = kept_kind w k f p
-kept_kind w k f (kept_snd p) = kept_kind w k f p
+kept_kind w k (typed_app t u) f (kept_app p q) = kept_kind w k t f p
+kept_kind w k (typed_fst t) f (kept_fst p) = kept_kind w k t f p
+kept_kind w k (typed_snd t) f (kept_snd p) = kept_kind w k t f p
 
 pub meta_of : (h : Head) → is_metavariable h ≡ true → (m : ℕ) × (h ≡ Meta m)
 meta_of (Const c) e = absurd (cc)
@@ -169,34 +178,32 @@ module _ (w : Bool) (k : ℕ) (again : (j : ℕ) → j < k → IsTotal w j) wher
   parts s z x v (typed_pair {l = l} {r = r} p q) h = ((l, value_fst v, p, omega arith), (r, value_snd v, q, omega arith))
 
   mutual
-    total : (z : Assignment) (s : Environment) {g : Assignment} {o : PlainObject} {t : SimpleType} → Typed w g o t → TypedEnvironment w k g z s → (x : PlainObject) × Substituted s o x × Typed w z x t
+    total : (z : Assignment) (s : Environment) {g : Assignment} {o : PlainObject} {t : SimpleType} → Typed w g o t → RankedEnvironment w k g z s → (x : PlainObject) × Substituted s o x × Typed w z x t
     total z s (typed_lam {g = g} {m = m} {d = d} p) f = let (x, a, b) = total (extended d z) (under 1 s) p (env_bound w k d g z s f) in (lam m x, through_lam a, typed_lam b)
     total z s (typed_pair p q) f = let (x, a, b) = total z s p f in let (y, c, d) = total z s q f in (pair x y, through_pair a c, typed_pair b d)
     total z s typed_unit f = (unit, through_unit, typed_unit)
     total z s (typed_monadic p) f = let (x, a, b) = total_expression z s p f in (monadic x, through_monadic a, typed_monadic b)
     total z s (typed_atomic p) f = ⊎_elim (λ u. (atomic u.0, through_kept u.1, typed_atomic u.2)) (λ u. (u.0, through_value u.1, u.2)) (total_neutral z s p f)
     total z s (typed_metavariable {n = n} j p e) f = ⊎_elim
-        (λ u. let (m, i) = meta_of (head_of u.0) (kept_kind w k f u.1 ∙ ap is_metavariable e) in (atomic u.0, through_kept u.1, typed_metavariable j u.2 i))
+        (λ u. let (m, i) = meta_of (head_of u.0) (kept_kind w k p f u.1 ∙ ap is_metavariable e) in (atomic u.0, through_kept u.1, typed_metavariable j u.2 i))
         (λ u. (u.0, through_value u.1, u.2)) (total_neutral z s p f)
 
-    pub total_neutral : (z : Assignment) (s : Environment) {g : Assignment} {n : PlainNeutral} {t : SimpleType} → TypedNeutral w g n t → TypedEnvironment w k g z s → ((x : PlainNeutral) × KeepsHead s n x × TypedNeutral w z x t) ⊎ ((x : PlainObject) × HasValue s n x × Typed w z x t × (rank t ≤ k))
-    total_neutral z s (typed_bare {h = h} {t = t} e) f = ⊎_elim (λ u. inl (head_alone u.0, kept_bare u.1, typed_bare u.2))
-        (λ u. inr (u.0, value_bare u.2, subst (λ v. Typed w z u.0 v) (sym (the_type u.3)) u.4, subst (λ v. rank v ≤ k) (sym (the_type u.3)) u.5))
-        (subst (λ v. Suits w k z v h (s h)) e (f h))
+    pub total_neutral : (z : Assignment) (s : Environment) {g : Assignment} {n : PlainNeutral} {t : SimpleType} → TypedNeutral w g n t → RankedEnvironment w k g z s → ((x : PlainNeutral) × KeepsHead s n x × TypedNeutral w z x t) ⊎ ((x : PlainObject) × HasValue s n x × Typed w z x t × (rank t ≤ k))
+    total_neutral z s (typed_bare {h = h} {t = t} e) f = ⊎_elim (λ u. inl (head_alone u.0, kept_bare u.1, typed_bare u.2)) (λ u. inr (u.0, value_bare u.1, u.2, u.3)) (f h t e)
     total_neutral z s (typed_app {m = m} {d = d} {c = c} p q) f = let (y, a, b) = total z s q f in ⊎_elim (λ u. inl (app m u.0 y, kept_app u.1 a, typed_app u.2 b)) (λ u. inr (applied s z u.0 u.1 u.2 u.3 y a b)) (total_neutral z s p f)
     total_neutral z s (typed_fst p) f = ⊎_elim (λ u. inl (fst u.0, kept_fst u.1, typed_fst u.2)) (λ u. inr ((parts s z u.0 u.1 u.2 u.3).0)) (total_neutral z s p f)
     total_neutral z s (typed_snd p) f = ⊎_elim (λ u. inl (snd u.0, kept_snd u.1, typed_snd u.2)) (λ u. inr ((parts s z u.0 u.1 u.2 u.3).1)) (total_neutral z s p f)
 
-    total_expression : (z : Assignment) (s : Environment) {g : Assignment} {e : PlainExpression} {us : SimpleTelescope} → TypedExpression w g e us → TypedEnvironment w k g z s → (x : PlainExpression) × SubstitutedExpression s e x × TypedExpression w z x us
+    total_expression : (z : Assignment) (s : Environment) {g : Assignment} {e : PlainExpression} {us : SimpleTelescope} → TypedExpression w g e us → RankedEnvironment w k g z s → (x : PlainExpression) × SubstitutedExpression s e x × TypedExpression w z x us
     total_expression z s {g = g} (typed_step {ms = ms} {r = n} {e = e} {ts = ts} {us = us} p m q) f =
-        let (x, a, b) = total_expression (extended_by ts z) (under (length ms) s) q (subst (λ i. TypedEnvironment w k (extended_by ts g) (extended_by ts z) (under i s)) (sym (ap length m)) (env_bounds w k ts g z s f)) in
+        let (x, a, b) = total_expression (extended_by ts z) (under (length ms) s) q (subst (λ i. RankedEnvironment w k (extended_by ts g) (extended_by ts z) (under i s)) (sym (ap length m)) (env_bounds w k ts g z s f)) in
         ⊎_elim (λ u. (step ms u.0 x, step_kept u.1 a, typed_step u.2 m b)) (λ u. step_total s u.2 (within u.3) ms m n u.1 e x us a b) (total_neutral z s p f)
       where
         within : 1 + ranks ts ≤ k → ranks ts < k
         within h = omega arith
     total_expression z s (typed_done p) f = let (x, a, b) = total_tuple z s p f in (done x, through_done a, typed_done b)
 
-    total_tuple : (z : Assignment) (s : Environment) {g : Assignment} {t : PlainTuple} {ts : SimpleTelescope} → TypedTuple w g t ts → TypedEnvironment w k g z s → (x : PlainTuple) × SubstitutedTuple s t x × TypedTuple w z x ts
+    total_tuple : (z : Assignment) (s : Environment) {g : Assignment} {t : PlainTuple} {ts : SimpleTelescope} → TypedTuple w g t ts → RankedEnvironment w k g z s → (x : PlainTuple) × SubstitutedTuple s t x × TypedTuple w z x ts
     total_tuple z s typed_empty f = (empty, through_empty, typed_empty)
     total_tuple z s (typed_entry {m = m} p q) f = let (x, a, b) = total z s p f in let (y, c, d) = total_tuple z s q f in (entry m x y, through_entry a c, typed_entry b d)
 
