@@ -83,12 +83,12 @@ module _ (sig : PlainSignature) (metas : List ℕ) (formed : IsBareSignature sig
     neutral-spelled : (r : PlainNeutral) (g : Context) (h : Holding) (t : PlainType) → length g + neutral_depth r < 2 ^ 64 → AreBareEntries g → Synthesizes sig g h r t → NeutralSpelled g r t
     neutral-spelled (head_alone x) g h t small known p = head-spelled g h x t (omega arith) known p
     neutral-spelled (app m r n) g h t small known p =
-        let a : PlainType = p.0 in
-        let c : PlainType = p.1 in
-        let q = neutral-spelled r g p.2 (function m a c) (omega arith) known p.5 in
+        let a : PlainType = p.domain in
+        let c : PlainType = p.range in
+        let q = neutral-spelled r g p.for_function (function m a c) (omega arith) known p.applied in
         let parts = q.bare_type.1 in
-        let o = object-spelled n g p.3 a (omega arith) known (q.bare_type.0, parts.0) p.7 in
-        let t_is : t ≡ c = same-type p.8 (without_indices-bare q.bare_type.0 c parts.1) in
+        let o = object-spelled n g p.for_argument a (omega arith) known (q.bare_type.0, parts.0) p.argument in
+        let t_is : t ≡ c = same-type p.type (without_indices-bare q.bare_type.0 c parts.1) in
         let x : List ℕ = neutral_text sig metas (length g) r in
         let y : List ℕ = object_text sig metas (length g) n in
         let Q = MeansNeutral sig (locals g) (Some (arrow m (erase a) (erase c))) r in
@@ -123,34 +123,34 @@ module _ (sig : PlainSignature) (metas : List ℕ) (formed : IsBareSignature sig
     object-spelled : (n : PlainObject) (g : Context) (h : Holding) (t : PlainType) → length g + scope_depth n < 2 ^ 64 → AreBareEntries g → IsBare t → HasType sig g h n t
         → SpellsAs (is_atom n) (Means sig (locals g) (Some (erase t)) n) (object_text sig metas (length g) n)
     object-spelled (lam m b) g h t small known is_bare p =
-        let a : PlainType = p.0 in
-        let c : PlainType = p.1 in
-        let parts = (rw p.2 at is_bare.1) in
+        let a : PlainType = p.domain in
+        let c : PlainType = p.range in
+        let parts = (rw p.type at is_bare.1) in
         let level : length ((m, a) ∷ g) ≡ length g + 1 = omega arith in
-        let o = object-spelled b ((m, a) ∷ g) (true ∷ h) c (omega arith) ((is_bare.0, parts.0), known) (is_bare.0, parts.1) p.3 in
+        let o = object-spelled b ((m, a) ∷ g) (true ∷ h) c (omega arith) ((is_bare.0, parts.0), known) (is_bare.0, parts.1) p.body in
         let P = Means sig (locals ((m, a) ∷ g)) (Some (erase c)) b in
         let body = (rw level at (as-object (is_atom b) P (object_text sig metas (length ((m, a) ∷ g)) b) o)) in
-        rw p.2 (spells-lambda P (Means sig (locals g) (Some (arrow m (erase a) (erase c))) (lam m b)) m (length g) (object_text sig metas (length g + 1) b) (omega arith) body
+        rw p.type (spells-lambda P (Means sig (locals g) (Some (arrow m (erase a) (erase c))) (lam m b)) m (length g) (object_text sig metas (length g + 1) b) (omega arith) body
         (λ s tree. means-lambda sig (locals g) m (erase a) (erase c) b s (variable_text (length g + 1)) tree))
     object-spelled (pair l r) g h t small known is_bare p =
-        let a : PlainType = p.0 in
-        let c : PlainType = p.1 in
-        let parts = (rw p.2 at is_bare.1) in
+        let a : PlainType = p.left_type in
+        let c : PlainType = p.right_type in
+        let parts = (rw p.type at is_bare.1) in
         let x : List ℕ = object_text sig metas (length g) l in
         let y : List ℕ = object_text sig metas (length g) r in
         let P = Means sig (locals g) (Some (erase a)) l in
         let Q = Means sig (locals g) (Some (erase c)) r in
-        let left = object-spelled l g h a (omega arith) known (is_bare.0, parts.0) p.3 in
-        let right = object-spelled r g h c (omega arith) known (is_bare.0, parts.1) p.4 in
-        rw p.2 (spells-pair P Q (Means sig (locals g) (Some (simple_with (erase a) (erase c))) (pair l r)) x y (λ rest. object-stays sig metas formed l (length g) (44 ∷ rest) refl)
+        let left = object-spelled l g h a (omega arith) known (is_bare.0, parts.0) p.left in
+        let right = object-spelled r g h c (omega arith) known (is_bare.0, parts.1) p.right in
+        rw p.type (spells-pair P Q (Means sig (locals g) (Some (simple_with (erase a) (erase c))) (pair l r)) x y (λ rest. object-stays sig metas formed l (length g) (44 ∷ rest) refl)
         (as-object (is_atom l) P x left) (as-object (is_atom r) Q y right) (λ s x y. means-pair sig (locals g) (erase a) (erase c) l r s x y))
     object-spelled unit g h t small known is_bare p = rw p (spells-unit (Means sig (locals g) (Some simple_top) unit) (λ s. means-unit sig (locals g) s))
     object-spelled (monadic e) g h t small known is_bare p = let none = (rw p.1 at is_bare.1) in absurd none
     object-spelled (atomic r) g h t small known is_bare p =
-        let f : ℕ = p.0 in
-        let q = neutral-spelled r g h (family f p.2) small known p.4 in
+        let f : ℕ = p.number in
+        let q = neutral-spelled r g h (family f p.found) small known p.neutral in
         let Q = MeansNeutral sig (locals g) (Some (base f)) r in
-        rw p.3 (neutral-as (is_application r) Q (Means sig (locals g) (Some (base f)) (atomic r)) (neutral_text sig metas (length g) r)
+        rw p.type (neutral-as (is_application r) Q (Means sig (locals g) (Some (base f)) (atomic r)) (neutral_text sig metas (length g) r)
         (λ s tree xs. means-whole sig (locals g) _ r s tree xs) (λ tree. means-atomic sig (locals g) f r tree) q.spells)
     object-spelled hole g h t small known is_bare p = absurd p
 

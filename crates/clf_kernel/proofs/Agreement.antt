@@ -19,7 +19,7 @@ use Rattle.use_contexts.proofs.ArgumentLaws.{argument-agrees}
 use Rattle.hered_subst.specs.Substitution.{single, SubstitutedType}
 use Rattle.trace_equal.specs.Exchange.{JoinedEach}
 use Rattle.clf_sig.specs.Entry.{PlainSignature, constant_type}
-use Rattle.clf_kernel.specs.Typing.{HeadHasType, HasType, Synthesizes}
+use Rattle.clf_kernel.specs.Typing.{HeadHasType, LambdaRule, PairRule, AtomicRule, ApplicationRule, HasType, Synthesizes}
 use Rattle.clf_kernel.specs.Refusal.{unused, mode_differs, family_differs, Outcome, passed, refused, at_part, and_then, Leftover, eliminations}
 use Rattle.clf_kernel.specs.Checking.{answer_of, same_mode, constant_left, held_left, variable_left, head_left, closed_scope, lambda_left, joined_left, pair_left, unit_left, found_left, atomic_left, argument_left, first_left, second_left, checked, inferred}
 use Rattle.clf_kernel.specs.Reach.{without_indices, IsSimpleSignature, IsSimpleContext, without_monads, neutral_without_monads}
@@ -78,7 +78,7 @@ closed-answer m g j (passed a) = by (is_unused m (newest a.0) a.1)
 
 -- the rule of a lambda, of any property of its body
 abbrev LambdaHas : Mode → (PlainType → PlainType → Holding → Type 0) → PlainType → Holding → Type 0
-LambdaHas m P t p = (a c : PlainType) × (t ≡ function m a c) × P a c (true ∷ p)
+LambdaHas m P t p = LambdaRule m t (λ a c. P a c (true ∷ p))
 
 lambda-same : (m : Mode) (g : Context) (h : Holding) (a c : PlainType) (r : Outcome Leftover) (P : PlainType → PlainType → Holding → Type 0)
     → Agrees (m ∷ modes g) (true ∷ h) (answer_of r) (P a c)
@@ -86,8 +86,8 @@ lambda-same : (m : Mode) (g : Context) (h : Holding) (a c : PlainType) (r : Outc
 lambda-same m g h a c r P x =
     subst (λ (y : Answer). Agrees (modes g) h y (LambdaHas m P (function m a c))) (sym (closed-answer m g 0 r))
     (agrees-same (modes g) h (closed m (answer_of r)) (λ p. P a c (true ∷ p)) (LambdaHas m P (function m a c))
-    (λ p y. (a, c, refl, y))
-    (λ p y. moved (λ d b. P d b (true ∷ p)) (function-argument y.2) (function-result y.2) y.3)
+    (λ p y. record { domain = a; range = c; type = refl; body = y })
+    (λ p y. moved (λ d b. P d b (true ∷ p)) (function-argument y.type) (function-result y.type) y.body)
     (scope-agrees m (modes g) h (answer_of r) (P a c) x))
 
 lambda-function : (m k : Mode) (b : Bool) → same_mode m k ≡ b → (g : Context) (h : Holding) (a c : PlainType) (r : Outcome Leftover) (P : PlainType → PlainType → Holding → Type 0)
@@ -95,11 +95,11 @@ lambda-function : (m k : Mode) (b : Bool) → same_mode m k ≡ b → (g : Conte
     → Agrees (modes g) h (answer_of (if b then and_then (at_part 0 r) (closed_scope m g) else refused [] (mode_differs k m))) (LambdaHas m P (function k a c))
 lambda-function m k true e g h a c r P x =
     subst (λ j. Agrees (modes g) h (answer_of (and_then (at_part 0 r) (closed_scope m g))) (LambdaHas m P (function j a c))) (same-mode m k e) (lambda-same m g h a c r P x)
-lambda-function m k false e g h a c r P x = λ p w y. other-mode m k e (function-mode y.2)
+lambda-function m k false e g h a c r P x = λ p w y. other-mode m k e (function-mode y.type)
 
 no-lambda : (m : Mode) (g : Context) (h : Holding) (t : PlainType) (P : PlainType → PlainType → Holding → Type 0)
     → ((a c : PlainType) → t ≡ function m a c → ⊥) → Agrees (modes g) h None (LambdaHas m P t)
-no-lambda m g h t P f = λ p w y. f y.0 y.1 y.2
+no-lambda m g h t P f = λ p w y. f y.domain y.range y.type
 
 lambda-agrees : (m : Mode) (g : Context) (h : Holding) (t : PlainType) (body : PlainType → PlainType → Outcome Leftover) (P : PlainType → PlainType → Holding → Type 0)
     → without_indices t ≡ true
@@ -126,10 +126,10 @@ joined-answer g (passed a) (passed b) = by (newest_difference (modes g) a.0 a.1 
 
 -- the rule of a pair, of any properties of its parts
 abbrev PairHas : (PlainType → Holding → Type 0) → (PlainType → Holding → Type 0) → PlainType → Holding → Type 0
-PairHas P Q t p = (a c : PlainType) × (t ≡ both a c) × P a p × Q c p
+PairHas P Q t p = PairRule t (λ a. P a p) (λ c. Q c p)
 
 no-pair : (g : Context) (h : Holding) (t : PlainType) (P Q : PlainType → Holding → Type 0) → ((a c : PlainType) → t ≡ both a c → ⊥) → Agrees (modes g) h None (PairHas P Q t)
-no-pair g h t P Q f = λ p w y. f y.0 y.1 y.2
+no-pair g h t P Q f = λ p w y. f y.left_type y.right_type y.type
 
 pair-left-agrees : (g : Context) (h : Holding) (t : PlainType) (left right : PlainType → Outcome Leftover) (P Q : PlainType → Holding → Type 0)
     → without_indices t ≡ true
@@ -139,8 +139,8 @@ pair-left-agrees : (g : Context) (h : Holding) (t : PlainType) (left right : Pla
 pair-left-agrees g h (both a c) left right P Q e x y =
     subst (λ (z : Answer). Agrees (modes g) h z (PairHas P Q (both a c))) (sym (joined-answer g (left a) (right c)))
     (agrees-same (modes g) h (paired (modes g) (answer_of (left a)) (answer_of (right c))) (λ p. P a p × Q c p) (PairHas P Q (both a c))
-    (λ p z. (a, c, refl, z.0, z.1))
-    (λ p z. moved (λ d b. P d p × Q b p) (both-left z.2) (both-right z.2) (z.3, z.4))
+    (λ p z. record { left_type = a; right_type = c; type = refl; left = z.0; right = z.1 })
+    (λ p z. moved (λ d b. P d p × Q b p) (both-left z.type) (both-right z.type) (z.left, z.right))
     (pair-agrees (modes g) h (answer_of (left a)) (answer_of (right c)) (P a) (Q c)
     (x a (and-left (without_indices a) (without_indices c) e)) (y c (and-right (without_indices a) (without_indices c) e))))
 pair-left-agrees g h (family i ns) left right P Q e x y = no-pair g h (family i ns) P Q (λ a c q. absurd (cc))
@@ -160,7 +160,7 @@ unit-left-agrees g h (monad s) w = λ p u e. absurd (cc)
 -- ---- atomic objects
 -- the rule of an atomic object, of any property of its neutral
 abbrev AtomicHas : (Holding → PlainType → Type 0) → PlainType → Holding → Type 0
-AtomicHas P t p = (f : ℕ) × (ns os : List PlainObject) × (t ≡ family f ns) × P p (family f os) × JoinedEach os ns
+AtomicHas P t p = AtomicRule t (λ a. P p a)
 
 pub other-number : (i v : ℕ) → (i == v) ≡ false → i ≡ v → ⊥
 other-number i v e q = grind arith
@@ -174,16 +174,16 @@ same-family-agrees : (g : Context) (h : Holding) (wanted found : ℕ) (b : Bool)
     → Agrees (modes g) h (answer_of (if b then passed a else refused [] (family_differs found wanted))) (AtomicHas P (family wanted []))
 same-family-agrees g h wanted found true e a P x one =
     agrees-same (modes g) h (Some a) (λ p. P p (family found [])) (AtomicHas P (family wanted []))
-    (λ p y. (wanted, [], [], refl, subst (λ i. P p (family i [])) (sym (same_number wanted found e)) y, tt))
-    (λ p y. subst (P p) (one p (family y.0 y.2) y.4) y.4) x
+    (λ p y. record { number = wanted; wanted = []; found = []; type = refl; neutral = subst (λ i. P p (family i [])) (sym (same_number wanted found e)) y; indices = tt })
+    (λ p y. subst (P p) (one p (family y.number y.found) y.neutral) y.neutral) x
 same-family-agrees g h wanted found false e a P x one = λ p w y.
-    other-number wanted found e (family-number y.3 ∙ family-number (one p (family y.0 y.2) y.4))
+    other-number wanted found e (family-number y.type ∙ family-number (one p (family y.number y.found) y.neutral))
 
 no-atomic : (g : Context) (h : Holding) (t : PlainType) (P : Holding → PlainType → Type 0) → ((p : Holding) (f : ℕ) (os : List PlainObject) → IsSubholding (modes g) h p → P p (family f os) → ⊥) → Agrees (modes g) h None (AtomicHas P t)
-no-atomic g h t P n = λ p w y. n p y.0 y.2 w y.4
+no-atomic g h t P n = λ p w y. n p y.number y.found w y.neutral
 
 no-place : (g : Context) (h : Holding) (t : PlainType) (P : Holding → PlainType → Type 0) → ((f : ℕ) (ns : List PlainObject) → t ≡ family f ns → ⊥) → Agrees (modes g) h None (AtomicHas P t)
-no-place g h t P n = λ p w y. n y.0 y.1 y.3
+no-place g h t P n = λ p w y. n y.number y.wanted y.type
 
 found-agrees : (g : Context) (h : Holding) (wanted : ℕ) (t : PlainType) (a : Leftover) (P : Holding → PlainType → Type 0)
     → AgreesWithType g h (passed (t, a)) P → Agrees (modes g) h (answer_of (found_left wanted t a)) (AtomicHas P (family wanted []))
@@ -227,8 +227,7 @@ allowed-marked Linear ms l w = w
 
 -- the rule of an application, of any properties of its function and its argument
 abbrev ApplicationHas : Mode → Context → PlainObject → (Holding → PlainType → Type 0) → (PlainType → Holding → Type 0) → Holding → PlainType → Type 0
-ApplicationHas m g n P Q p t = (a c : PlainType) × (h1 h2 : Holding) × Split (modes g) p h1 h2 × P h1 (function m a c) × (may_use m (modes g) h2 ≡ true) × Q a h2
-    × SubstitutedType (single n 0) c t
+ApplicationHas m g n P Q p t = ApplicationRule g p m n t P (λ k a. Q a k)
 
 -- the parts of the function and of its argument, where the function has the one type
 abbrev SharedAt : Mode → Context → PlainType → PlainType → (Holding → PlainType → Type 0) → (PlainType → Holding → Type 0) → Holding → Type 0
@@ -238,15 +237,15 @@ shared-at : (m : Mode) (g : Context) (n : PlainObject) (a c : PlainType) (P : Ho
     → ((p : Holding) (b : PlainType) → P p b → b ≡ function m a c)
     → (p : Holding) (t : PlainType) → ApplicationHas m g n P Q p t → SharedAt m g a c P Q p
 shared-at m g n a c P Q one p t y =
-    let e = one y.2 (function m y.0 y.1) y.5 in
-    (y.2, y.3, y.4, subst (P y.2) e y.5, (y.6, subst (λ d. Q d y.3) (function-argument e) y.7))
+    let e = one y.for_function (function m y.domain y.range) y.applied in
+    (y.for_function, y.for_argument, y.split, subst (P y.for_function) e y.applied, (y.usable, subst (λ d. Q d y.for_argument) (function-argument e) y.argument))
 
 application-type : (m : Mode) (g : Context) (n : PlainObject) (a c : PlainType) (P : Holding → PlainType → Type 0) (Q : PlainType → Holding → Type 0)
     → without_indices c ≡ true → ((p : Holding) (b : PlainType) → P p b → b ≡ function m a c)
     → (p : Holding) (t : PlainType) → ApplicationHas m g n P Q p t → t ≡ c
 application-type m g n a c P Q w one p t y =
-    let e : y.1 ≡ c = function-result (one y.2 (function m y.0 y.1) y.5) in
-    same-type y.8 (subst (λ d. without_indices d ≡ true) (sym e) w) ∙ e
+    let e : y.range ≡ c = function-result (one y.for_function (function m y.domain y.range) y.applied) in
+    same-type y.type (subst (λ d. without_indices d ≡ true) (sym e) w) ∙ e
 
 application-same : (m : Mode) (g : Context) (h : Holding) (place : ℕ) (n : PlainObject) (a c : PlainType) (x : Leftover) (r : Outcome Leftover)
     (P : Holding → PlainType → Type 0) (Q : PlainType → Holding → Type 0)
@@ -262,7 +261,17 @@ application-same m g h place n a c x (passed b) P Q u v =
     let simple = and-right (without_indices a) (without_indices c) u.0 in (
       simple,
       agrees-same (modes g) h (Some (outside m (modes g) x.0 b.0, x.1 || slack_outside m b.1)) (SharedAt m g a c P Q) (λ p. ApplicationHas m g n P Q p c)
-          (λ p y. (a, c, y.0, y.1, y.2, y.3, y.4.0, y.4.1, itself-type (single n 0) c simple))
+          (λ p y. record {
+            domain = a;
+            range = c;
+            for_function = y.0;
+            for_argument = y.1;
+            split = y.2;
+            applied = y.3;
+            usable = y.4.0;
+            argument = y.4.1;
+            type = itself-type (single n 0) c simple;
+          })
           (λ p y. shared-at m g n a c P Q u.2 p c y)
           some,
       application-type m g n a c P Q simple u.2,
@@ -276,7 +285,7 @@ application-function : (m k : Mode) (b : Bool) → same_mode m k ≡ b → (g : 
 application-function m k true e g h place n a c x r P Q u v =
     application-same m g h place n a c x r P Q (subst (λ j. AgreesWithType g h (passed (function j a c, x)) P) (sym (same-mode m k e)) u) v
 application-function m k false e g h place n a c x r P Q u v = λ p t w y.
-    other-mode m k e (sym (function-mode (u.2 y.2 (function m y.0 y.1) y.5)))
+    other-mode m k e (sym (function-mode (u.2 y.for_function (function m y.domain y.range) y.applied)))
 
 argument-left-agrees : (m : Mode) (g : Context) (h : Holding) (place : ℕ) (n : PlainObject) (f : PlainType) (x : Leftover) (argument : Holding → PlainType → Outcome Leftover)
     (P : Holding → PlainType → Type 0) (Q : PlainType → Holding → Type 0)
@@ -287,17 +296,17 @@ argument-left-agrees m g h place n (function k a c) x argument P Q u v =
     let row = allowed m (modes g) x.0 in
     let marked = allowed-marked m (modes g) x.0 (WellMarked-part (modes g) h x.0 u.1.0) in
     application-function m k (same_mode m k) refl g h place n a c x (argument row a) P Q u (v row a marked (and-left (without_indices a) (without_indices c) u.0))
-argument-left-agrees m g h place n (family i ns) x argument P Q u v = λ p t w y. let e = u.2 y.2 (function m y.0 y.1) y.5 in absurd (cc)
-argument-left-agrees m g h place n (both a c) x argument P Q u v = λ p t w y. let e = u.2 y.2 (function m y.0 y.1) y.5 in absurd (cc)
-argument-left-agrees m g h place n top x argument P Q u v = λ p t w y. let e = u.2 y.2 (function m y.0 y.1) y.5 in absurd (cc)
-argument-left-agrees m g h place n (monad s) x argument P Q u v = λ p t w y. let e = u.2 y.2 (function m y.0 y.1) y.5 in absurd (cc)
+argument-left-agrees m g h place n (family i ns) x argument P Q u v = λ p t w y. let e = u.2 y.for_function (function m y.domain y.range) y.applied in absurd (cc)
+argument-left-agrees m g h place n (both a c) x argument P Q u v = λ p t w y. let e = u.2 y.for_function (function m y.domain y.range) y.applied in absurd (cc)
+argument-left-agrees m g h place n top x argument P Q u v = λ p t w y. let e = u.2 y.for_function (function m y.domain y.range) y.applied in absurd (cc)
+argument-left-agrees m g h place n (monad s) x argument P Q u v = λ p t w y. let e = u.2 y.for_function (function m y.domain y.range) y.applied in absurd (cc)
 
 application-agrees : (m : Mode) (g : Context) (h : Holding) (place : ℕ) (n : PlainObject) (r : Outcome (PlainType × Leftover)) (argument : Holding → PlainType → Outcome Leftover)
     (P : Holding → PlainType → Type 0) (Q : PlainType → Holding → Type 0)
     → AgreesWithType g h r P
     → ((row : Holding) (a : PlainType) → WellMarked (modes g) row → without_indices a ≡ true → Agrees (modes g) row (answer_of (argument row a)) (Q a))
     → AgreesWithType g h (and_then r (λ f. argument_left m g place f argument)) (ApplicationHas m g n P Q)
-application-agrees m g h place n (refused path cause) argument P Q u v = λ p t w y. u y.2 (function m y.0 y.1) (IsSubholding-first (modes g) h p y.2 y.3 y.4 w) y.5
+application-agrees m g h place n (refused path cause) argument P Q u v = λ p t w y. u y.for_function (function m y.domain y.range) (IsSubholding-first (modes g) h p y.for_function y.for_argument y.split w) y.applied
 application-agrees m g h place n (passed f) argument P Q u v = argument-left-agrees m g h place n f.0 f.1 argument P Q u v
 
 -- ---- projections

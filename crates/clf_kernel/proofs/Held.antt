@@ -72,30 +72,31 @@ unheld_head sig g h (Meta k) a p i e = refl
 
 mutual
   pub unheld_object : (sig : PlainSignature) (g : Context) (h : Holding) (n : PlainObject) (a : PlainType) → HasType sig g h n a → (i : ℕ) → slice_get h i ≡ Some false → occurs i n ≡ false
-  unheld_object sig g h (lam m b) a p i e = let (d, c, q, u) = p in unheld_object sig ((m, d) ∷ g) (true ∷ h) b c u (i + 1) (under_one h i e)
-  unheld_object sig g h (pair l r) a p i e = let (d, c, q, u, v) = p in none_of (occurs i l) (occurs i r) (unheld_object sig g h l d u i e) (unheld_object sig g h r c v i e)
+  unheld_object sig g h (lam m b) a p i e = unheld_object sig ((m, p.domain) ∷ g) (true ∷ h) b p.range p.body (i + 1) (under_one h i e)
+  unheld_object sig g h (pair l r) a p i e = none_of (occurs i l) (occurs i r) (unheld_object sig g h l p.left_type p.left i e) (unheld_object sig g h r p.right_type p.right i e)
   unheld_object sig g h unit a p i e = refl
   unheld_object sig g h (monadic x) a p i e = let (s, q, u) = p in unheld_expression sig g h x s u i e
-  unheld_object sig g h (atomic n) a p i e = let (f, ns, os, q, u, v) = p in unheld_neutral sig g h n (family f os) u i e
+  unheld_object sig g h (atomic n) a p i e = unheld_neutral sig g h n (family p.number p.found) p.neutral i e
   unheld_object sig g h hole a p i e = refl
 
   pub unheld_neutral : (sig : PlainSignature) (g : Context) (h : Holding) (n : PlainNeutral) (a : PlainType) → Synthesizes sig g h n a → (i : ℕ) → slice_get h i ≡ Some false → occurs_neutral i n ≡ false
   unheld_neutral sig g h (head_alone x) a p i e = unheld_head sig g h x a p i e
-  unheld_neutral sig g h (app m r n) a p i e = let (d, c, h1, h2, q, u, w, v, x) = p in let (e1, e2) = split_unheld (modes g) h h1 h2 i q e in
-      none_of (occurs_neutral i r) (occurs i n) (unheld_neutral sig g h1 r (function m d c) u i e1) (unheld_object sig g h2 n d v i e2)
+  unheld_neutral sig g h (app m r n) a p i e = let (e1, e2) = split_unheld (modes g) h p.for_function p.for_argument i p.split e in
+      none_of (occurs_neutral i r) (occurs i n) (unheld_neutral sig g p.for_function r (function m p.domain p.range) p.applied i e1)
+      (unheld_object sig g p.for_argument n p.domain p.argument i e2)
   unheld_neutral sig g h (fst r) a p i e = unheld_neutral sig g h r (both a p.0) p.1 i e
   unheld_neutral sig g h (snd r) a p i e = unheld_neutral sig g h r (both p.0 a) p.1 i e
 
   pub unheld_expression : (sig : PlainSignature) (g : Context) (h : Holding) (x : PlainExpression) (s : PlainTelescope) → ExpressionHasType sig g h x s → (i : ℕ) → slice_get h i ≡ Some false → occurs_expression i x ≡ false
-  unheld_expression sig g h (step ms r x) s p i e = let (t, h1, h2, q, u, w, v) = p in let (e1, e2) = split_unheld (modes g) h h1 h2 i q e in
-      none_of (occurs_neutral i r) (occurs_expression (i + length ms) x) (unheld_neutral sig g h1 r (monad t) u i e1)
-      (unheld_expression sig (with_entries t g) (all_held ms h2) x (ren_telescope (up (length ms)) s) v (i + length ms) (under_all ms h2 i e2))
+  unheld_expression sig g h (step ms r x) s p i e = let (e1, e2) = split_unheld (modes g) h p.for_right p.for_rest i p.split e in
+      none_of (occurs_neutral i r) (occurs_expression (i + length ms) x) (unheld_neutral sig g p.for_right r (monad p.entries) p.right i e1)
+      (unheld_expression sig (with_entries p.entries g) (all_held ms p.for_rest) x (ren_telescope (up (length ms)) s) p.rest (i + length ms) (under_all ms p.for_rest i e2))
   unheld_expression sig g h (done t) s p i e = unheld_tuple sig g h t s p i e
 
   pub unheld_tuple : (sig : PlainSignature) (g : Context) (h : Holding) (t : PlainTuple) (s : PlainTelescope) → TupleHasType sig g h t s → (i : ℕ) → slice_get h i ≡ Some false → occurs_tuple i t ≡ false
   unheld_tuple sig g h empty s p i e = refl
-  unheld_tuple sig g h (entry m n t) s p i e = let (a, u, v, h1, h2, q, w, x, y, z, k) = p in let (e1, e2) = split_unheld (modes g) h h1 h2 i w e in
-      none_of (occurs i n) (occurs_tuple i t) (unheld_object sig g h1 n a y i e1) (unheld_tuple sig g h2 t v k i e2)
+  unheld_tuple sig g h (entry m n t) s p i e = let (e1, e2) = split_unheld (modes g) h p.for_first p.for_later i p.split e in
+      none_of (occurs i n) (occurs_tuple i t) (unheld_object sig g p.for_first n p.first_type p.first i e1) (unheld_tuple sig g p.for_later t p.after_put p.later i e2)
 
 pub mentions_held_alone : MentionsHeldAlone
 mentions_held_alone = unheld_object
@@ -108,7 +109,8 @@ under_entry m a g i p = (p.0, ap (slice_get (m ∷ modes g)) (add-one i) ∙ p.1
 
 absent_each : (sig : PlainSignature) (g : Context) (ns : List PlainObject) (k : PlainKind) → IndicesHaveTypes sig g ns k → (i : ℕ) → IsNotPersistent g i → list_any (occurs i) ns ≡ false
 absent_each sig g [] k p i e = refl
-absent_each sig g (n ∷ ns) (a ∷ k) p i e = let (u, l, q, v) = p in none_of (occurs i n) (list_any (occurs i) ns) (unheld_object sig g (persistent_alone (modes g)) n a u i (unheld_persistent g i e)) (absent_each sig g ns l v i e)
+absent_each sig g (n ∷ ns) (a ∷ k) p i e = none_of (occurs i n) (list_any (occurs i) ns) (unheld_object sig g (persistent_alone (modes g)) n a p.index i (unheld_persistent g i e))
+    (absent_each sig g ns p.after_put p.later i e)
 absent_each sig g (n ∷ ns) [] p i e = absurd p
 
 mutual

@@ -41,31 +41,78 @@ kept_head s t e g h (Meta k) a p = p
 
 mutual
   pub kept_object : (s t : PlainSignature) → Kept s t → (n : PlainObject) (g : Context) (h : Holding) (a : PlainType) → HasType s g h n a → HasType t g h n a
-  kept_object s t e (lam m b) g h a p = let (d, c, q, u) = p in (d, c, q, kept_object s t e b ((m, d) ∷ g) (true ∷ h) c u)
-  kept_object s t e (pair l r) g h a p = let (d, c, q, u, v) = p in (d, c, q, kept_object s t e l g h d u, kept_object s t e r g h c v)
+  kept_object s t e (lam m b) g h a p = record { domain = p.domain; range = p.range; type = p.type; body = kept_object s t e b ((m, p.domain) ∷ g) (true ∷ h) p.range p.body }
+  kept_object s t e (pair l r) g h a p = record {
+    left_type = p.left_type;
+    right_type = p.right_type;
+    type = p.type;
+    left = kept_object s t e l g h p.left_type p.left;
+    right = kept_object s t e r g h p.right_type p.right;
+  }
   kept_object s t e unit g h a p = p
   kept_object s t e (monadic x) g h a p = let (u, q, v) = p in (u, q, kept_expression s t e x g h u v)
-  kept_object s t e (atomic n) g h a p = let (f, ns, os, q, u, v) = p in (f, ns, os, q, kept_neutral s t e n g h (family f os) u, v)
+  kept_object s t e (atomic n) g h a p = record {
+    number = p.number;
+    wanted = p.wanted;
+    found = p.found;
+    type = p.type;
+    neutral = kept_neutral s t e n g h (family p.number p.found) p.neutral;
+    indices = p.indices;
+  }
   kept_object s t e hole g h a p = p
 
   pub kept_neutral : (s t : PlainSignature) → Kept s t → (n : PlainNeutral) (g : Context) (h : Holding) (a : PlainType) → Synthesizes s g h n a → Synthesizes t g h n a
   kept_neutral s t e (head_alone x) g h a p = kept_head s t e g h x a p
-  kept_neutral s t e (app m r n) g h a p = let (d, c, h1, h2, q, u, w, v, x) = p in (d, c, h1, h2, q, kept_neutral s t e r g h1 (function m d c) u, w, kept_object s t e n g h2 d v, x)
+  kept_neutral s t e (app m r n) g h a p = record {
+    domain = p.domain;
+    range = p.range;
+    for_function = p.for_function;
+    for_argument = p.for_argument;
+    split = p.split;
+    applied = kept_neutral s t e r g p.for_function (function m p.domain p.range) p.applied;
+    usable = p.usable;
+    argument = kept_object s t e n g p.for_argument p.domain p.argument;
+    type = p.type;
+  }
   kept_neutral s t e (fst r) g h a p = let (c, u) = p in (c, kept_neutral s t e r g h (both a c) u)
   kept_neutral s t e (snd r) g h a p = let (c, u) = p in (c, kept_neutral s t e r g h (both c a) u)
 
   pub kept_expression : (s t : PlainSignature) → Kept s t → (x : PlainExpression) (g : Context) (h : Holding) (u : PlainTelescope) → ExpressionHasType s g h x u → ExpressionHasType t g h x u
-  kept_expression s t e (step ms r x) g h u p = let (v, h1, h2, q, w, y, z) = p in
-      (v, h1, h2, q, kept_neutral s t e r g h1 (monad v) w, y, kept_expression s t e x (with_entries v g) (all_held ms h2) (ren_telescope (up (length ms)) u) z)
+  kept_expression s t e (step ms r x) g h u p = record {
+    entries = p.entries;
+    for_right = p.for_right;
+    for_rest = p.for_rest;
+    split = p.split;
+    right = kept_neutral s t e r g p.for_right (monad p.entries) p.right;
+    pattern = p.pattern;
+    rest = kept_expression s t e x (with_entries p.entries g) (all_held ms p.for_rest) (ren_telescope (up (length ms)) u) p.rest;
+  }
   kept_expression s t e (done x) g h u p = kept_tuple s t e x g h u p
 
   pub kept_tuple : (s t : PlainSignature) → Kept s t → (x : PlainTuple) (g : Context) (h : Holding) (u : PlainTelescope) → TupleHasType s g h x u → TupleHasType t g h x u
   kept_tuple s t e empty g h u p = p
-  kept_tuple s t e (entry m n x) g h u p = let (a, v, w, h1, h2, q, y, z, i, j, k) = p in (a, v, w, h1, h2, q, y, z, kept_object s t e n g h1 a i, j, kept_tuple s t e x g h2 w k)
+  kept_tuple s t e (entry m n x) g h u p = record {
+    first_type = p.first_type;
+    later_types = p.later_types;
+    after_put = p.after_put;
+    for_first = p.for_first;
+    for_later = p.for_later;
+    type = p.type;
+    split = p.split;
+    usable = p.usable;
+    first = kept_object s t e n g p.for_first p.first_type p.first;
+    put = p.put;
+    later = kept_tuple s t e x g p.for_later p.after_put p.later;
+  }
 
 kept_indices : (s t : PlainSignature) → Kept s t → (g : Context) (ns : List PlainObject) (k : PlainKind) → IndicesHaveTypes s g ns k → IndicesHaveTypes t g ns k
 kept_indices s t e g [] [] p = p
-kept_indices s t e g (n ∷ ns) (a ∷ k) p = let (u, l, q, v) = p in (kept_object s t e n g (persistent_alone (modes g)) a u, l, q, kept_indices s t e g ns l v)
+kept_indices s t e g (n ∷ ns) (a ∷ k) p = record {
+  after_put = p.after_put;
+  index = kept_object s t e n g (persistent_alone (modes g)) a p.index;
+  put = p.put;
+  later = kept_indices s t e g ns p.after_put p.later;
+}
 kept_indices s t e g [] (a ∷ k) p = p
 kept_indices s t e g (n ∷ ns) [] p = p
 

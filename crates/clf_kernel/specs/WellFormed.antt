@@ -12,11 +12,18 @@ use Rattle.hered_subst.specs.Substitution.{single, SubstitutedKind}
 use Rattle.clf_sig.specs.Entry.{PlainSignature, Declaration, PlainEntry, PlainClass, family_of, constant_of, names, family_kind}
 use Rattle.clf_kernel.specs.Typing.{HasType}
 
--- The objects are as many as the arguments of the kind. Each has the argument's type, with the earlier ones put, and uses persistent
--- entries alone. (In the report: the rules for atomic types, a family applied to objects.)
+-- An index: it has the argument's type, using persistent entries alone, and is put for the argument in the later types of the kind.
+pub record IndexRule (sig : PlainSignature) (g : Context) (n : PlainObject) (a : PlainType) (k : PlainKind) (Later : PlainKind → Type 0) : Type 0 where
+  pub after_put : PlainKind
+  pub index : HasType sig g (persistent_alone (modes g)) n a
+  pub put : SubstitutedKind (single n 0) k after_put
+  pub later : Later after_put
+
+-- The objects are as many as the arguments of the kind, and each is an index for its argument.
+-- (In the report: the rules for atomic types, a family applied to objects.)
 abbrev pub IndicesHaveTypes : PlainSignature → Context → List PlainObject → PlainKind → Type 0
 IndicesHaveTypes sig g [] [] = Unit {0}
-IndicesHaveTypes sig g (n ∷ ns) (a ∷ k) = HasType sig g (persistent_alone (modes g)) n a × (l : PlainKind) × SubstitutedKind (single n 0) k l × IndicesHaveTypes sig g ns l
+IndicesHaveTypes sig g (n ∷ ns) (a ∷ k) = IndexRule sig g n a k (λ l. IndicesHaveTypes sig g ns l)
 IndicesHaveTypes sig g [] (a ∷ k) = ⊥
 IndicesHaveTypes sig g (n ∷ ns) [] = ⊥
 
