@@ -1,0 +1,4 @@
+pub mod EtaLaws
+pub mod EtaTyped
+pub mod Expanding
+pub mod Expansions

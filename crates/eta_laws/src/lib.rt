@@ -1,0 +1,6 @@
+//! Eta-long forms and their laws.
+#![tactic(auto)]
+
+mod laws;
+
+pub use laws::eta_long;

@@ -1,0 +1,9 @@
+pub mod Before
+pub mod Compose
+pub mod TypedBack
+pub mod Composing
+pub mod Environs
+pub mod Variables
+pub mod Renamed
+pub mod Instances
+pub mod Results
