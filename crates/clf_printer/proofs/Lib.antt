@@ -2,7 +2,6 @@ pub mod Lists
 pub mod Texts
 pub mod Places
 pub mod Spines
-pub mod Occurrences
 pub mod Appearances
 pub mod Next
 pub mod Depths

@@ -9,34 +9,12 @@ use Rattle.clf_syntax.specs.Tree.{PlainExpression, done, steps_on, tuple_of}
 use Rattle.clf_syntax.specs.TypeTree.{PlainType, telescope_of}
 use Rattle.clf_syntax.specs.Plain.{plain_obj, plain_neutral, plain_step, plain_entry, plain-step-modes, plain-step-rhs, plain-entry-obj}
 use Rattle.clf_syntax.specs.PlainTypes.{plain_ty, plain_tele_entry, plain-tele-entry}
-use Rattle.clf_syntax.specs.Occurs.{occurs, occurs_neutral, occurs_expression, occurs_tuple, occurs_type, occurs_telescope}
+use Rattle.clf_syntax.specs.Occurs.{occurs_telescope}
 use Rattle.clf_sig.specs.Entry.{PlainSignature}
 use Rattle.clf_printer.specs.declared.place.Place.TheVariants.{Whole, Operand}
 use Rattle.clf_printer.specs.Metas.{appearing, appearing_neutral, appearing_expression, appearing_tuple, appearing_type, appearing_telescope}
 use Rattle.clf_printer.specs.Text.{when, listed, width, step_text, neutral_text, expression_text, tuple_text, tuple_comma, tuple_entry_text, is_atom, object_text, is_persistent, is_end, tele_entry_text, type_text, telescope_text}
-use Rattle.clf_printer.proofs.Lists.{dropped}
-
--- ---- occurrences
-
-pub occurs_tuple-next : (v i : ℕ) (t : TupleEntry) (xs : List TupleEntry) → i < length xs → t ≡ get_or xs i t
-    → occurs_tuple v (tuple_of (map plain_entry (drop i xs))) ≡ occurs v (plain_obj t.obj) || occurs_tuple v (tuple_of (map plain_entry (drop (i + 1) xs)))
-occurs_tuple-next v i t xs h e =
-    ap (λ ts. occurs_tuple v (tuple_of (map plain_entry ts))) (dropped xs i t h e)
-    ∙ ap (λ n. occurs v n || occurs_tuple v (tuple_of (map plain_entry (drop (i + 1) xs)))) (plain-entry-obj t)
-
-pub occurs_steps-next : (v i : ℕ) (s : Step) (xs : List Step) (r : PlainExpression) → i < length xs → s ≡ get_or xs i s
-    → occurs_expression v (steps_on (map plain_step (drop i xs)) r) ≡ occurs_neutral v (plain_neutral (out-Step s).rhs) || occurs_expression (v + length s.modes) (steps_on (map plain_step (drop (i + 1) xs)) r)
-occurs_steps-next v i s xs r h e =
-    let later = steps_on (map plain_step (drop (i + 1) xs)) r in
-    ap (λ ss. occurs_expression v (steps_on (map plain_step ss) r)) (dropped xs i s h e)
-    ∙ ap (λ n. occurs_neutral v n || occurs_expression (v + length (plain_step s).0) later) (plain-step-rhs s)
-    ∙ ap (λ ms. occurs_neutral v (plain_neutral (out-Step s).rhs) || occurs_expression (v + length ms) later) (plain-step-modes s)
-
-pub occurs_telescope-next : (v i : ℕ) (t : TeleEntry) (xs : List TeleEntry) → i < length xs → t ≡ get_or xs i t
-    → occurs_telescope v (telescope_of (map plain_tele_entry (drop i xs))) ≡ occurs_type v (plain_ty (out-TeleEntry t).ty) || occurs_telescope (v + 1) (telescope_of (map plain_tele_entry (drop (i + 1) xs)))
-occurs_telescope-next v i t xs h e =
-    ap (λ ts. occurs_telescope v (telescope_of (map plain_tele_entry ts))) (dropped xs i t h e)
-    ∙ ap (λ (p : Mode × PlainType). occurs_type v p.1 || occurs_telescope (v + 1) (telescope_of (map plain_tele_entry (drop (i + 1) xs)))) (plain-tele-entry t)
+use Rattle.clf_syntax.proofs.Next.{dropped}
 
 -- ---- metavariables
 

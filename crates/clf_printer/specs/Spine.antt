@@ -1,7 +1,6 @@
 -- A neutral's text as it is written along its spine: what stands in front of the head, the head, and what stands behind it.
 use Rattle.std.specs.Prelude.{ℕ, Bool, true, false, List, [], ◌++◌, codes}
 use Rattle.clf_syntax.specs.Tree.{PlainNeutral, head_alone, app, fst, snd, PlainElimination, arg, first, second}
-use Rattle.clf_syntax.specs.Occurs.{occurs}
 use Rattle.clf_sig.specs.Entry.{PlainSignature}
 use Rattle.clf_printer.specs.Text.{when, is_application, is_atom, argument_text, object_text}
 
@@ -22,12 +21,6 @@ abbrev pub is_argument : PlainElimination → Bool
 is_argument (arg m n) = true
 is_argument first = false
 is_argument second = false
-
--- whether a variable occurs in an elimination
-abbrev pub occurs_elimination : ℕ → PlainElimination → Bool
-occurs_elimination v (arg m n) = occurs v n
-occurs_elimination v first = false
-occurs_elimination v second = false
 
 module _ (sig : PlainSignature) (metas : List ℕ) (level : ℕ) where
   -- what an elimination adds behind a neutral, which is an application or is not

@@ -9,7 +9,7 @@ use Rattle.clf_syntax.specs.declared.tree.Head.TheVariants.{Const, Var, Meta}
 use Rattle.clf_syntax.specs.Word.{is_variable_word}
 use Rattle.clf_syntax.specs.Tree.{PlainObject, lam, pair, unit, monadic, atomic, hole, PlainNeutral, head_alone, app, fst, snd, PlainExpression, step, done, PlainTuple, empty, entry}
 use Rattle.clf_syntax.specs.TypeTree.{PlainType, family, function, both, top, monad, PlainTelescope, end, binding, PlainKind}
-use Rattle.clf_syntax.specs.Occurs.{occurs_type, occurs_telescope}
+use Rattle.clf_syntax.specs.Occurs.{occurs_type, occurs_telescope, occurs_kind}
 use Rattle.clf_sig.specs.Entry.{PlainClass, family_of, constant_of, PlainEntry, PlainSignature}
 use Rattle.clf_printer.specs.declared.place.Place.{Place}
 use Rattle.clf_printer.specs.declared.place.Place.TheVariants.{Whole as whole, Operand as operand, Factor as factor}
@@ -181,11 +181,6 @@ domain_text m named level alone left = if named then codes "Pi " ++ named_text l
 -- An entry of a telescope in front of the rest: named where its variable occurs in the rest, else followed by * where there is a rest.
 abbrev pub tele_entry_text : Mode → Bool → Bool → ℕ → List ℕ → List ℕ → List ℕ
 tele_entry_text m named goes_on level alone factor_text = if named then codes "Exists " ++ named_text level alone else mark_text m ++ factor_text ++ when goes_on (codes " * ")
-
--- whether a variable occurs in the arguments of a kind
-abbrev pub occurs_kind : ℕ → PlainKind → Bool
-occurs_kind v [] = false
-occurs_kind v (a ∷ k) = occurs_type v a || occurs_kind (v + 1) k
 
 abbrev pub is_end : PlainTelescope → Bool
 is_end end = true

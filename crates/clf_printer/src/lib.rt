@@ -4,7 +4,6 @@
 mod entries;
 mod metas;
 mod objects;
-mod occurs;
 mod place;
 mod text;
 mod types;

@@ -9,11 +9,10 @@ ghost use Rattle.clf_printer.specs.declared.place.Place.TheVariants.{Whole, Oper
 ghost use Rattle.clf_printer.specs.Text as spec;
 
 use crate::objects::push_atom;
-use crate::occurs::{occurs_kind, occurs_telescope, occurs_type};
 use crate::place::{Place, groups_function, groups_pair};
 use crate::words::{push_if, push_mark, push_new_variable, push_place, raised};
 use clf_sig::Signature;
-use clf_syntax::{Mode, Obj, TeleEntry, Ty};
+use clf_syntax::{Mode, Obj, TeleEntry, Ty, occurs_in_arguments, occurs_in_entries};
 use std::alloc::AllocError;
 
 fn arrow(mode: Mode) -> &'static [u8; 4]
@@ -37,27 +36,19 @@ fn is_persistent(mode: Mode) -> bool
 }
 
 /// Whether a function's variable is named: it is persistent, and occurs in the rest.
-fn names_argument(mode: Mode, rest: &Ty) -> Result<bool, AllocError>
-    ensures { IfOk result (λ b. b ≡ (spec.is_persistent mode && occurs_type_of 0 (plain_ty rest.now))) }
+fn names_argument(mode: Mode, rest: &Ty) -> bool
+    ensures { result ≡ (spec.is_persistent mode && occurs_type_of 0 (plain_ty rest.now)) }
 {
-    if is_persistent(mode) {
-        occurs_type(rest, 0)
-    } else {
-        Ok(false)
-    }
+    is_persistent(mode) && rest.occurs(0)
 }
 
 /// Whether an entry's variable is named: it is persistent, and occurs in the later entries, which begin at a place.
 #[tactic(auto, using(std::proofs::lemmas::Slice::between_to_end))]
-fn names_entry(mode: Mode, entries: &[TeleEntry], later: usize) -> Result<bool, AllocError>
+fn names_entry(mode: Mode, entries: &[TeleEntry], later: usize) -> bool
     requires { later ≤ length entries.now }
-    ensures { IfOk result (λ b. b ≡ (spec.is_persistent mode && occurs_telescope_of 0 (telescope_of (map plain_tele_entry (drop later entries.now))))) }
+    ensures { result ≡ (spec.is_persistent mode && occurs_telescope_of 0 (telescope_of (map plain_tele_entry (drop later entries.now)))) }
 {
-    if is_persistent(mode) {
-        occurs_telescope(&entries[later..], 0)
-    } else {
-        Ok(false)
-    }
+    is_persistent(mode) && occurs_in_entries(&entries[later..], 0)
 }
 
 /// Writes the indices of a family.
@@ -128,7 +119,7 @@ fn push_argument(
 ) -> Result<(), AllocError>
     ensures { OnOk result (out.new.items ≡ out.old.items ++ spec.domain_text mode (spec.is_persistent mode && occurs_type_of 0 (plain_ty cod.now)) level (spec.type_text (plain_signature sig.now) metas.now level Whole (plain_ty dom.now)) (spec.type_text (plain_signature sig.now) metas.now level Operand (plain_ty dom.now))) }
 {
-    let named = names_argument(mode, cod)?;
+    let named = names_argument(mode, cod);
     push_domain(out, sig, metas, level, mode, named, dom)
 }
 
@@ -203,7 +194,7 @@ pub fn push_telescope(
     let mut seen = 0;
     for entry in entries {
         seen += 1;
-        let named = names_entry(entry.mode, entries, seen)?;
+        let named = names_entry(entry.mode, entries, seen);
         let left = entries.len() - seen;
         push_tele_entry(out, sig, metas, inner, entry, named, left > 0)?;
         inner = raised(inner, 1)?;
@@ -246,7 +237,7 @@ pub fn push_kind(
     let mut level = 0;
     let mut rest = args;
     while let [arg, later @ ..] = rest {
-        let named = occurs_kind(later, 0)?;
+        let named = occurs_in_arguments(later, 0);
         push_domain(out, sig, metas, level, Mode::Persistent, named, arg)?;
         level = raised(level, 1)?;
         rest = later;

@@ -1,12 +1,12 @@
 //! Names, variables and marks.
 ghost use Rattle.std.specs.Prelude.{◌≡◌, ◌++◌, ◌+◌, ◌-◌, ◌||◌, nat_lt, IfOk, OnOk, if◌then◌else◌};
 ghost use Rattle.std.specs.Fmt.{decimal};
-ghost use Rattle.clf_syntax.specs.Word.{is_variable_word as is_variable_word_of, all_digits as all_digits_of};
+ghost use Rattle.clf_syntax.specs.Word.{is_variable_word as is_variable_word_of};
 ghost use Rattle.clf_sig.specs.Signature.{plain_signature};
 ghost use Rattle.clf_printer.specs.Text as spec;
 
 use clf_sig::{Entry, Signature};
-use clf_syntax::{Head, Mode};
+use clf_syntax::{Head, Mode, is_variable_word};
 use itoa::Buffer;
 use std::alloc::AllocError;
 
@@ -37,26 +37,6 @@ pub fn push_number(out: &mut Vec<u8>, number: u64) -> Result<(), AllocError>
     let mut buffer = Buffer::new();
     out.extend_from_slice(buffer.format(number).as_bytes())?;
     Ok(())
-}
-
-/// Whether all bytes are digits.
-fn all_digits(bytes: &[u8]) -> bool
-    ensures { result ≡ all_digits_of bytes.now }
-{
-    match bytes {
-        [] => true,
-        [first, rest @ ..] => first.is_ascii_digit() && all_digits(rest),
-    }
-}
-
-/// Whether a name is spelled as a variable: `x` and digits.
-fn is_variable_word(name: &[u8]) -> bool
-    ensures { result ≡ is_variable_word_of name.now }
-{
-    match name {
-        [b'x', first, rest @ ..] => first.is_ascii_digit() && all_digits(rest),
-        _ => false,
-    }
 }
 
 /// Whether a name is written with `$`.

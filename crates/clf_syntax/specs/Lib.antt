@@ -6,6 +6,7 @@ pub mod Word
 pub mod Renaming
 pub mod Shift
 pub mod Occurs
+pub mod Spines
 pub mod PlainSimple
 pub mod Simple
 pub mod Erasure

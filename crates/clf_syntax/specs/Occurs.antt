@@ -1,10 +1,10 @@
 -- Whether a free variable occurs.
-use Rattle.std.specs.Prelude.{ℕ, ◌+◌, ◌==◌, Bool, false, ◌||◌, length}
+use Rattle.std.specs.Prelude.{ℕ, ◌+◌, ◌==◌, Bool, false, ◌||◌, [], ◌∷◌, length}
 use Rattle.std.specs.List.{list_any}
 use Rattle.clf_syntax.specs.declared.tree.Head.{Head}
 use Rattle.clf_syntax.specs.declared.tree.Head.TheVariants.{Const, Var, Meta}
 use Rattle.clf_syntax.specs.Tree.{PlainObject, lam, pair, unit, monadic, atomic, hole, PlainNeutral, head_alone, app, fst, snd, PlainExpression, step, done, PlainTuple, empty, entry}
-use Rattle.clf_syntax.specs.TypeTree.{PlainType, family, function, both, top, monad, PlainTelescope, end, binding}
+use Rattle.clf_syntax.specs.TypeTree.{PlainType, family, function, both, top, monad, PlainTelescope, end, binding, PlainKind}
 
 abbrev pub is_variable : ℕ → Head → Bool
 is_variable v (Const c) = false
@@ -45,3 +45,7 @@ abbrev mutual
   pub occurs_telescope : ℕ → PlainTelescope → Bool
   occurs_telescope v end = false
   occurs_telescope v (binding m a s) = occurs_type v a || occurs_telescope (v + 1) s
+
+abbrev pub occurs_kind : ℕ → PlainKind → Bool
+occurs_kind v [] = false
+occurs_kind v (a ∷ k) = occurs_type v a || occurs_kind (v + 1) k

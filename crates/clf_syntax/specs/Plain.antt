@@ -1,19 +1,17 @@
 -- The plain tree of a declared object: one fold over the trees of the cycle, and its equation for each constructor.
-use Rattle.std.specs.Prelude.{ℕ, List, [], ◌∷◌, map, ◌≡◌, refl}
-use Rattle.std.proofs.Common.{ap, sym, ◌∙◌}
+use Rattle.std.specs.Prelude.{List, map, ◌≡◌}
+use Rattle.std.proofs.Common.{ap}
 use Rattle.clf_syntax.specs.declared.tree.Mode.{Mode}
-use Rattle.clf_syntax.specs.declared.tree.Head.{Head}
 use Rattle.clf_syntax.specs.declared.tree.Obj.{Obj, Lam, Pair, Unit as UnitObj, Mon, At, Hole, fold-Obj, fold-roll-Obj}
-use Rattle.clf_syntax.specs.declared.tree.Neutral.{Neutral, fold-Neutral, fold-roll-Neutral, fold_out-Neutral, out-Neutral}
+use Rattle.clf_syntax.specs.declared.tree.Neutral.{Neutral, fold-Neutral, fold_out-Neutral}
 use Rattle.clf_syntax.specs.declared.tree.Elim.{Elim, Arg, First, Second, fold-Elim, fold-roll-Elim}
 use Rattle.clf_syntax.specs.declared.tree.Expr.{Expr, roll-Expr, fold-roll-Expr, fold-Expr, fold_out-Expr, out-Expr}
 use Rattle.clf_syntax.specs.declared.tree.Step.{Step, fold-Step, fold_out-Step, out-Step}
-use Rattle.clf_syntax.specs.declared.tree.TupleEntry.{TupleEntry, fold-TupleEntry, fold_out-TupleEntry, out-TupleEntry}
+use Rattle.clf_syntax.specs.declared.tree.TupleEntry.{TupleEntry, fold-TupleEntry, fold_out-TupleEntry}
 use Rattle.clf_syntax.specs.declared.tree.Elim.TheOpen as layer
 use Rattle.clf_syntax.specs.declared.tree.Elim.TheViews.{roll-Obj, roll-Elim}
 use denote.Hole.Carrier.{roll}
-use Rattle.clf_syntax.specs.declared.modes.Modes.{Modes}
-use Rattle.clf_syntax.specs.Tree.{PlainObject, lam, pair, unit, monadic, atomic, hole, PlainNeutral, head_alone, app, fst, snd, PlainExpression, step, done, PlainTuple, empty, entry, PlainElimination, arg, first, second, spine_on, steps_on, tuple_of}
+use Rattle.clf_syntax.specs.Tree.{PlainObject, lam, pair, unit, monadic, atomic, hole, PlainNeutral, head_alone, PlainExpression, done, PlainElimination, arg, first, second, spine_on, steps_on, tuple_of}
 
 abbrev pub on_elim : layer.Elim-F PlainElimination PlainObject PlainExpression PlainNeutral (List Mode × PlainNeutral) (Mode × PlainObject) → PlainElimination
 on_elim (layer.Arg m o) = arg m o

@@ -1,6 +1,5 @@
 -- The plain tree of a declared type: one fold over the trees of the cycle, and its equation for each constructor.
-use Rattle.std.specs.Prelude.{ℕ, List, [], ◌∷◌, map, ◌≡◌, refl}
-use Rattle.std.proofs.Common.{ap}
+use Rattle.std.specs.Prelude.{ℕ, List, map, ◌≡◌}
 use Rattle.clf_syntax.specs.declared.tree.Mode.{Mode}
 use Rattle.clf_syntax.specs.declared.tree.Obj.{Obj}
 use Rattle.clf_syntax.specs.declared.tree.Ty.{Ty, Fam, Fun, With, Top, Monad, fold-Ty, fold-roll-Ty}

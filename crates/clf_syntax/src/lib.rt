@@ -7,15 +7,23 @@ mod fault;
 mod laws;
 mod modes;
 mod name;
+mod number;
+mod occurs;
 mod tree;
 mod types;
+mod word;
 
 pub use erasure::erase;
 pub use fault::{Or, OrWide, TooFar, Want, Wide};
 pub use laws::renaming;
 pub use modes::Modes;
 pub use name::Name;
+pub use occurs::{occurs_in_arguments, occurs_in_entries};
 pub use tree::{
     Elim, Expr, Head, Kind, Mode, Neutral, Obj, Simple, SimpleEntry, Step, Tele, TeleEntry,
     TupleEntry, Ty,
+};
+pub use word::{
+    all_digits, begins_word, goes_on, is_capital, is_digit, is_letter, is_name_byte, is_spelled,
+    is_variable_word, name_byte_first,
 };

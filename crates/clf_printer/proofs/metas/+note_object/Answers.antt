@@ -5,7 +5,7 @@ use Rattle.clf_syntax.specs.declared.tree.Expr.{out-Expr}
 use Rattle.clf_syntax.specs.Plain.{plain_obj, plain_elim, plain_expr, plain_neutral, plain_step, plain_entry, plain-Lam, plain-Pair, plain-Unit, plain-Mon, plain-At, plain-Hole, plain-Arg, plain-First, plain-Second, plain-expr, plain-neutral}
 use Rattle.clf_syntax.specs.Tree.{lam, pair, unit, monadic, atomic, hole, arg, first, second, head_alone, done, steps_on, tuple_of}
 use Rattle.clf_printer.specs.Metas.{appearing, appearing_head, appearing_neutral, appearing_spine, appearing_expression, appearing_tuple}
-use Rattle.clf_printer.proofs.Lists.{dropped}
+use Rattle.clf_syntax.proofs.Next.{dropped}
 use Rattle.clf_printer.proofs.Appearances.{appearing-spine}
 use Rattle.clf_printer.proofs.Next.{appearing_steps-next, appearing_tuple-next}
 use Rattle.clf_printer.proofs.metas.+note_object.Goals as goal

@@ -24,12 +24,12 @@ push_telescope-loop-entry-preserved t c =
     let lt : i < length entries = omega arith in
     let mode = ap (λ (p : Mode × PlainType). p.0) (plain-tele-entry entry) in
     let named =
-    c.in_ok-named.ensures
+    c.names_entry-named.ensures
     ∙ ap (λ m. is_persistent m && occurs_telescope 0 (telescope_of (map plain_tele_entry (drop (c.loop-entry.seen + 1) entries)))) (sym mode)
     ∙ ap (λ n. is_persistent (plain_tele_entry entry).0 && occurs_telescope 0 (telescope_of (map plain_tele_entry (drop (n + 1) entries)))) seen in record {
       seen = omega (arith, seen);
       written =
-          tele_entry-appended (plain_signature c.args.sig.now) c.args.metas.now c.loop-entry.inner c.in_ok-inner.inner i (length entries - (c.loop-entry.seen + 1)) c.in_ok-named.named entry entries
+          tele_entry-appended (plain_signature c.args.sig.now) c.args.metas.now c.loop-entry.inner c.in_ok-inner.inner i (length entries - (c.loop-entry.seen + 1)) c.names_entry-named.result entry entries
           c.loop-entry.out.items c.push_tele_entry.new.out.items lt c.entry-item.is c.in_ok-inner.ensures (omega (arith, seen)) named c.in_ok-push_tele_entry.ensures
           ∙ c.loop-entry.invariant.written;
     }
@@ -175,7 +175,7 @@ push_argument-returns t c =
     let out = c.args.out.now.items in
     let level = c.args.level in
     let text = λ (place : Place). type_text (plain_signature c.args.sig.now) c.args.metas.now level place (plain_ty c.args.dom.now) in
-    on_ok_weaker c.push_domain.result (λ e. e ∙ ap (λ b. out ++ domain_text c.args.mode b level (text Whole) (text Operand)) c.in_ok-named.ensures) c.push_domain.ensures
+    on_ok_weaker c.push_domain.result (λ e. e ∙ ap (λ b. out ++ domain_text c.args.mode b level (text Whole) (text Operand)) c.names_argument-named.ensures) c.push_domain.ensures
 
 pub push_monad-returns : goal.push_monad-returns
 push_monad-returns t c =

@@ -1,11 +1,10 @@
--- The occurrences in a neutral, along its spine.
+-- What holds of a neutral, along its spine.
 use Rattle.std.specs.Prelude.{ℕ, ◌≡◌, ◌||◌, ◌∷◌, [], List, Bool, true, false, refl}
 use Rattle.std.specs.List.{list_any}
 use Rattle.std.proofs.Common.{ap, sym, ◌∙◌}
-use Rattle.clf_syntax.specs.Plain.{plain_laws}
 use Rattle.clf_syntax.specs.Occurs.{occurs_neutral}
 use Rattle.clf_syntax.specs.Tree.{PlainNeutral, PlainElimination, arg, first, second, eliminated, spine_on}
-use Rattle.clf_printer.specs.Spine.{occurs_elimination}
+use Rattle.clf_syntax.specs.Spines.{occurs_elimination}
 
 or_same : (a b c : Bool) → (a || b) || c ≡ a || (b || c)
 or_same true b c = refl
@@ -27,4 +26,4 @@ occurs-spine v (e ∷ es) r =
     ∙ ap (λ b. b || list_any (occurs_elimination v) es) (occurs-eliminated v e r)
     ∙ or_same (occurs_neutral v r) (occurs_elimination v e) (list_any (occurs_elimination v) es)
 
-pub ruleset occurrences = (occurs-spine, plain_laws)
+pub ruleset occurs_laws = (occurs-spine)
