@@ -1,5 +1,5 @@
 -- What a list of steps or entries gives from one place on.
-use Rattle.std.proofs.Common.{◌≡◌, ℕ, suc, ◌+◌, ◌-◌, ◌<◌, ◌≤◌, ◌||◌, ◌&&◌, ◌++◌, Bool, true, not, nat_lt, List, [], ◌∷◌, map, length, drop, get_or, append_assoc, length-drop, refl, sym, ap, ◌∙◌, arith, codes}
+use Rattle.std.proofs.Common.{◌≡◌, ℕ, suc, ◌+◌, ◌-◌, ◌<◌, ◌≤◌, ◌&&◌, ◌++◌, Bool, true, not, nat_lt, List, [], ◌∷◌, map, length, drop, get_or, append_assoc, length-drop, refl, sym, ap, ◌∙◌, arith, codes}
 use Rattle.std.proofs.lemmas.Grind.{common_steps}
 use Rattle.clf_syntax.specs.declared.tree.Mode.{Mode}
 use Rattle.clf_syntax.specs.declared.tree.TupleEntry.{TupleEntry}
