@@ -5,7 +5,7 @@ use Rattle.clf_syntax.specs.Tree.{PlainObject, lam, pair, unit, atomic, PlainNeu
 use Rattle.clf_syntax.specs.TypeTree.{PlainType, PlainKind}
 use Rattle.clf_syntax.specs.Simple.{erase}
 use Rattle.clf_sig.specs.Entry.{PlainClass, family_of, constant_of, PlainSignature, kind_in, family_kind, constant_type, class_at}
-use Rattle.clf_kernel.specs.Reach.{IsSimpleSignature, without_indices, without_monads, neutral_without_monads}
+use Rattle.clf_kernel.specs.Reach.{SignatureInReach, without_indices, without_monads, neutral_without_monads}
 use Rattle.celf_sugar.specs.PlainTree as plain
 use Rattle.celf_explicit.specs.Reading.{Place, Local, Typed, head, place_of_head, applied, behind, combined, domain, codomain, left_part, right_part, marked, mode_at, stays, read_type, read_object, read_spine, read_act, with_type, read_against, read_check}
 use Rattle.celf_reading.specs.Bare.{IsBareType, IsBareSignature}
@@ -26,7 +26,7 @@ family-kind sig f k formed h =
     let class_is : found.0.1.class ≡ family_of k = found.2 ∙ is in
     (rw class_is at entry.formed).0
 
-pub simple-signature : (sig : PlainSignature) → IsBareSignature sig → IsSimpleSignature sig
+pub simple-signature : (sig : PlainSignature) → IsBareSignature sig → SignatureInReach sig
 simple-signature sig formed = (
   (λ c a h. let k = constant-at sig c a formed h in without_indices-bare k.before a k.formed),
   (λ f k h. family-kind sig f k formed h),

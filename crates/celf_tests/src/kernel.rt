@@ -1,8 +1,7 @@
 //! Each call of the kernel once; tables of checks stand in `run`, over text.
 ghost use Rattle.std.specs.Prelude.{◌≡◌};
 ghost use Rattle.clf_sig.specs.Signature.{plain_class, plain_entry, plain_signature};
-ghost use Rattle.clf_kernel.specs.Reach.{IsSimpleSignature};
-ghost use Rattle.clf_kernel.specs.Formation.{IsSimpleClass};
+ghost use Rattle.clf_kernel.specs.Reach.{SignatureInReach, ClassInReach};
 
 use crate::trees::{atom, constant, family, function};
 use clf_kernel::{Cause, Inferred, Refusal, check_entry, check_object, infer};
@@ -17,9 +16,9 @@ use use_contexts::{Ctx, Holding, Left};
 /// The signature with one entry more.
 #[tactic(auto, using(crate::proofs::SimpleSignatures::simple_more))]
 fn declared(rt: &impl Abort, sig: Signature, name: &str, entry: Entry) -> Signature
-    requires signature { IsSimpleSignature (plain_signature sig) }
-    requires class { IsSimpleClass (plain_entry entry).class }
-    ensures { IsSimpleSignature (plain_signature result) }
+    requires signature { SignatureInReach (plain_signature sig) }
+    requires class { ClassInReach (plain_entry entry).class }
+    ensures { SignatureInReach (plain_signature result) }
 {
     let mut sig = sig;
     match sig.add(name, entry) {
@@ -30,7 +29,7 @@ fn declared(rt: &impl Abort, sig: Signature, name: &str, entry: Entry) -> Signat
 
 /// `a : type. b : type. z : a.`
 fn signature(rt: &impl Abort, alloc: Global) -> Signature
-    ensures { IsSimpleSignature (plain_signature result) }
+    ensures { SignatureInReach (plain_signature result) }
 {
     let sig = declared(rt, Signature::new(alloc), "a", family(alloc));
     let sig = declared(rt, sig, "b", family(alloc));
@@ -39,8 +38,8 @@ fn signature(rt: &impl Abort, alloc: Global) -> Signature
 
 /// The answer about an entry none of whose arguments is implicit.
 fn checked(alloc: Global, sig: &Signature, entry: Entry) -> Result<(), OrWide<Refusal>>
-    requires signature { IsSimpleSignature (plain_signature sig.now) }
-    requires class { IsSimpleClass (plain_class entry.class) }
+    requires signature { SignatureInReach (plain_signature sig.now) }
+    requires class { ClassInReach (plain_class entry.class) }
     requires implicit { entry.implicit ≡ 0 }
 {
     let answer = check_entry(alloc, sig, &entry);

@@ -10,8 +10,9 @@ use Rattle.clf_syntax.specs.Tree.{PlainObject, lam, pair, unit, monadic, atomic,
 use Rattle.clf_syntax.specs.TypeTree.{PlainType, family, function, both, top, monad}
 use Rattle.clf_syntax.specs.Renaming.{ren_type, up}
 use Rattle.use_contexts.specs.Context.{Context, modes}
-use Rattle.use_contexts.specs.Holding.{Holding, WellMarked, Split, Uses, is_weak, is_linear, is_persistent, persistent_alone, may_use}
-use Rattle.use_contexts.specs.Rows.{IsSubholding, Answer, Agrees, Shared, paired, paired_unless, left_in_both, newest_difference, taken, closed, is_unused, newest, older, allowed, outside, slack_outside, without_linear}
+use Rattle.use_contexts.specs.Holding.{Holding, WellMarked, Split, Uses, is_weak, is_linear, is_persistent, persistent_alone, may_use, allowed, without_linear}
+use Rattle.use_contexts.specs.Rows.{IsSubholding, Answer, Agrees, Shared, left_in_both, newest_difference, taken, is_unused, newest, older, outside, slack_outside}
+use Rattle.use_contexts.proofs.RowAnswers.{paired, paired_unless, closed}
 use Rattle.use_contexts.proofs.Bits.{and-left, and-right}
 use Rattle.use_contexts.proofs.RowLaws.{agrees-same, pair-agrees, IsSubholding-first}
 use Rattle.use_contexts.proofs.UseLaws.{IsSubholding-self, WellMarked-part, unit-agrees, idle-agrees, take-refused, take-agrees, scope-agrees}
@@ -20,13 +21,20 @@ use Rattle.hered_subst.specs.Substitution.{single, SubstitutedType}
 use Rattle.trace_equal.specs.Exchange.{JoinedEach}
 use Rattle.clf_sig.specs.Entry.{PlainSignature, constant_type}
 use Rattle.clf_kernel.specs.Typing.{HeadHasType, LambdaRule, PairRule, AtomicRule, ApplicationRule, HasType, Synthesizes}
-use Rattle.clf_kernel.specs.Refusal.{unused, mode_differs, family_differs, Outcome, passed, refused, at_part, and_then, Leftover, eliminations}
-use Rattle.clf_kernel.specs.Checking.{answer_of, same_mode, constant_left, held_left, variable_left, head_left, closed_scope, lambda_left, joined_left, pair_left, unit_left, found_left, atomic_left, argument_left, first_left, second_left, checked, inferred}
-use Rattle.clf_kernel.specs.Reach.{without_indices, IsSimpleSignature, IsSimpleContext, without_monads, neutral_without_monads}
-use Rattle.clf_kernel.specs.Exact.{AgreesWithType}
-use Rattle.clf_kernel.specs.Laws.{ChecksExactly, InfersExactly}
+use Rattle.clf_kernel.specs.Refusal.{unused, mode_differs, family_differs, eliminations}
+use Rattle.clf_kernel.specs.Outcome.{Outcome, passed, refused, at_part, and_then, answer_of}
+use Rattle.use_contexts.specs.Rows.{Leftover}
+use Rattle.clf_kernel.specs.Checking.{constant_left, held_left, variable_left, head_left, closed_scope, lambda_left, joined_left, pair_left, unit_left, found_left, atomic_left, argument_left, first_left, second_left, checked, inferred}
+use Rattle.trace_equal.specs.Search.{same_mode}
+use Rattle.clf_kernel.specs.Reach.{without_indices, SignatureInReach, ContextInReach, ObjectInReach, NeutralInReach, without_monads, neutral_without_monads}
 use Rattle.clf_kernel.proofs.Held.{same_number}
 use Rattle.clf_kernel.proofs.WithoutIndices.{renamed-type, same-type, itself-type, simple-variable}
+
+-- An outcome with a type agrees with a property of parts and types: where it passed, the type has no indices, the row that is left stands
+-- for exactly the parts that have the property at that type, and they have it at no other. Where it is refused, no part has it at any type.
+abbrev pub AgreesWithType : Context → Holding → Outcome (PlainType × Leftover) → (Holding → PlainType → Type 0) → Type 0
+AgreesWithType g h (passed f) P = (without_indices f.0 ≡ true) × Agrees (modes g) h (Some f.1) (λ p. P p f.0) × ((p : Holding) (a : PlainType) → P p a → a ≡ f.0)
+AgreesWithType g h (refused path cause) P = (p : Holding) (a : PlainType) → IsSubholding (modes g) h p → P p a → ⊥
 
 -- ---- types and modes
 pub same-mode : (m k : Mode) → same_mode m k ≡ true → m ≡ k
@@ -344,7 +352,7 @@ marked-there (d ∷ g) [] i w e q x = absurd w
 marked-there (d ∷ g) (b ∷ h) zero w e q x = cc
 marked-there (d ∷ g) (b ∷ h) (suc i) w e q x = marked-there g h i w.1 e q x
 
-constant-agrees : (sig : PlainSignature) → IsSimpleSignature sig → (g : Context) (h : Holding) → WellMarked (modes g) h → (c : ℕ) (o : Option PlainType) → constant_type sig c ≡ o
+constant-agrees : (sig : PlainSignature) → SignatureInReach sig → (g : Context) (h : Holding) → WellMarked (modes g) h → (c : ℕ) (o : Option PlainType) → constant_type sig c ≡ o
     → AgreesWithType g h (constant_left c h o) (λ p a. HeadHasType sig g p (Const c) a)
 constant-agrees sig s g h w c None e = λ p a u y. none-some a (sym e ∙ y.0)
 constant-agrees sig s g h w c (Some a) e = (
@@ -354,7 +362,7 @@ constant-agrees sig s g h w c (Some a) e = (
   (λ p b y. same_Some b a (sym y.0 ∙ e)),
 )
 
-held-agrees : (sig : PlainSignature) (g : Context) → IsSimpleContext g → (h : Holding) → WellMarked (modes g) h → (i : ℕ) (e : Mode × PlainType) → slice_get g i ≡ Some e
+held-agrees : (sig : PlainSignature) (g : Context) → ContextInReach g → (h : Holding) → WellMarked (modes g) h → (i : ℕ) (e : Mode × PlainType) → slice_get g i ≡ Some e
     → (o : Option Bool) → slice_get h i ≡ o → AgreesWithType g h (held_left g h i e.1 o) (λ p a. HeadHasType sig g p (Var i) a)
 held-agrees sig g s h w i e q (Some true) x =
     let simple = simple-variable g s i e q in (
@@ -372,21 +380,21 @@ held-agrees sig g s h w i e q (Some true) x =
 held-agrees sig g s h w i e q (Some false) x = λ p a u y. take-refused (modes g) h i x p u y.0
 held-agrees sig g s h w i e q None x = λ p a u y. marked-there g h i w e q x
 
-variable-agrees : (sig : PlainSignature) (g : Context) → IsSimpleContext g → (h : Holding) → WellMarked (modes g) h → (i : ℕ) (o : Option (Mode × PlainType)) → slice_get g i ≡ o
+variable-agrees : (sig : PlainSignature) (g : Context) → ContextInReach g → (h : Holding) → WellMarked (modes g) h → (i : ℕ) (o : Option (Mode × PlainType)) → slice_get g i ≡ o
     → AgreesWithType g h (variable_left g h i o) (λ p a. HeadHasType sig g p (Var i) a)
 variable-agrees sig g s h w i None q = λ p a u y. none-some (y.1.0, y.1.1) (sym q ∙ y.1.2)
 variable-agrees sig g s h w i (Some e) q = held-agrees sig g s h w i e q (slice_get h i) refl
 
-head-agrees : (sig : PlainSignature) → IsSimpleSignature sig → (g : Context) → IsSimpleContext g → (h : Holding) → WellMarked (modes g) h → (x : Head)
+head-agrees : (sig : PlainSignature) → SignatureInReach sig → (g : Context) → ContextInReach g → (h : Holding) → WellMarked (modes g) h → (x : Head)
     → AgreesWithType g h (head_left sig g h x) (λ p a. HeadHasType sig g p x a)
 head-agrees sig s g c h w (Const k) = constant-agrees sig s g h w k (constant_type sig k) refl
 head-agrees sig s g c h w (Var i) = variable-agrees sig g c h w i (slice_get g i) refl
 head-agrees sig s g c h w (Meta k) = λ p a u y. y
 
 -- ---- all objects and neutrals
-module _ (sig : PlainSignature) (s : IsSimpleSignature sig) where
+module _ (sig : PlainSignature) (s : SignatureInReach sig) where
   mutual
-    pub object-agrees : (n : PlainObject) (g : Context) (h : Holding) (t : PlainType) → IsSimpleContext g → WellMarked (modes g) h → without_monads n ≡ true → without_indices t ≡ true
+    pub object-agrees : (n : PlainObject) (g : Context) (h : Holding) (t : PlainType) → ContextInReach g → WellMarked (modes g) h → without_monads n ≡ true → without_indices t ≡ true
         → Agrees (modes g) h (answer_of (checked sig g h n t)) (λ p. HasType sig g p n t)
     object-agrees (lam m b) g h t c w n e =
         lambda-agrees m g h t (λ a d. checked sig ((m, a) ∷ g) (true ∷ h) b d) (λ a d p. HasType sig ((m, a) ∷ g) p b d) e
@@ -400,7 +408,7 @@ module _ (sig : PlainSignature) (s : IsSimpleSignature sig) where
     object-agrees (atomic r) g h t c w n e = atomic-agrees g h t (inferred sig g h r) (λ p a. Synthesizes sig g p r a) e (neutral-agrees r g h c w n)
     object-agrees hole g h t c w n e = λ p u y. y
 
-    pub neutral-agrees : (r : PlainNeutral) (g : Context) (h : Holding) → IsSimpleContext g → WellMarked (modes g) h → neutral_without_monads r ≡ true
+    pub neutral-agrees : (r : PlainNeutral) (g : Context) (h : Holding) → ContextInReach g → WellMarked (modes g) h → neutral_without_monads r ≡ true
         → AgreesWithType g h (inferred sig g h r) (λ p a. Synthesizes sig g p r a)
     neutral-agrees (head_alone x) g h c w n = head-agrees sig s g c h w x
     neutral-agrees (app m r o) g h c w n =
@@ -410,10 +418,13 @@ module _ (sig : PlainSignature) (s : IsSimpleSignature sig) where
     neutral-agrees (fst r) g h c w n = first-agrees g h (eliminations r) (inferred sig g h r) (λ p a. Synthesizes sig g p r a) (neutral-agrees r g h c w n)
     neutral-agrees (snd r) g h c w n = second-agrees g h (eliminations r) (inferred sig g h r) (λ p a. Synthesizes sig g p r a) (neutral-agrees r g h c w n)
 
-pub checks_exactly : ChecksExactly
-checks_exactly sig g h n t s c w m e = object-agrees sig s n g h t c w m e
+-- What is left stands for exactly the parts of the holding under which the rules type the object, and a refusal comes only where there
+-- is no such part.
+pub checks_exactly : (sig : PlainSignature) (g : Context) (h : Holding) (n : PlainObject) (t : PlainType) → ObjectInReach sig g h n t
+    → Agrees (modes g) h (answer_of (checked sig g h n t)) (λ p. HasType sig g p n t)
+checks_exactly sig g h n t w = object-agrees sig w.signature n g h t w.context w.marked w.object w.type
 
-pub infers_exactly : InfersExactly
-infers_exactly sig g h r s c w m = neutral-agrees sig s r g h c w m
-
-pub ruleset checking_laws = (checks_exactly, infers_exactly)
+-- So it is with the type that is found of a neutral.
+pub infers_exactly : (sig : PlainSignature) (g : Context) (h : Holding) (r : PlainNeutral) → NeutralInReach sig g h r
+    → AgreesWithType g h (inferred sig g h r) (λ p a. Synthesizes sig g p r a)
+infers_exactly sig g h r w = neutral-agrees sig w.signature r g h w.context w.marked w.neutral

@@ -8,53 +8,22 @@ use Rattle.clf_syntax.specs.declared.tree.Head.TheVariants.{Const, Var, Meta}
 use Rattle.clf_syntax.specs.Tree.{PlainObject, lam, pair, unit, monadic, atomic, hole, PlainNeutral, head_alone, app, fst, snd}
 use Rattle.clf_syntax.specs.TypeTree.{PlainType, family, function, both, top, monad}
 use Rattle.use_contexts.specs.Context.{Context, modes}
-use Rattle.use_contexts.specs.Holding.{Holding, WellMarked}
-use Rattle.use_contexts.specs.Rows.{implies, within, stands, differs, IsSubholding, EachWithin, EachStands, Stands, Agrees, newest_difference, is_unused, newest, older, allowed, outside, slack_outside}
+use Rattle.use_contexts.specs.Holding.{Holding, WellMarked, allowed}
+use Rattle.use_contexts.specs.Rows.{implies, within, stands, differs, IsSubholding, EachWithin, EachStands, Stands, Agrees, newest_difference, is_unused, newest, older, outside, slack_outside, Leftover}
 use Rattle.use_contexts.proofs.Bits.{at_entry, given, given_3, and-left, and-right, and-both}
 use Rattle.use_contexts.proofs.RowLaws.{IsSubholding-stands}
 use Rattle.use_contexts.proofs.UseLaws.{WellMarked-part}
 use Rattle.clf_sig.specs.Entry.{PlainSignature, constant_type}
 use Rattle.clf_kernel.specs.Typing.{HasType, Synthesizes}
-use Rattle.clf_kernel.specs.Refusal.{Cause, unused, mode_differs, family_differs, Outcome, passed, refused, at_part, and_then, Leftover, eliminations}
-use Rattle.clf_kernel.specs.Checking.{answer_of, same_mode, constant_left, held_left, variable_left, head_left, closed_scope, lambda_left, joined_left, pair_left, unit_left, found_left, atomic_left, argument_left, first_left, second_left, checked, inferred}
-use Rattle.clf_kernel.specs.Reach.{without_indices, IsSimpleSignature, IsSimpleContext, without_monads, neutral_without_monads}
+use Rattle.clf_kernel.specs.Refusal.{Cause, unused, mode_differs, family_differs, eliminations}
+use Rattle.clf_kernel.specs.Outcome.{Outcome, passed, refused, at_part, and_then, answer_of}
+use Rattle.clf_kernel.specs.Checking.{constant_left, held_left, variable_left, head_left, closed_scope, lambda_left, joined_left, pair_left, unit_left, found_left, atomic_left, argument_left, first_left, second_left, checked, inferred}
+use Rattle.trace_equal.specs.Search.{same_mode}
+use Rattle.clf_kernel.specs.Reach.{without_indices, SignatureInReach, ContextInReach, ObjectInReach, NeutralInReach, without_monads, neutral_without_monads}
 use Rattle.clf_kernel.specs.Explained.{DiffersAt, MaySynthesize, object_at, neutral_with, whole, in_body, in_left_part, in_right_part, in_neutral, at_head, at_argument, at_first, at_second, before_argument, before_first, before_second, in_argument_part, lambda_at_none, argument_to_none, pair_at_none, first_of_none, second_of_none, unit_at_none, neutral_at_none, neutral_of_none, hole_stands, metavariable_stands, lambda_differs, argument_differs, variable_not_held, variable_unused, parts_differ, other_family, no_variable, no_constant, ExplainedAt, ExplainedInNeutral}
-use Rattle.clf_kernel.specs.Exact.{AgreesWithType}
-use Rattle.clf_kernel.proofs.Agreement.{marked-there, same-mode, other-mode, other-number, allowed-marked, object-agrees, neutral-agrees}
-
--- ---- a row stands for some part: that with the entries that are used
-abbrev pub used : Mode → Bool → Bool → Bool
-used Persistent h l = h
-used Affine h l = h && not l
-used Linear h l = h && not l
-
-used_stands : (m : Mode) (h l s : Bool) → within m h l ≡ true → stands m h l s (used m h l) ≡ true
-used_stands m h l s a =
-    given (within m h l) (stands m h l s (used m h l))
-    (at_entry (λ m h l s _ _ _ _ _. implies (within m h l) (stands m h l s (used m h l))) refl refl refl m h l s true true true true true) a
-
-abbrev pub used_of : List Mode → Holding → Holding → Holding
-used_of [] h l = []
-used_of (m ∷ ms) h l = used m (newest h) (newest l) ∷ used_of ms (older h) (older l)
-
-length-used_of : (ms : List Mode) (h l : Holding) → length (used_of ms h l) ≡ length ms
-length-used_of [] h l = refl
-length-used_of (m ∷ ms) h l = ap suc (length-used_of ms (older h) (older l))
-
-each-used_of : (ms : List Mode) (h l : Holding) (s : Bool) → EachWithin ms h l → EachStands ms h l s (used_of ms h l)
-each-used_of [] h l s w = tt
-each-used_of (m ∷ ms) h l s w = (used_stands m (newest h) (newest l) s w.0, each-used_of ms (older h) (older l) s w.1)
-
--- what has an answer holds of that part
-pub used-part : (ms : List Mode) (h : Holding) (a : Leftover) (P : Holding → Type 0) → Agrees ms h (Some a) P → IsSubholding ms h (used_of ms h a.0) × P (used_of ms h a.0)
-used-part ms h a P x =
-    let p = used_of ms h a.0 in
-    let s : Stands ms h a.0 a.1 p = (length-used_of ms h a.0, each-used_of ms h a.0 a.1 x.0.1) in
-    let w = IsSubholding-stands ms h a.0 a.1 p s in
-    (w, x.2 p w s)
-
-pub some-part : (ms : List Mode) (h : Holding) (a : Leftover) (P : Holding → Type 0) → Agrees ms h (Some a) P → (p : Holding) × IsSubholding ms h p × P p
-some-part ms h a P x = let p = used-part ms h a P x in (used_of ms h a.0, p.0, p.1)
+use Rattle.clf_kernel.proofs.UsedParts.{used, used_stands, used_of, length-used_of, each-used_of, used-part, some-part}
+use Rattle.clf_kernel.proofs.Leavings.{row-leaves}
+use Rattle.clf_kernel.proofs.Agreement.{AgreesWithType, marked-there, same-mode, other-mode, other-number, allowed-marked, object-agrees, neutral-agrees}
 
 -- ---- entries of parts
 get-now : (p : Holding) (n : ℕ) (b : Bool) → length p ≡ suc n → newest p ≡ b → slice_get p 0 ≡ Some b
@@ -354,7 +323,8 @@ module _ (sig : PlainSignature) (g : Context) (h : Holding) where
   argument-explained : (m : Mode) (r : PlainNeutral) (n : PlainObject) (a c : PlainType) (x : Leftover) (o : Outcome Leftover)
       → Agrees (modes g) h (Some x) (λ p. Synthesizes sig g p r (function m a c)) → Explained sig g (allowed m (modes g) x.0) n a o
       → NeutralExplained sig g h (app m r n) (and_then (at_part (eliminations r) o) (λ y. passed (c, (outside m (modes g) x.0 y.0, x.1 || slack_outside m y.1))))
-  argument-explained m r n a c x (refused path why) u v = (v.0, v.1, v.2, in_argument_part a c x.0 x.1 u v.3, v.4)
+  argument-explained m r n a c x (refused path why) u v = 
+      (v.0, v.1, v.2, in_argument_part a c x.0 (some-part (modes g) h x (λ p. Synthesizes sig g p r (function m a c)) u) (row-leaves g h x (λ p. Synthesizes sig g p r (function m a c)) u) v.3, v.4)
   argument-explained m r n a c x (passed y) u v = tt
 
   mode-explained : (m k : Mode) (z : Bool) → same_mode m k ≡ z → (r : PlainNeutral) (n : PlainObject) (a c : PlainType) (x : Leftover) (o : Outcome Leftover)
@@ -426,9 +396,9 @@ module _ (sig : PlainSignature) (g : Context) (h : Holding) where
   head-explained (Meta k) w = (g, h, neutral_with (head_alone (Meta k)), at_head, metavariable_stands)
 
 -- ---- all objects and neutrals
-module _ (sig : PlainSignature) (s : IsSimpleSignature sig) where
+module _ (sig : PlainSignature) (s : SignatureInReach sig) where
   mutual
-    object-explained : (n : PlainObject) (g : Context) (h : Holding) (t : PlainType) → IsSimpleContext g → WellMarked (modes g) h → without_monads n ≡ true → without_indices t ≡ true
+    object-explained : (n : PlainObject) (g : Context) (h : Holding) (t : PlainType) → ContextInReach g → WellMarked (modes g) h → without_monads n ≡ true → without_indices t ≡ true
         → Explained sig g h n t (checked sig g h n t)
     object-explained (lam m b) g h t c w n e =
         lambda-explained sig g h m b t (λ a d. checked sig ((m, a) ∷ g) (true ∷ h) b d) e
@@ -445,7 +415,7 @@ module _ (sig : PlainSignature) (s : IsSimpleSignature sig) where
     object-explained (atomic r) g h t c w n e = atomic-explained sig g h r t (inferred sig g h r) (neutral-agrees sig s r g h c w n) (neutral-explained r g h c w n)
     object-explained hole g h t c w n e = (g, h, object_at hole t, whole, hole_stands)
 
-    neutral-explained : (r : PlainNeutral) (g : Context) (h : Holding) → IsSimpleContext g → WellMarked (modes g) h → neutral_without_monads r ≡ true
+    neutral-explained : (r : PlainNeutral) (g : Context) (h : Holding) → ContextInReach g → WellMarked (modes g) h → neutral_without_monads r ≡ true
         → NeutralExplained sig g h r (inferred sig g h r)
     neutral-explained (head_alone y) g h c w n = head-explained sig g h y w
     neutral-explained (app m r o) g h c w n =
@@ -456,13 +426,11 @@ module _ (sig : PlainSignature) (s : IsSimpleSignature sig) where
     neutral-explained (fst r) g h c w n = first-explained sig g h r (inferred sig g h r) (neutral-agrees sig s r g h c w n) (neutral-explained r g h c w n)
     neutral-explained (snd r) g h c w n = second-explained sig g h r (inferred sig g h r) (neutral-agrees sig s r g h c w n) (neutral-explained r g h c w n)
 
--- in words of the equation that the laws have
-pub explained-object : (sig : PlainSignature) (g : Context) (h : Holding) (n : PlainObject) (t : PlainType) (path : List ℕ) (why : Cause)
-    → IsSimpleSignature sig → IsSimpleContext g → WellMarked (modes g) h → without_monads n ≡ true → without_indices t ≡ true
+-- in words of an equation
+pub explained-object : (sig : PlainSignature) (g : Context) (h : Holding) (n : PlainObject) (t : PlainType) (path : List ℕ) (why : Cause) → ObjectInReach sig g h n t
     → checked sig g h n t ≡ refused path why → ExplainedAt sig g h n t path why
-explained-object sig g h n t path why s c w m e q = subst (λ o. Explained sig g h n t o) q (object-explained sig s n g h t c w m e)
+explained-object sig g h n t path why w q = subst (λ o. Explained sig g h n t o) q (object-explained sig w.signature n g h t w.context w.marked w.object w.type)
 
-pub explained-neutral : (sig : PlainSignature) (g : Context) (h : Holding) (r : PlainNeutral) (path : List ℕ) (why : Cause)
-    → IsSimpleSignature sig → IsSimpleContext g → WellMarked (modes g) h → neutral_without_monads r ≡ true
+pub explained-neutral : (sig : PlainSignature) (g : Context) (h : Holding) (r : PlainNeutral) (path : List ℕ) (why : Cause) → NeutralInReach sig g h r
     → inferred sig g h r ≡ refused path why → ExplainedInNeutral sig g h r path why
-explained-neutral sig g h r path why s c w m q = subst (λ o. NeutralExplained sig g h r o) q (neutral-explained sig s r g h c w m)
+explained-neutral sig g h r path why w q = subst (λ o. NeutralExplained sig g h r o) q (neutral-explained sig w.signature r g h w.context w.marked w.neutral)

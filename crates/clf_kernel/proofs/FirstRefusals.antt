@@ -1,5 +1,5 @@
 -- A part at a path that is refused for a cause is the check's refusal: it is the first, and the one that is answered.
-use Rattle.std.proofs.Common.{◌≡◌, ◌≤◌, ◌<◌, ℕ, suc, ◌-◌, ◌==◌, Bool, true, false, ◌&&◌, ◌||◌, if◌then◌else◌, List, [], ◌∷◌, length, Option, None, Some, slice_get, refl, sym, ap, subst, ◌∙◌, arith}
+use Rattle.std.proofs.Common.{◌≡◌, ◌≤◌, ◌<◌, ℕ, suc, ◌-◌, ◌==◌, Bool, true, false, ◌&&◌, ◌||◌, if◌then◌else◌, List, [], ◌∷◌, length, Option, None, Some, slice_get, refl, sym, ap, subst, ◌∙◌, ◌↔◌, arith}
 use Rattle.std.proofs.Math.Bool.{beq}
 use Rattle.std.proofs.lemmas.Bool.{cond-true, cond-false}
 use Rattle.clf_syntax.specs.declared.tree.Mode.{Mode}
@@ -8,20 +8,22 @@ use Rattle.clf_syntax.specs.declared.tree.Head.{Head}
 use Rattle.clf_syntax.specs.Tree.{PlainObject, lam, pair, PlainNeutral, head_alone, app, fst, snd}
 use Rattle.clf_syntax.specs.TypeTree.{PlainType, family, function, both, top, monad}
 use Rattle.use_contexts.specs.Context.{Context, modes}
-use Rattle.use_contexts.specs.Holding.{Holding, WellMarked}
-use Rattle.use_contexts.specs.Rows.{implies, within, stands, IsSubholding, EachWithin, EachStands, Agrees, newest_difference, is_unused, newest, older, allowed, outside, slack_outside}
+use Rattle.use_contexts.specs.Holding.{Holding, WellMarked, allowed}
+use Rattle.use_contexts.specs.Rows.{implies, within, stands, IsSubholding, EachWithin, EachStands, Agrees, newest_difference, is_unused, newest, older, outside, slack_outside, Leftover}
 use Rattle.use_contexts.proofs.Bits.{at_entry, given_3, and-left, and-right, and-both}
 use Rattle.use_contexts.proofs.UseLaws.{WellMarked-part, scope-agrees}
 use Rattle.clf_sig.specs.Entry.{PlainSignature}
 use Rattle.clf_kernel.specs.Typing.{HasType, Synthesizes}
-use Rattle.clf_kernel.specs.Refusal.{Cause, not_function, not_pair, not_top, not_atomic, unused, mode_differs, family_differs, pairs_differ, Outcome, passed, refused, at_part, and_then, Leftover, eliminations}
-use Rattle.clf_kernel.specs.Checking.{answer_of, same_mode, constant_left, held_left, variable_left, head_left, closed_scope, lambda_left, joined_left, pair_left, unit_left, found_left, atomic_left, argument_left, first_left, second_left, checked, inferred}
-use Rattle.clf_kernel.specs.Reach.{without_indices, IsSimpleSignature, IsSimpleContext, without_monads, neutral_without_monads}
-use Rattle.clf_kernel.specs.Explained.{MayHaveType, MaySynthesize, CheckedPart, object_at, neutral_with, Reaches, ReachesInNeutral, whole, in_body, in_left_part, in_right_part, in_neutral, at_head, at_argument, at_first, at_second, before_argument, before_first, before_second, in_argument_part, IsNoFunction, IsNoPair, IsNoFamily, DiffersAt, Refuses, lambda_at_none, argument_to_none, pair_at_none, first_of_none, second_of_none, unit_at_none, neutral_at_none, neutral_of_none, hole_stands, metavariable_stands, lambda_differs, argument_differs, variable_not_held, variable_unused, parts_differ, other_family, no_variable, no_constant}
-use Rattle.clf_kernel.specs.Exact.{AgreesWithType}
-use Rattle.clf_kernel.specs.Laws.{RefusesExactly, RefusesNeutralsExactly}
-use Rattle.clf_kernel.proofs.Agreement.{itself-mode, allowed-marked, object-agrees, neutral-agrees}
-use Rattle.clf_kernel.proofs.Explanations.{explained-object, explained-neutral, some-part, same_from_beq, differ-at, differ-found, rows-differ, parts-differ, used, used_of, used-part}
+use Rattle.clf_kernel.specs.Refusal.{Cause, not_function, not_pair, not_top, not_atomic, unused, mode_differs, family_differs, pairs_differ, eliminations}
+use Rattle.clf_kernel.specs.Outcome.{Outcome, passed, refused, at_part, and_then, answer_of}
+use Rattle.clf_kernel.specs.Checking.{constant_left, held_left, variable_left, head_left, closed_scope, lambda_left, joined_left, pair_left, unit_left, found_left, atomic_left, argument_left, first_left, second_left, checked, inferred}
+use Rattle.trace_equal.specs.Search.{same_mode}
+use Rattle.clf_kernel.specs.Reach.{without_indices, SignatureInReach, ContextInReach, ObjectInReach, NeutralInReach, without_monads, neutral_without_monads}
+use Rattle.clf_kernel.specs.Explained.{MayHaveType, MaySynthesize, CheckedPart, object_at, neutral_with, Reaches, ReachesInNeutral, whole, in_body, in_left_part, in_right_part, in_expression, in_neutral, at_head, at_argument, at_first, at_second, before_argument, before_first, before_second, in_argument_part, Leaves, IsNoFunction, IsNoPair, IsNoFamily, FirstIndices, DiffersAt, Refuses, lambda_at_none, argument_to_none, pair_at_none, first_of_none, second_of_none, unit_at_none, monadic_at_none, neutral_at_none, neutral_of_none, hole_stands, metavariable_stands, lambda_differs, argument_differs, variable_not_held, variable_unused, parts_differ, other_family, other_index, no_variable, no_constant, ExplainedAt, ExplainedInNeutral}
+use Rattle.clf_kernel.proofs.UsedParts.{some-part}
+use Rattle.clf_kernel.proofs.Leavings.{row-leaves, leaves-one}
+use Rattle.clf_kernel.proofs.Agreement.{AgreesWithType, itself-mode, allowed-marked, object-agrees, neutral-agrees}
+use Rattle.clf_kernel.proofs.Explanations.{explained-object, explained-neutral, differ-at, differ-found, rows-differ, parts-differ}
 
 -- ---- what may have a type passes
 typed-passes : (ms : List Mode) (h : Holding) (o : Outcome Leftover) (P : Holding → Type 0) → Agrees ms h (answer_of o) P → (p : Holding) × IsSubholding ms h p × P p
@@ -107,6 +109,11 @@ modes-differ Linear Affine f = refl
 numbers-differ : (i v : ℕ) → (i ≡ v → ⊥) → (i == v) ≡ false
 numbers-differ i v f = grind arith
 
+-- of a family without indices none differs
+no-index : (f : ℕ) (ns os : List PlainObject) {o n : PlainObject} → FirstIndices os ns o n → without_indices (family f ns) ≡ true → ⊥
+no-index f [] os q e = let there = q.wanted_there in absurd (cc)
+no-index f (n ∷ ns) os q e = absurd (cc)
+
 -- ---- a linear variable that no part holds
 abbrev unused_at : Context → Outcome Leftover
 unused_at g = refused [] (unused (suc (length g)))
@@ -129,37 +136,12 @@ newest-one i o f d = let e : d.0 ≡ i = same d.0 (d.2) (f d.0 d.1) in d.1 ∙ a
     same : (j : ℕ) → j ≤ i → (j < i → ⊥) → j ≡ i
     same j a b = grind arith
 
--- ---- a row is determined by the parts that it stands for
-same_entry : (m : Mode) (h a s b t : Bool) → stands m h b t (used m h a) ≡ true → stands m h a s (used m h b) ≡ true → (within m h a && within m h b) ≡ true → a ≡ b
-same_entry m h a s b t x y z =
-    same_from_beq a b (given_3 (stands m h b t (used m h a)) (stands m h a s (used m h b)) (within m h a && within m h b) (beq a b)
-    (at_entry (λ m h a s b t _ _ _. implies (stands m h b t (used m h a)) (implies (stands m h a s (used m h b)) (implies (within m h a && within m h b) (beq a b)))) refl refl refl m h a s b t true true true)
-    x y z)
-
-same-each : (ms : List Mode) (h a : Holding) (s : Bool) (b : Holding) (t : Bool) → length a ≡ length ms → length b ≡ length ms → EachWithin ms h a → EachWithin ms h b
-    → EachStands ms h b t (used_of ms h a) → EachStands ms h a s (used_of ms h b) → a ≡ b
-same-each [] h [] s [] t m n u v x y = refl
-same-each [] h (e ∷ a) s b t m n u v x y = absurd (omega arith)
-same-each [] h [] s (e ∷ b) t m n u v x y = absurd (omega arith)
-same-each (i ∷ ms) h [] s b t m n u v x y = absurd (omega arith)
-same-each (i ∷ ms) h (e ∷ a) s [] t m n u v x y = absurd (omega arith)
-same-each (i ∷ ms) h (e ∷ a) s (f ∷ b) t m n u v x y =
-    let here = same_entry i (newest h) e s f t x.0 y.0 (and-both (within i (newest h) e) (within i (newest h) f) u.0 v.0) in
-    let rest = same-each ms (older h) a s b t (omega arith) (omega arith) u.1 v.1 x.1 y.1 in
-    cc (here, rest)
-
-same-row : (ms : List Mode) (h : Holding) (a b : Leftover) (P : Holding → Type 0) → Agrees ms h (Some a) P → Agrees ms h (Some b) P → a.0 ≡ b.0
-same-row ms h a b P x y =
-    let p = used-part ms h a P x in
-    let q = used-part ms h b P y in
-    same-each ms h a.0 a.1 b.0 b.1 x.0.0 y.0.0 x.0.1 y.0.1 (y.1 (used_of ms h a.0) p.0 p.1).1 (x.1 (used_of ms h b.0) q.0 q.1).1
-
 -- ---- refusals of the whole
 -- what follows an argument's outcome
 abbrev argument_passed : Mode → Context → PlainNeutral → PlainType → Leftover → Outcome Leftover → Outcome (PlainType × Leftover)
 argument_passed m g r d x o = and_then (at_part (eliminations r) o) (λ y. passed (d, (outside m (modes g) x.0 y.0, x.1 || slack_outside m y.1)))
 
-module _ (sig : PlainSignature) (simple : IsSimpleSignature sig) (g : Context) (c : IsSimpleContext g) (h : Holding) (w : WellMarked (modes g) h) where
+module _ (sig : PlainSignature) (simple : SignatureInReach sig) (g : Context) (c : ContextInReach g) (h : Holding) (w : WellMarked (modes g) h) where
   -- a neutral that may synthesize a type passes with it
   inferred-as : (r : PlainNeutral) (a : PlainType) → neutral_without_monads r ≡ true → MaySynthesize sig g h r a → (x : Leftover) × (inferred sig g h r ≡ passed (a, x))
   inferred-as r a n t = synthesized-passes g h (inferred sig g h r) (λ p b. Synthesizes sig g p r b) a (neutral-agrees sig simple r g h c w n) t
@@ -203,6 +185,7 @@ module _ (sig : PlainSignature) (simple : IsSimpleSignature sig) (g : Context) (
   whole-exact n t why (neutral_at_none {r = r} a s f) k e = let x = inferred-as r a k s in ap (λ o. and_then o (atomic_left t)) x.1 ∙ neutral-at-none t (a, x.0) f
   whole-exact n t why (neutral_of_none {r = r} {f = f} {ns = ns} {a = a} s u) k e =
       let x = inferred-as r a k s in ap (λ o. and_then o (atomic_left (family f ns))) x.1 ∙ neutral-of-none f a x.0 u
+  whole-exact n t why (monadic_at_none f) k e = absurd (cc)
   whole-exact n t why hole_stands k e = refl
   whole-exact n t why (lambda_differs {m = m} {k = j} {b = b} {a = a} {c = d} f) k e =
       cond-false (same_mode m j) (and_then (at_part 0 (checked sig ((m, a) ∷ g) (true ∷ h) b d)) (closed_scope m g)) (refused [] (mode_differs j m)) (modes-differ m j f)
@@ -213,6 +196,7 @@ module _ (sig : PlainSignature) (simple : IsSimpleSignature sig) (g : Context) (
   whole-exact n t why (other_family {r = r} {wanted = wanted} {found = found} {ns = ns} os s f) k e =
       let x = inferred-as r (family found os) k s in
       ap (λ o. and_then o (atomic_left (family wanted ns))) x.1 ∙ cond-false (wanted == found) (passed x.0) (refused [] (family_differs found wanted)) (numbers-differ wanted found f)
+  whole-exact n t why (other_index {f = f} {ns = ns} os s q) k e = absurd (no-index f ns os q e)
 
   head-exact : (y : Head) (why : Cause) → Refuses sig g h (neutral_with (head_alone y)) why → head_left sig g h y ≡ refused [] why
   head-exact y why metavariable_stands = refl
@@ -237,26 +221,26 @@ module _ (sig : PlainSignature) (simple : IsSimpleSignature sig) (g : Context) (
   second-exact : (r : PlainNeutral) (why : Cause) → Refuses sig g h (neutral_with (snd r)) why → neutral_without_monads r ≡ true → inferred sig g h (snd r) ≡ refused (eliminations r ∷ []) why
   second-exact r why (second_of_none {t = t} s f) k = let x = inferred-as r t k s in ap (λ o. and_then o (second_left (eliminations r))) x.1 ∙ second-of-none (eliminations r) t x.0 f
 
-  -- an argument starts from the row that stands for the parts under which its function has its type
-  argument-reached : (m : Mode) (r : PlainNeutral) (n : PlainObject) (a d : PlainType) (left : Holding) (slack : Bool) (path : List ℕ) (why : Cause) → neutral_without_monads r ≡ true
-      → Agrees (modes g) h (Some (left, slack)) (λ p. Synthesizes sig g p r (function m a d))
-      → (without_indices a ≡ true → checked sig g (allowed m (modes g) left) n a ≡ refused path why)
+  -- an argument starts from what its function leaves
+  argument-reached : (m : Mode) (r : PlainNeutral) (n : PlainObject) (a d : PlainType) (left : Holding) (path : List ℕ) (why : Cause) → neutral_without_monads r ≡ true
+      → MaySynthesize sig g h r (function m a d) → Leaves g h (λ p. Synthesizes sig g p r (function m a d)) left
+      → (WellMarked (modes g) left → without_indices a ≡ true → checked sig g (allowed m (modes g) left) n a ≡ refused path why)
       → inferred sig g h (app m r n) ≡ refused (eliminations r ∷ path) why
-  argument-reached m r n a d left slack path why k u v =
-      let row : Leftover = (left, slack) in
-      let x = inferred-as r (function m a d) k (some-part (modes g) h row (λ p. Synthesizes sig g p r (function m a d)) u) in
+  argument-reached m r n a d left path why k u s v =
+      let x = inferred-as r (function m a d) k u in
       let y = subst (λ o. AgreesWithType g h o (λ p t. Synthesizes sig g p r t)) x.1 (neutral-agrees sig simple r g h c w k) in
-      let same = same-row (modes g) h x.0 row (λ p. Synthesizes sig g p r (function m a d)) y.1 u in
+      let same = leaves-one g h (λ p. Synthesizes sig g p r (function m a d)) x.0.0 left (row-leaves g h x.0 (λ p. Synthesizes sig g p r (function m a d)) y.1) s in
+      let marked = subst (λ z. WellMarked (modes g) z) same (WellMarked-part (modes g) h x.0.0 y.1.0) in
       ap (λ o. and_then o (λ f. argument_left m g (eliminations r) f (λ row a. checked sig g row n a))) x.1
       ∙ cond-true (same_mode m m) (argument_passed m g r d x.0 (checked sig g (allowed m (modes g) x.0.0) n a)) (refused (eliminations r ∷ []) (mode_differs m m)) (itself-mode m)
       ∙ ap (λ z. argument_passed m g r d x.0 (checked sig g (allowed m (modes g) z) n a)) same
-      ∙ ap (λ o. argument_passed m g r d x.0 o) (v (and-left (without_indices a) (without_indices d) y.0))
+      ∙ ap (λ o. argument_passed m g r d x.0 o) (v marked (and-left (without_indices a) (without_indices d) y.0))
 
 -- ---- refusals of parts
-module _ (sig : PlainSignature) (simple : IsSimpleSignature sig) where
+module _ (sig : PlainSignature) (simple : SignatureInReach sig) where
   mutual
     object-exact : (g : Context) (h : Holding) (n : PlainObject) (t : PlainType) (path : List ℕ) (k : Context) (l : Holding) (x : CheckedPart) (why : Cause)
-        → Reaches sig g h n t path k l x → Refuses sig k l x why → IsSimpleContext g → WellMarked (modes g) h → without_monads n ≡ true → without_indices t ≡ true
+        → Reaches sig g h n t path k l x → Refuses sig k l x why → ContextInReach g → WellMarked (modes g) h → without_monads n ≡ true → without_indices t ≡ true
         → checked sig g h n t ≡ refused path why
     object-exact g h n t path k l x why whole u c w i e = whole-exact sig simple g c h w n t why u i e
     object-exact g h n t path k l x why (in_body {m = m} {b = b} {a = a} {c = d} {path = q} v) u c w i e =
@@ -271,10 +255,11 @@ module _ (sig : PlainSignature) (simple : IsSimpleSignature sig) where
         let f = object-exact g h r d q k l x why v u c w (and-right (without_monads o) (without_monads r) i) (and-right (without_indices a) (without_indices d) e) in
         ap (λ z. and_then (at_part 0 z) (λ p. and_then (at_part 1 (checked sig g h r d)) (λ q. joined_left g p q (newest_difference (modes g) p.0 p.1 q.0 q.1)))) y.1
         ∙ ap (λ z. and_then (at_part 1 z) (λ q. joined_left g y.0 q (newest_difference (modes g) y.0.0 y.0.1 q.0 q.1))) f
+    object-exact g h n t path k l x why (in_expression v) u c w i e = absurd (cc)
     object-exact g h n t path k l x why (in_neutral {r = r} v) u c w i e = ap (λ o. and_then o (atomic_left t)) (neutral-exact g h r path k l x why v u c w i)
 
     neutral-exact : (g : Context) (h : Holding) (r : PlainNeutral) (path : List ℕ) (k : Context) (l : Holding) (x : CheckedPart) (why : Cause)
-        → ReachesInNeutral sig g h r path k l x → Refuses sig k l x why → IsSimpleContext g → WellMarked (modes g) h → neutral_without_monads r ≡ true
+        → ReachesInNeutral sig g h r path k l x → Refuses sig k l x why → ContextInReach g → WellMarked (modes g) h → neutral_without_monads r ≡ true
         → inferred sig g h r ≡ refused path why
     neutral-exact g h r path k l x why (at_head {y = y}) u c w i = head-exact sig simple g c h w y why u
     neutral-exact g h r path k l x why (at_argument {m = m} {r = s} {n = n}) u c w i = argument-exact sig simple g c h w m s n why u (and-left (neutral_without_monads s) (without_monads n) i)
@@ -285,15 +270,18 @@ module _ (sig : PlainSignature) (simple : IsSimpleSignature sig) where
         (neutral-exact g h s path k l x why v u c w (and-left (neutral_without_monads s) (without_monads n) i))
     neutral-exact g h r path k l x why (before_first {r = s} v) u c w i = ap (λ o. and_then o (first_left (eliminations s))) (neutral-exact g h s path k l x why v u c w i)
     neutral-exact g h r path k l x why (before_second {r = s} v) u c w i = ap (λ o. and_then o (second_left (eliminations s))) (neutral-exact g h s path k l x why v u c w i)
-    neutral-exact g h r path k l x why (in_argument_part {m = m} {r = s} {n = n} {path = q} a d left slack f v) u c w i =
-        argument-reached sig simple g c h w m s n a d left slack q why (and-left (neutral_without_monads s) (without_monads n) i) f
-        (λ e. object-exact g (allowed m (modes g) left) n a q k l x why v u c (allowed-marked m (modes g) left (WellMarked-part (modes g) h left f.0))
+    neutral-exact g h r path k l x why (in_argument_part {m = m} {r = s} {n = n} {path = q} a d left f y v) u c w i =
+        argument-reached sig simple g c h w m s n a d left q why (and-left (neutral_without_monads s) (without_monads n) i) f y
+        (λ marked e. object-exact g (allowed m (modes g) left) n a q k l x why v u c (allowed-marked m (modes g) left marked)
         (and-right (neutral_without_monads s) (without_monads n) i) e)
 
-pub refuses_exactly : RefusesExactly
-refuses_exactly sig g h n t path why s c w m e =
-    ((λ q. explained-object sig g h n t path why s c w m e q), (λ u. object-exact sig s g h n t path u.0 u.1 u.2 why u.3 u.4 c w m e))
+-- A refusal comes exactly where at its path stands a part that is refused for its cause.
+pub refuses_exactly : (sig : PlainSignature) (g : Context) (h : Holding) (n : PlainObject) (t : PlainType) (path : List ℕ) (why : Cause) → ObjectInReach sig g h n t
+    → (checked sig g h n t ≡ refused path why) ↔ ExplainedAt sig g h n t path why
+refuses_exactly sig g h n t path why w =
+    ((λ q. explained-object sig g h n t path why w q), (λ u. object-exact sig w.signature g h n t path u.0 u.1 u.2 why u.3 u.4 w.context w.marked w.object w.type))
 
-pub refuses_neutrals_exactly : RefusesNeutralsExactly
-refuses_neutrals_exactly sig g h r path why s c w m =
-    ((λ q. explained-neutral sig g h r path why s c w m q), (λ u. neutral-exact sig s g h r path u.0 u.1 u.2 why u.3 u.4 c w m))
+pub refuses_neutrals_exactly : (sig : PlainSignature) (g : Context) (h : Holding) (r : PlainNeutral) (path : List ℕ) (why : Cause) → NeutralInReach sig g h r
+    → (inferred sig g h r ≡ refused path why) ↔ ExplainedInNeutral sig g h r path why
+refuses_neutrals_exactly sig g h r path why w =
+    ((λ q. explained-neutral sig g h r path why w q), (λ u. neutral-exact sig w.signature g h r path u.0 u.1 u.2 why u.3 u.4 w.context w.marked w.neutral))

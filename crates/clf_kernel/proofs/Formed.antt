@@ -1,18 +1,19 @@
 -- Types without indices, and entries with them, are well formed exactly where their families are there.
-use Rattle.std.proofs.Common.{◌≡◌, ℕ, suc, ◌≤◌, true, [], ◌∷◌, Option, None, Some, Result, Ok, Err, refl, sym, ap, subst}
-use Rattle.clf_syntax.specs.declared.fault.OrWide.{OrWide}
-use Rattle.clf_syntax.specs.declared.fault.OrWide.TheVariants.{Fault, NoMemory, TooFar}
+use Rattle.std.proofs.Common.{◌≡◌, ℕ, suc, ◌≤◌, true, [], ◌∷◌, Option, None, Some, refl, sym, ap, subst}
 use Rattle.clf_syntax.specs.TypeTree.{PlainType, family, function, both, top, monad, PlainTelescope, end, binding, PlainKind}
 use Rattle.use_contexts.specs.Context.{Context}
 use Rattle.clf_sig.specs.Entry.{PlainSignature, PlainEntry, PlainClass, family_of, constant_of, family_kind}
-use Rattle.clf_kernel.specs.declared.refusal.Refusal.{Refusal}
-use Rattle.clf_kernel.specs.Reach.{without_indices, telescope_without_indices}
-use Rattle.clf_kernel.specs.Reach.{IsSimpleSignature}
+use Rattle.clf_kernel.specs.Reach.{without_indices, telescope_without_indices, ClassInReach}
+use Rattle.clf_kernel.specs.Reach.{SignatureInReach}
 use Rattle.clf_kernel.specs.WellFormed.{WellFormedType, WellFormedTelescope, WellFormedKind, WellFormedClass, WellFormedEntry, may_be_implicit}
-use Rattle.clf_kernel.specs.Refusal.{Outcome, passed, refused, at_part, and_then}
-use Rattle.clf_kernel.specs.Formation.{family_formed, type_formed, telescope_formed, IsSimpleClass, class_formed, Decided, Decides}
-use Rattle.clf_kernel.specs.Answers.{Answers}
+use Rattle.clf_kernel.specs.Outcome.{Outcome, passed, refused, at_part, and_then}
+use Rattle.clf_kernel.specs.Formation.{family_formed, type_formed, telescope_formed, class_formed}
 use Rattle.clf_kernel.proofs.Signatures.{bare_families, first_of_both, second_of_both}
+
+-- An outcome decides a statement: it holds where the outcome passed, and not where it is refused.
+abbrev pub Decided : {A : Type 0} → Outcome A → Type 0 → Type 0
+Decided (passed a) P = P
+Decided (refused path cause) P = P → ⊥
 
 decided_as : {A P Q : Type 0} (o : Outcome A) → (P → Q) → (Q → P) → Decided o P → Decided o Q
 decided_as (passed a) f k p = f p
@@ -32,9 +33,9 @@ decided_family : (f : ℕ) (o : Option PlainKind) → ((k : PlainKind) → o ≡
 decided_family f (Some k) h = ap Some (h k refl)
 decided_family f None h = λ e. cc
 
-module _ (sig : PlainSignature) (simple : IsSimpleSignature sig) where
+module _ (sig : PlainSignature) (simple : SignatureInReach sig) where
   mutual
-    decided_type : (a : PlainType) (g : Context) → without_indices a ≡ true → Decided (type_formed sig a) (WellFormedType sig g a)
+    pub decided_type : (a : PlainType) (g : Context) → without_indices a ≡ true → Decided (type_formed sig a) (WellFormedType sig g a)
     decided_type (family f []) g e = decided_as (family_formed f (family_kind sig f)) (bare_families sig g f).1 (bare_families sig g f).0 (decided_family f (family_kind sig f) (simple.1 f))
     decided_type (family f (n ∷ ns)) g e = absurd (cc)
     decided_type (function m a b) g e = decided_parts _ _ 0 1 (type_formed sig a) (type_formed sig b) (decided_type a g (first_of_both _ _ e)) (decided_type b ((m, a) ∷ g) (second_of_both (without_indices a) _ e))
@@ -47,16 +48,9 @@ module _ (sig : PlainSignature) (simple : IsSimpleSignature sig) where
     decided_telescope (binding m a s) place g e =
         decided_in_turn _ _ place (type_formed sig a) (telescope_formed sig (suc place) s) (decided_type a g (first_of_both _ _ e)) (decided_telescope s (suc place) ((m, a) ∷ g) (second_of_both (without_indices a) _ e))
 
-  decided_class : (c : PlainClass) → IsSimpleClass c → Decided (class_formed sig c) (WellFormedClass sig c)
+  decided_class : (c : PlainClass) → ClassInReach c → Decided (class_formed sig c) (WellFormedClass sig c)
   decided_class (family_of k) e = subst (λ l. WellFormedKind sig [] l) (sym e) tt
   decided_class (constant_of a) e = decided_type a [] e
 
-  pub decided_entry : (e : PlainEntry) → IsSimpleClass e.class → e.implicit ≤ may_be_implicit e.class → Decided (class_formed sig e.class) (WellFormedEntry sig e)
+  pub decided_entry : (e : PlainEntry) → ClassInReach e.class → e.implicit ≤ may_be_implicit e.class → Decided (class_formed sig e.class) (WellFormedEntry sig e)
   decided_entry e c i = decided_as (class_formed sig e.class) (λ p. (p, i)) (λ p. p.0) (decided_class e.class c)
-
--- An answer of an outcome decides what the outcome decides.
-pub answers_decide : {A : Type 0} (P : Type 0) (want : Outcome A) (r : Result A (OrWide Refusal)) → Answers (λ x. x) want r → Decided want P → Decides r P
-answers_decide P want (Ok x) e d = subst (λ w. Decided w P) e d
-answers_decide P want (Err (Fault r)) e d = subst (λ w. Decided w P) e d
-answers_decide P want (Err NoMemory) e d = tt
-answers_decide P want (Err (TooFar w)) e d = tt

@@ -1,4 +1,4 @@
--- Typed objects mention held variables alone, and what is well formed is clean.
+-- Typed objects mention no variable that is marked as not held, and what is well formed is clean.
 use Rattle.std.specs.Prelude.{ℕ, zero, suc, ◌+◌, ◌≡◌, ◌||◌, nat_eq, Bool, true, false, List, [], ◌∷◌, length, Some, refl, option_map}
 use Rattle.std.specs.List.{slice_get, list_any}
 use Rattle.std.proofs.Common.{ap, sym, subst, ◌∙◌, arith, add-one}
@@ -18,7 +18,7 @@ use Rattle.clf_sig.specs.Entry.{PlainSignature}
 use Rattle.clf_kernel.specs.Typing.{HeadHasType, HasType, Synthesizes, ExpressionHasType, TupleHasType}
 use Rattle.clf_kernel.specs.WellFormed.{IndicesHaveTypes, WellFormedType, WellFormedTelescope, WellFormedContext}
 use Rattle.clf_kernel.specs.Clean.{IsNotPersistent, CleanType, CleanTelescope, CleanContext}
-use Rattle.clf_kernel.specs.Laws.{MentionsHeldAlone, WellFormedIsClean}
+use Rattle.clf_kernel.specs.Laws.{MentionsNothingUnheld, WellFormedIsClean}
 
 neither : (a b : Bool) → false ≡ a || b → (a ≡ false) × (b ≡ false)
 neither false b e = (refl, sym e)
@@ -98,8 +98,8 @@ mutual
   unheld_tuple sig g h (entry m n t) s p i e = let (e1, e2) = split_unheld (modes g) h p.for_first p.for_later i p.split e in
       none_of (occurs i n) (occurs_tuple i t) (unheld_object sig g p.for_first n p.first_type p.first i e1) (unheld_tuple sig g p.for_later t p.after_put p.later i e2)
 
-pub mentions_held_alone : MentionsHeldAlone
-mentions_held_alone = unheld_object
+pub mentions_nothing_unheld : MentionsNothingUnheld
+mentions_nothing_unheld = unheld_object
 
 unheld_persistent : (g : Context) (i : ℕ) → IsNotPersistent g i → Unheld (persistent_alone (modes g)) i
 unheld_persistent g i p = slice_get-map is_persistent (modes g) i ∙ ap (option_map is_persistent) p.1 ∙ ap (λ b. Some b) p.2
@@ -144,4 +144,4 @@ clean_context sig (e ∷ g) p = (clean_type sig g e.1 p.0, absent_type sig g e.1
 pub well_formed_is_clean : WellFormedIsClean
 well_formed_is_clean sig g = ((λ a p. (clean_type sig g a p, absent_type sig g a p)), (λ s p. (clean_telescope sig g s p, absent_telescope sig g s p)), clean_context sig g)
 
-pub ruleset clean_laws = (mentions_held_alone, well_formed_is_clean)
+pub ruleset clean_laws = (mentions_nothing_unheld, well_formed_is_clean)

@@ -11,7 +11,7 @@ use Rattle.use_contexts.specs.Holding.{Holding, all_held, persistent_alone}
 use Rattle.clf_sig.specs.Entry.{PlainSignature, family_kind, constant_type}
 use Rattle.clf_kernel.specs.Typing.{HeadHasType, HasType, Synthesizes, ExpressionHasType, TupleHasType}
 use Rattle.clf_kernel.specs.WellFormed.{IndicesHaveTypes, WellFormedType, WellFormedTelescope, WellFormedKind}
-use Rattle.clf_kernel.specs.Laws.{Weakening}
+use Rattle.clf_kernel.specs.Laws.{LongerSignatures}
 
 -- t has what s has
 abbrev pub Kept : PlainSignature → PlainSignature → Type 0
@@ -132,8 +132,8 @@ pub kept_kind : (s t : PlainSignature) → Kept s t → (k : PlainKind) (g : Con
 kept_kind s t e [] g p = p
 kept_kind s t e (a ∷ k) g p = (kept_type s t e a g p.0, kept_kind s t e k ((Persistent, a) ∷ g) p.1)
 
-pub weakening : Weakening
-weakening s more g = (
+pub longer_signatures : LongerSignatures
+longer_signatures s more g = (
   (λ h n a p. kept_object s (s ++ more) (longer s more) n g h a p),
   (λ h r a p. kept_neutral s (s ++ more) (longer s more) r g h a p),
   (λ h x u p. kept_expression s (s ++ more) (longer s more) x g h u p),

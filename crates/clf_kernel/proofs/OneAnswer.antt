@@ -6,65 +6,61 @@ use Rattle.clf_syntax.specs.declared.tree.Mode.TheVariants.{Persistent, Affine, 
 use Rattle.clf_syntax.specs.TypeTree.{PlainType}
 use Rattle.use_contexts.specs.Context.{Context, modes}
 use Rattle.use_contexts.specs.Holding.{Holding, WellMarked, is_weak, is_linear}
-use Rattle.use_contexts.specs.Rows.{implies, within, stands, newest, older, IsSubholding, EachWithin, EachStands, Stands, Agrees}
+use Rattle.use_contexts.specs.Rows.{implies, within, stands, newest, older, IsSubholding, EachWithin, EachStands, Stands, Agrees, Leftover}
 use Rattle.use_contexts.proofs.Bits.{at_entry, given_2, given_3, and-left, and-right, and-both}
 use Rattle.use_contexts.proofs.UseLaws.{IsSubholding-self}
 use Rattle.clf_kernel.specs.Typing.{HasType, Synthesizes}
-use Rattle.clf_kernel.specs.Refusal.{Cause, Leftover, Outcome, passed, refused}
-use Rattle.clf_kernel.specs.Checking.{answer_of, checked, inferred}
+use Rattle.clf_kernel.specs.Reach.{without_indices}
+use Rattle.clf_kernel.specs.Refusal.{Cause}
+use Rattle.clf_kernel.specs.Outcome.{Outcome, passed, refused, answer_of}
+use Rattle.clf_kernel.specs.Checking.{checked, inferred}
+use Rattle.clf_kernel.specs.Formation.{class_formed}
 use Rattle.clf_kernel.specs.Explained.{ExplainedAt}
-use Rattle.clf_kernel.specs.Laws.{RefusedIsExplained, RefusalIsOne, NeutralRefusalIsOne, LeaveTheSame, LeftoverIsOne, SlackIsIdle, InferredIsOne}
-use Rattle.clf_kernel.proofs.Agreement.{checks_exactly}
-use Rattle.clf_kernel.proofs.Explanations.{used, used_of, used-part, some-part, same_from_beq}
+use Rattle.clf_kernel.specs.Laws.{RefusedIsExplained, RefusalIsOne, NeutralRefusalIsOne, EntryRefusalIsOne, LeaveTheSame, LeftoverIsOne, SlackIsIdle, InferredIsOne, SynthesizedInReach}
+use Rattle.clf_kernel.proofs.UsedParts.{some-part}
+use Rattle.clf_kernel.proofs.Leavings.{row-leaves, leaves-one}
+use Rattle.clf_kernel.proofs.Agreement.{AgreesWithType, checks_exactly, infers_exactly}
 use Rattle.clf_kernel.proofs.FirstRefusals.{refuses_exactly, refuses_neutrals_exactly}
+use Rattle.clf_kernel.proofs.EntryRefusals.{class-exact}
 
 -- ---- refusals
 same_refusal : {A : Type 0} (o : Outcome A) (path other : List ℕ) (why because : Cause) → o ≡ refused path why → o ≡ refused other because → (path ≡ other) × (why ≡ because)
 same_refusal o path other why because e f = (cc, cc)
 
 pub refusal_is_one : RefusalIsOne
-refusal_is_one sig g h n t path other why because s c w m e x y =
-    same_refusal (checked sig g h n t) path other why because ((refuses_exactly sig g h n t path why s c w m e).1 x) ((refuses_exactly sig g h n t other because s c w m e).1 y)
+refusal_is_one sig g h n t path other why because w x y =
+    same_refusal (checked sig g h n t) path other why because ((refuses_exactly sig g h n t path why w).1 x) ((refuses_exactly sig g h n t other because w).1 y)
 
 pub neutral_refusal_is_one : NeutralRefusalIsOne
-neutral_refusal_is_one sig g h r path other why because s c w m x y =
-    same_refusal (inferred sig g h r) path other why because ((refuses_neutrals_exactly sig g h r path why s c w m).1 x) ((refuses_neutrals_exactly sig g h r other because s c w m).1 y)
+neutral_refusal_is_one sig g h r path other why because w x y =
+    same_refusal (inferred sig g h r) path other why because ((refuses_neutrals_exactly sig g h r path why w).1 x) ((refuses_neutrals_exactly sig g h r other because w).1 y)
+
+pub entry_refusal_is_one : EntryRefusalIsOne
+entry_refusal_is_one sig e path other why because w x y =
+    same_refusal (class_formed sig e.class) path other why because (class-exact sig w.signature e.class path why w.class x) (class-exact sig w.signature e.class other because w.class y)
 
 pub refused_is_explained : RefusedIsExplained
-refused_is_explained sig g h n t s c w m e = (there (checked sig g h n t) refl, back)
+refused_is_explained sig g h n t w = (there (checked sig g h n t) refl, back)
   where
     agrees : (o : Outcome Leftover) → checked sig g h n t ≡ o → Agrees (modes g) h (answer_of o) (λ p. HasType sig g p n t)
-    agrees o q = subst (λ (x : Outcome Leftover). Agrees (modes g) h (answer_of x) (λ p. HasType sig g p n t)) q (checks_exactly sig g h n t s c w m e)
+    agrees o q = subst (λ (x : Outcome Leftover). Agrees (modes g) h (answer_of x) (λ p. HasType sig g p n t)) q (checks_exactly sig g h n t w)
 
     there : (o : Outcome Leftover) → checked sig g h n t ≡ o → Agrees (modes g) h None (λ p. HasType sig g p n t) → (path : List ℕ) × (why : Cause) × ExplainedAt sig g h n t path why
     there (passed a) q none = let p = some-part (modes g) h a (λ p. HasType sig g p n t) (agrees (passed a) q) in absurd (none p.0 p.1 p.2)
-    there (refused path why) q none = (path, why, (refuses_exactly sig g h n t path why s c w m e).0 q)
+    there (refused path why) q none = (path, why, (refuses_exactly sig g h n t path why w).0 q)
 
     back : (path : List ℕ) × (why : Cause) × ExplainedAt sig g h n t path why → Agrees (modes g) h None (λ p. HasType sig g p n t)
-    back x = agrees (refused x.0 x.1) ((refuses_exactly sig g h n t x.0 x.1 s c w m e).1 x.2)
+    back x = agrees (refused x.0 x.1) ((refuses_exactly sig g h n t x.0 x.1 w).1 x.2)
+
+-- a type that a neutral within reach synthesizes
+pub synthesized_in_reach : SynthesizedInReach
+synthesized_in_reach sig g h r p a w = by (inferred sig g h r) (infers_exactly sig g h r w)
+  where
+    by : (o : Outcome (PlainType × Leftover)) → AgreesWithType g h o (λ q b. Synthesizes sig g q r b) → IsSubholding (modes g) h p → Synthesizes sig g p r a → without_indices a ≡ true
+    by (passed f) u s t = subst (λ b. without_indices b ≡ true) (sym (u.2 p a t)) u.0
+    by (refused path why) u s t = absurd (u p a s t)
 
 -- ---- leftovers
--- Rows that stand for the parts that each other uses are the same.
-same_mark : (m : Mode) (h l s k t : Bool) → (within m h l && within m h k) ≡ true → stands m h k t (used m h l) ≡ true → stands m h l s (used m h k) ≡ true → l ≡ k
-same_mark m h l s k t a b c =
-    same_from_beq l k (given_3 (within m h l && within m h k) (stands m h k t (used m h l)) (stands m h l s (used m h k)) (beq l k)
-    (at_entry (λ m h l s k t _ _ _. implies (within m h l && within m h k) (implies (stands m h k t (used m h l)) (implies (stands m h l s (used m h k)) (beq l k))))
-    refl refl refl m h l s k t true true true) a b c)
-
-same_row : (ms : List Mode) (h l : Holding) (s : Bool) (k : Holding) (t : Bool) → IsSubholding ms h l → IsSubholding ms h k
-    → EachStands ms h k t (used_of ms h l) → EachStands ms h l s (used_of ms h k) → l ≡ k
-same_row [] h [] s [] t a b c d = refl
-same_row [] h (x ∷ l) s k t a b c d = let e = a.0 in absurd (omega arith)
-same_row [] h [] s (y ∷ k) t a b c d = let e = b.0 in absurd (omega arith)
-same_row (m ∷ ms) h [] s k t a b c d = let e = a.0 in absurd (omega arith)
-same_row (m ∷ ms) h (x ∷ l) s [] t a b c d = let e = b.0 in absurd (omega arith)
-same_row (m ∷ ms) h (x ∷ l) s (y ∷ k) t a b c d =
-    let p = a.0 in
-    let q = b.0 in
-    let mark : x ≡ y = same_mark m (newest h) x s y t (and-both (within m (newest h) x) (within m (newest h) y) a.1.0 b.1.0) c.0 d.0 in
-    let rest : l ≡ k = same_row ms (older h) l s k t (omega arith, a.1.1) (omega arith, b.1.1) c.1 d.1 in
-    cc
-
 -- A row with slack stands for the whole holding, if that is a part of itself.
 each_whole : (ms : List Mode) (h l : Holding) → EachWithin ms h h → EachWithin ms h l → EachStands ms h l true h
 each_whole [] h l a b = tt
@@ -103,9 +99,7 @@ both_ways false false f g = refl
 
 leftover_is_one : (g : Context) (h : Holding) (a b : Leftover) (P : Holding → Type 0) → WellMarked (modes g) h → Agrees (modes g) h (Some a) P → Agrees (modes g) h (Some b) P → LeaveTheSame g a b
 leftover_is_one g h (l, s) (k, t) P w a b =
-    let first = used-part (modes g) h (l, s) P a in
-    let second = used-part (modes g) h (k, t) P b in
-    let row : l ≡ k = same_row (modes g) h l s k t a.0 b.0 (b.1 (used_of (modes g) h l) first.0 first.1).1 (a.1 (used_of (modes g) h k) second.0 second.1).1 in
+    let row : l ≡ k = leaves-one g h P l k (row-leaves g h (l, s) P a) (row-leaves g h (k, t) P b) in
     let same : Agrees (modes g) h (Some (l, t)) P = subst (λ (x : Holding). Agrees (modes g) h (Some (x, t)) P) (sym row) b in
     (row, λ e. both_ways s t (slack_too (modes g) h l s t P w a same e) (slack_too (modes g) h l t s P w same a e))
 
@@ -114,10 +108,10 @@ object_leftover_is_one sig g h n t a b w x y = leftover_is_one g h a b (λ p. Ha
 
 pub inferred_is_one : InferredIsOne
 inferred_is_one sig g h r (a, l) (b, k) w x y =
-    let p = some-part (modes g) h l (λ p. Synthesizes sig g p r a) x.1 in
-    let type : a ≡ b = y.2 p.0 a p.2 in
-    let same = subst (λ (c : PlainType). Agrees (modes g) h (Some k) (λ p. Synthesizes sig g p r c)) (sym type) y.1 in
-    (type, leftover_is_one g h l k (λ p. Synthesizes sig g p r a) w x.1 same)
+    let p = some-part (modes g) h l (λ p. Synthesizes sig g p r a) x.0 in
+    let type : a ≡ b = y.1 p.0 a p.2 in
+    let same = subst (λ (c : PlainType). Agrees (modes g) h (Some k) (λ p. Synthesizes sig g p r c)) (sym type) y.0 in
+    (type, leftover_is_one g h l k (λ p. Synthesizes sig g p r a) w x.0 same)
 
 -- ---- slack that has nothing to take
 idle_mark : (m : Mode) (h l s t p : Bool) → not (is_linear m && l) ≡ true → stands m h l s p ≡ true → stands m h l t p ≡ true

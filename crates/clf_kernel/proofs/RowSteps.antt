@@ -6,8 +6,8 @@ use Rattle.clf_syntax.specs.declared.tree.TeleEntry.{TeleEntry}
 use Rattle.clf_syntax.specs.PlainTypes.{plain_tele_entry}
 use Rattle.hered_subst.proofs.Renamed.{length_map}
 use Rattle.use_contexts.specs.Context.{Context, modes}
-use Rattle.use_contexts.specs.Holding.{Holding, is_linear, is_persistent, persistent_alone}
-use Rattle.use_contexts.specs.Rows.{without_linear, linear_of, left_in_both, differs, newest_difference, older}
+use Rattle.use_contexts.specs.Holding.{Holding, is_linear, is_persistent, persistent_alone, without_linear}
+use Rattle.use_contexts.specs.Rows.{linear_of, left_in_both, differs, newest_difference, older}
 use Rattle.use_contexts.proofs.Lookups.{drop_at}
 
 -- a newer mark stands in front

@@ -8,8 +8,8 @@ use Rattle.use_contexts.specs.Context.{Context}
 use Rattle.clf_sig.specs.Entry.{PlainSignature, Declaration, PlainClass, family_of, constant_of, kind_in, type_in, names, family_kind, constant_type}
 use Rattle.clf_kernel.specs.WellFormed.{IndicesHaveTypes, WellFormedType, WellFormedTelescope, WellFormedKind, WellFormedClass, MayFollow, AllMayFollow}
 use Rattle.clf_kernel.specs.Reach.{without_indices, telescope_without_indices}
-use Rattle.clf_kernel.specs.Laws.{BareFamilies, CompoundTypes, AnyContext, Extended, EachFollows, NamesDiffer, EntriesWellFormed}
-use Rattle.clf_kernel.proofs.Longer.{longer, kept_type, kept_kind, weakening}
+use Rattle.clf_kernel.specs.Laws.{BareFamilies, AnyContext, Extended, EachFollows, NamesDiffer, EntriesWellFormed}
+use Rattle.clf_kernel.proofs.Longer.{longer, kept_type, kept_kind, longer_signatures}
 
 no_arguments : (sig : PlainSignature) (g : Context) (k : PlainKind) → IndicesHaveTypes sig g [] k → k ≡ []
 no_arguments sig g [] p = refl
@@ -17,9 +17,6 @@ no_arguments sig g (a ∷ k) p = absurd p
 
 pub bare_families : BareFamilies
 bare_families sig g f = ((λ p. p.1 ∙ ap (λ k. Some k) (no_arguments sig g p.0 p.2)), (λ e. ([], e, tt)))
-
-pub compound_types : CompoundTypes
-compound_types sig g = ((λ m a b. ((λ p. p), (λ p. p))), (λ a b. ((λ p. p), (λ p. p))), tt, (λ s. ((λ p. p), (λ p. p))))
 
 pub first_of_both : (a b : Bool) → a && b ≡ true → a ≡ true
 first_of_both true b e = refl
@@ -132,4 +129,4 @@ constants_formed s (d ∷ l) (suc c) a p e = subst (λ x. WellFormedType x [] a)
 pub entries_well_formed : EntriesWellFormed
 entries_well_formed sig p = ((λ f k e. families_formed [] sig f k p e), (λ c a e. constants_formed [] sig c a p e))
 
-pub ruleset signature_laws = (bare_families, compound_types, any_context, extended, each_follows, names_differ, weakening, entries_well_formed)
+pub ruleset signature_laws = (bare_families, any_context, extended, each_follows, names_differ, longer_signatures, entries_well_formed)

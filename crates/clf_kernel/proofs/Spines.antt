@@ -9,7 +9,9 @@ use Rattle.clf_syntax.specs.TypeTree.{PlainType}
 use Rattle.use_contexts.specs.Context.{Context}
 use Rattle.use_contexts.specs.Holding.{Holding}
 use Rattle.clf_sig.specs.Entry.{PlainSignature}
-use Rattle.clf_kernel.specs.Refusal.{Outcome, passed, refused, and_then, Leftover, eliminations}
+use Rattle.clf_kernel.specs.Refusal.{eliminations}
+use Rattle.clf_kernel.specs.Outcome.{Outcome, passed, refused, and_then}
+use Rattle.use_contexts.specs.Rows.{Leftover}
 use Rattle.clf_kernel.specs.Checking.{head_left, inferred}
 use Rattle.clf_kernel.specs.declared.refusal.Stop.{Stop}
 use Rattle.clf_kernel.specs.Spine.{elimination_left, spine_left}

@@ -7,9 +7,10 @@ use Rattle.use_contexts.specs.Holding.{Holding, WellMarked}
 use Rattle.clf_kernel.specs.declared.refusal.Refusal.{Refusal}
 use Rattle.clf_kernel.specs.declared.refusal.Stop.{Stop}
 use Rattle.clf_kernel.specs.declared.refusal.Stop.TheVariants.{Refused, NoMemory, TooFar}
-use Rattle.clf_kernel.specs.Refusal.{Cause, Outcome, refused, at_part, and_then}
-use Rattle.clf_kernel.specs.Answers.{plain_cause, IsWide, Answers}
-use Rattle.clf_kernel.specs.Stops.{Stops, Ends, IsShort, IsPartOf, IsFault}
+use Rattle.clf_kernel.specs.Refusal.{Cause}
+use Rattle.clf_kernel.specs.Outcome.{Outcome, refused, at_part, and_then}
+use Rattle.clf_kernel.specs.Answers.{plain_cause, IsWide}
+use Rattle.clf_kernel.specs.Stops.{Stops, Ends, IsShort, IsPartOf, IsFault, Answers}
 
 pub refusal_stops : (A : Type 0) (path : List ℕ) (cause : Cause) (s : Stop) → Ends path cause s → Stops {A = A} (refused path cause) s
 refusal_stops A path cause (Refused outward c) e = ap (λ p. refused p cause) (sym e.0) ∙ ap (λ k. refused (reverse outward.items) k) (sym e.1)

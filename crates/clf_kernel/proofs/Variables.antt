@@ -5,7 +5,8 @@ use Rattle.clf_syntax.specs.TypeTree.{PlainType}
 use Rattle.use_contexts.specs.Context.{Context, modes}
 use Rattle.use_contexts.specs.Holding.{Holding}
 use Rattle.use_contexts.specs.Rows.{taken}
-use Rattle.clf_kernel.specs.Refusal.{passed, refused, not_held, level}
+use Rattle.clf_kernel.specs.Refusal.{not_held, level}
+use Rattle.clf_kernel.specs.Outcome.{passed, refused}
 use Rattle.clf_kernel.specs.Checking.{variable_left}
 
 present : {X : Type 0} (xs : List X) (i : ℕ) → i < length xs → (x : X) × (slice_get xs i ≡ Some x)

@@ -7,7 +7,7 @@ use Rattle.clf_syntax.specs.Renaming.{Renumbering, lifted, ren_type, ren_telesco
 use Rattle.use_contexts.specs.Context.{Context}
 use Rattle.use_contexts.proofs.Bits.{and-left, and-right}
 use Rattle.hered_subst.specs.Substitution.{Environment, under, SubstitutedEach, each_none, SubstitutedType, in_family, in_function, in_both, in_top, in_monad, SubstitutedTelescope, in_end, in_binding}
-use Rattle.clf_kernel.specs.Reach.{without_indices, telescope_without_indices, IsSimpleContext}
+use Rattle.clf_kernel.specs.Reach.{without_indices, telescope_without_indices, ContextInReach}
 
 -- ---- renaming
 mutual
@@ -79,7 +79,7 @@ mutual
 
 -- ---- contexts
 -- the type of a variable
-pub simple-variable : (g : Context) → IsSimpleContext g → (i : ℕ) (e : Mode × PlainType) → slice_get g i ≡ Some e → without_indices e.1 ≡ true
+pub simple-variable : (g : Context) → ContextInReach g → (i : ℕ) (e : Mode × PlainType) → slice_get g i ≡ Some e → without_indices e.1 ≡ true
 simple-variable [] s i e q = cc
 simple-variable (d ∷ g) s zero e q = let same : d ≡ e = cc in let w = s.0 in cc
 simple-variable (d ∷ g) s (suc i) e q = simple-variable g s.1 i e q

@@ -12,7 +12,9 @@ use Rattle.clf_kernel.specs.declared.refusal.Cause.{Cause as DeclaredCause}
 use Rattle.clf_kernel.specs.declared.refusal.Cause.TheVariants.{NotFunction, NotPair, NotTop, NotAtomic, NotClosed, ModeDiffers, NotHeld, Unused, PairsDiffer, FamilyDiffers, UnknownHead}
 use Rattle.clf_kernel.specs.declared.refusal.Refusal.{Refusal}
 use Rattle.clf_kernel.specs.declared.refusal.Inferred.{Inferred}
-use Rattle.clf_kernel.specs.Refusal.{Cause, not_function, not_pair, not_top, not_atomic, not_closed, mode_differs, not_held, unused, pairs_differ, family_differs, unknown_head, Outcome, passed, refused, Leftover}
+use Rattle.clf_kernel.specs.Refusal.{Cause, not_function, not_pair, not_top, not_atomic, not_closed, mode_differs, not_held, unused, pairs_differ, family_differs, unknown_head}
+use Rattle.clf_kernel.specs.Outcome.{Outcome, passed, refused}
+use Rattle.use_contexts.specs.Rows.{Leftover}
 
 abbrev pub plain_cause : DeclaredCause → Cause
 plain_cause (NotFunction a) = not_function (plain_ty a)
@@ -36,10 +38,3 @@ plain_inferred i = (plain_ty i.ty, plain_left i.left)
 -- The list that it keeps has an entry for each number of 32 bits but one.
 abbrev pub IsWide : Wide → Type 0
 IsWide w = 4294967295 ≤ length (out-Tele w.counted).entries
-
--- A call answers an outcome: what passed in its plain form, or the refusal with its path and its cause.
-abbrev pub Answers : {X A : Type 0} → (X → A) → Outcome A → Result X (OrWide Refusal) → Type 0
-Answers plain want (Ok x) = want ≡ passed (plain x)
-Answers plain want (Err (Fault r)) = want ≡ refused r.path.items (plain_cause r.cause)
-Answers plain want (Err NoMemory) = Unit {0}
-Answers plain want (Err (TooFar w)) = IsWide w

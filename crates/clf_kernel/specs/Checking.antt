@@ -1,6 +1,5 @@
--- What the check of an object leaves of a holding, or which refusal comes first. This follows the table of leftovers in
--- docs/language.md. It is an inner definition: what the calls that check promise does not speak of it. The laws `checking` and
--- `refusals` say that it agrees with the rules of Typing and of Explained.
+-- Inner: what the check of an object leaves of a holding, or which refusal comes first. This follows the table of leftovers in
+-- docs/language.md. What the calls that check promise does not speak of it: proofs lead from it to the rules of Typing and Explained.
 -- It speaks of objects without monads over types without indices, where nothing is put for the variable of a function;
 -- what it says of a monadic object is of no use yet.
 --
@@ -14,21 +13,12 @@ use Rattle.clf_syntax.specs.declared.tree.Head.TheVariants.{Const, Var, Meta}
 use Rattle.clf_syntax.specs.Tree.{PlainObject, lam, pair, unit, monadic, atomic, hole, PlainNeutral, head_alone, app, fst, snd}
 use Rattle.clf_syntax.specs.TypeTree.{PlainType, family, function, both, top}
 use Rattle.use_contexts.specs.Context.{Context, modes}
-use Rattle.use_contexts.specs.Holding.{Holding}
-use Rattle.use_contexts.specs.Rows.{Answer, taken, left_in_both, newest_difference, newest, older, is_unused, allowed, outside, slack_outside}
+use Rattle.trace_equal.specs.Search.{same_mode}
+use Rattle.use_contexts.specs.Holding.{Holding, allowed}
+use Rattle.use_contexts.specs.Rows.{Answer, taken, left_in_both, newest_difference, newest, older, is_unused, outside, slack_outside, Leftover}
 use Rattle.clf_sig.specs.Entry.{PlainSignature, constant_type}
-use Rattle.clf_kernel.specs.Refusal.{not_function, not_pair, not_top, not_atomic, not_closed, mode_differs, not_held, unused, pairs_differ, family_differs, unknown_head, level, eliminations, Leftover, Outcome, passed, refused, at_part, and_then}
-
--- the answer of an outcome, without the words of its refusal
-abbrev pub answer_of : Outcome Leftover → Answer
-answer_of (passed a) = Some a
-answer_of (refused path cause) = None
-
-abbrev pub same_mode : Mode → Mode → Bool
-same_mode Persistent Persistent = true
-same_mode Affine Affine = true
-same_mode Linear Linear = true
-same_mode _ _ = false
+use Rattle.clf_kernel.specs.Refusal.{not_function, not_pair, not_top, not_atomic, not_closed, mode_differs, not_held, unused, pairs_differ, family_differs, unknown_head, level, eliminations}
+use Rattle.clf_kernel.specs.Outcome.{Outcome, passed, refused, at_part, and_then}
 
 -- A constant has its type, and uses nothing.
 abbrev pub constant_left : ℕ → Holding → Option PlainType → Outcome (PlainType × Leftover)

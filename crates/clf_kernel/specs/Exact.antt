@@ -1,5 +1,8 @@
 -- What the answers of the kernel's calls say, in words of the rules.
-use Rattle.std.specs.Prelude.{◌≡◌, true, Result, Ok, Err, Some, None}
+--
+-- A leftover is determined by the parts that it stands for, but for slack where its row has no linear entry: there slack has nothing to
+-- take, and a call may answer it or not.
+use Rattle.std.specs.Prelude.{◌≡◌, Result, Ok, Err, Some, None}
 use Rattle.clf_syntax.specs.declared.fault.OrWide.{OrWide}
 use Rattle.clf_syntax.specs.declared.fault.OrWide.TheVariants.{Fault, NoMemory, TooFar}
 use Rattle.clf_syntax.specs.Tree.{PlainObject, PlainNeutral}
@@ -7,14 +10,13 @@ use Rattle.clf_syntax.specs.TypeTree.{PlainType}
 use Rattle.use_contexts.specs.declared.join.Left.{Left}
 use Rattle.use_contexts.specs.Context.{Context, modes}
 use Rattle.use_contexts.specs.Holding.{Holding}
-use Rattle.use_contexts.specs.Rows.{IsSubholding, Agrees}
-use Rattle.clf_sig.specs.Entry.{PlainSignature}
+use Rattle.use_contexts.specs.Rows.{IsSubholding, Agrees, Leftover}
+use Rattle.clf_sig.specs.Entry.{PlainSignature, PlainEntry}
 use Rattle.clf_kernel.specs.declared.refusal.Refusal.{Refusal}
 use Rattle.clf_kernel.specs.declared.refusal.Inferred.{Inferred}
 use Rattle.clf_kernel.specs.Typing.{HasType, Synthesizes}
-use Rattle.clf_kernel.specs.Reach.{without_indices}
-use Rattle.clf_kernel.specs.Refusal.{Leftover, Outcome, passed, refused}
-use Rattle.clf_kernel.specs.Explained.{ExplainedAt, ExplainedInNeutral}
+use Rattle.clf_kernel.specs.WellFormed.{WellFormedEntry}
+use Rattle.clf_kernel.specs.Explained.{ExplainedAt, ExplainedInNeutral, ExplainedInClass}
 use Rattle.clf_kernel.specs.Answers.{plain_left, plain_inferred, plain_cause, IsWide}
 
 -- What is left stands for exactly the parts of the holding under which the object has the type. A refusal comes exactly where there is no
@@ -25,16 +27,21 @@ ChecksObject sig g h n t (Err (Fault r)) = Agrees (modes g) h None (λ p. HasTyp
 ChecksObject sig g h n t (Err NoMemory) = Unit {0}
 ChecksObject sig g h n t (Err (TooFar w)) = IsWide w
 
--- An outcome with a type agrees with a property of parts and types: where it passed, the type has no indices, the row that is left stands
--- for exactly the parts that have the property at that type, and they have it at no other. Where it is refused, no part has it at any type.
-abbrev pub AgreesWithType : Context → Holding → Outcome (PlainType × Leftover) → (Holding → PlainType → Type 0) → Type 0
-AgreesWithType g h (passed f) P = (without_indices f.0 ≡ true) × Agrees (modes g) h (Some f.1) (λ p. P p f.0) × ((p : Holding) (a : PlainType) → P p a → a ≡ f.0)
-AgreesWithType g h (refused path cause) P = (p : Holding) (a : PlainType) → IsSubholding (modes g) h p → P p a → ⊥
+-- The neutral synthesizes this type and no other, and what is left stands for exactly the parts of the holding under which it does.
+abbrev pub InferredIs : PlainSignature → Context → Holding → PlainNeutral → PlainType × Leftover → Type 0
+InferredIs sig g h r found = Agrees (modes g) h (Some found.1) (λ p. Synthesizes sig g p r found.0) × ((p : Holding) (a : PlainType) → Synthesizes sig g p r a → a ≡ found.0)
 
--- So it is with a neutral at the type that it has, which is one.
+-- A refusal comes exactly where no part of the holding gives the neutral a type.
 abbrev pub InfersNeutral : PlainSignature → Context → Holding → PlainNeutral → Result Inferred (OrWide Refusal) → Type 0
-InfersNeutral sig g h n (Ok found) = AgreesWithType g h (passed (plain_inferred found)) (λ p a. Synthesizes sig g p n a)
-InfersNeutral sig g h n (Err (Fault r)) = AgreesWithType g h (refused r.path.items (plain_cause r.cause)) (λ p a. Synthesizes sig g p n a)
+InfersNeutral sig g h n (Ok found) = InferredIs sig g h n (plain_inferred found)
+InfersNeutral sig g h n (Err (Fault r)) = ((p : Holding) (a : PlainType) → IsSubholding (modes g) h p → Synthesizes sig g p n a → ⊥)
     × ExplainedInNeutral sig g h n r.path.items (plain_cause r.cause)
 InfersNeutral sig g h n (Err NoMemory) = Unit {0}
 InfersNeutral sig g h n (Err (TooFar w)) = IsWide w
+
+-- An entry passes where it is well formed. A refusal comes exactly where it is not, and its cause is that of the part at its path.
+abbrev pub ChecksEntry : PlainSignature → PlainEntry → Result (Unit {0}) (OrWide Refusal) → Type 0
+ChecksEntry sig e (Ok x) = WellFormedEntry sig e
+ChecksEntry sig e (Err (Fault r)) = (WellFormedEntry sig e → ⊥) × ExplainedInClass sig e.class r.path.items (plain_cause r.cause)
+ChecksEntry sig e (Err NoMemory) = Unit {0}
+ChecksEntry sig e (Err (TooFar w)) = IsWide w

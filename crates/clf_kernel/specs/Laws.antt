@@ -1,4 +1,5 @@
--- Laws of well-formed types and signatures, as statements; the functions of the crate's `laws` state them.
+-- Laws of typing, of well-formed types and signatures, and of what the checks answer, as statements; the functions of the crate's `laws`
+-- state them.
 use Rattle.std.specs.Prelude.{ℕ, ◌≡◌, ◌↔◌, Bool, true, false, List, [], ◌∷◌, ◌++◌, None, Some}
 use Rattle.std.specs.List.{slice_get}
 use Rattle.clf_syntax.specs.declared.tree.Mode.{Mode}
@@ -6,29 +7,20 @@ use Rattle.clf_syntax.specs.Tree.{PlainObject, PlainNeutral, PlainExpression}
 use Rattle.clf_syntax.specs.TypeTree.{PlainType, family, function, both, top, monad, PlainTelescope, PlainKind}
 use Rattle.use_contexts.specs.Context.{Context, modes}
 use Rattle.use_contexts.specs.Holding.{Holding, WellMarked, is_weak}
-use Rattle.use_contexts.specs.Rows.{Stands, Agrees}
-use Rattle.clf_sig.specs.Entry.{PlainSignature, Declaration, names, family_kind, constant_type}
+use Rattle.use_contexts.specs.Rows.{IsSubholding, Stands, Agrees, Leftover}
+use Rattle.clf_sig.specs.Entry.{PlainSignature, PlainEntry, Declaration, names, family_kind, constant_type}
 use Rattle.clf_kernel.specs.Typing.{HasType, Synthesizes, ExpressionHasType}
 use Rattle.clf_kernel.specs.WellFormed.{WellFormedType, WellFormedTelescope, WellFormedKind, WellFormedContext, MayFollow, WellFormedSignature}
 use Rattle.clf_kernel.specs.Clean.{IsNotPersistent, CleanType, CleanTelescope, CleanContext}
-use Rattle.clf_kernel.specs.Reach.{without_indices, IsSimpleSignature, IsSimpleContext, without_monads, neutral_without_monads}
-use Rattle.clf_kernel.specs.Refusal.{Cause, Leftover, passed, refused}
-use Rattle.clf_kernel.specs.Explained.{ExplainedAt, ExplainedInNeutral}
-use Rattle.clf_kernel.specs.Exact.{AgreesWithType}
-use Rattle.clf_kernel.specs.Checking.{answer_of, checked, inferred}
+use Rattle.clf_kernel.specs.Reach.{without_indices, ObjectInReach, NeutralInReach, EntryInReach}
+use Rattle.clf_kernel.specs.Refusal.{Cause}
+use Rattle.clf_kernel.specs.Explained.{ExplainedAt, ExplainedInNeutral, ExplainedInClass}
+use Rattle.clf_kernel.specs.Exact.{InferredIs}
 use Rattle.clf_syntax.specs.Occurs.{occurs, occurs_type, occurs_telescope}
 
 -- A family without arguments is a well-formed type exactly where the signature has it so.
 abbrev pub BareFamilies : Type 0
 BareFamilies = (sig : PlainSignature) (g : Context) (f : ℕ) → WellFormedType sig g (family f []) ↔ (family_kind sig f ≡ Some [])
-
--- Functions, pairs and the unit of well-formed types are well formed, and have well-formed parts.
-abbrev pub CompoundTypes : Type 0
-CompoundTypes = (sig : PlainSignature) (g : Context)
-    → ((m : Mode) (a b : PlainType) → WellFormedType sig g (function m a b) ↔ (WellFormedType sig g a × WellFormedType sig ((m, a) ∷ g) b))
-    × ((a b : PlainType) → WellFormedType sig g (both a b) ↔ (WellFormedType sig g a × WellFormedType sig g b))
-    × WellFormedType sig g top
-    × ((s : PlainTelescope) → WellFormedType sig g (monad s) ↔ WellFormedTelescope sig g s)
 
 -- A type without indices is well formed in every context where it is in one.
 abbrev pub AnyContext : Type 0
@@ -47,8 +39,8 @@ abbrev pub NamesDiffer : Type 0
 NamesDiffer = (sig : PlainSignature) → WellFormedSignature sig → (i j : ℕ) (name : List ℕ) → slice_get (names sig) i ≡ Some name → slice_get (names sig) j ≡ Some name → i ≡ j
 
 -- What holds over a signature holds over each longer one.
-abbrev pub Weakening : Type 0
-Weakening = (sig more : PlainSignature) (g : Context)
+abbrev pub LongerSignatures : Type 0
+LongerSignatures = (sig more : PlainSignature) (g : Context)
     → ((h : Holding) (n : PlainObject) (a : PlainType) → HasType sig g h n a → HasType (sig ++ more) g h n a)
     × ((h : Holding) (r : PlainNeutral) (a : PlainType) → Synthesizes sig g h r a → Synthesizes (sig ++ more) g h r a)
     × ((h : Holding) (e : PlainExpression) (s : PlainTelescope) → ExpressionHasType sig g h e s → ExpressionHasType (sig ++ more) g h e s)
@@ -62,9 +54,9 @@ EntriesWellFormed = (sig : PlainSignature) → WellFormedSignature sig
     → ((f : ℕ) (k : PlainKind) → family_kind sig f ≡ Some k → WellFormedKind sig [] k)
     × ((c : ℕ) (a : PlainType) → constant_type sig c ≡ Some a → WellFormedType sig [] a)
 
--- A typed object mentions held variables alone.
-abbrev pub MentionsHeldAlone : Type 0
-MentionsHeldAlone = (sig : PlainSignature) (g : Context) (h : Holding) (n : PlainObject) (a : PlainType) → HasType sig g h n a → (i : ℕ) → slice_get h i ≡ Some false → occurs i n ≡ false
+-- A typed object mentions no variable that its holding marks as not held.
+abbrev pub MentionsNothingUnheld : Type 0
+MentionsNothingUnheld = (sig : PlainSignature) (g : Context) (h : Holding) (n : PlainObject) (a : PlainType) → HasType sig g h n a → (i : ℕ) → slice_get h i ≡ Some false → occurs i n ≡ false
 
 -- What is well formed is clean, and mentions no linear or affine variable of the context.
 abbrev pub WellFormedIsClean : Type 0
@@ -73,48 +65,29 @@ WellFormedIsClean = (sig : PlainSignature) (g : Context)
     × ((s : PlainTelescope) → WellFormedTelescope sig g s → CleanTelescope s × ((i : ℕ) → IsNotPersistent g i → occurs_telescope i s ≡ false))
     × (WellFormedContext sig g → CleanContext g)
 
--- The check of an object without monads against a type without indices agrees with the rules: what is left stands for exactly the parts
--- of the holding under which the rules type the object, and a refusal comes only where there is no such part.
-abbrev pub ChecksExactly : Type 0
-ChecksExactly = (sig : PlainSignature) (g : Context) (h : Holding) (n : PlainObject) (t : PlainType)
-    → IsSimpleSignature sig → IsSimpleContext g → WellMarked (modes g) h → without_monads n ≡ true → without_indices t ≡ true
-    → Agrees (modes g) h (answer_of (checked sig g h n t)) (λ p. HasType sig g p n t)
-
--- So it is with the type that is found of a neutral.
-abbrev pub InfersExactly : Type 0
-InfersExactly = (sig : PlainSignature) (g : Context) (h : Holding) (r : PlainNeutral)
-    → IsSimpleSignature sig → IsSimpleContext g → WellMarked (modes g) h → neutral_without_monads r ≡ true
-    → AgreesWithType g h (inferred sig g h r) (λ p a. Synthesizes sig g p r a)
-
--- A refusal of an object comes exactly where at its path stands a part that is refused for its cause.
-abbrev pub RefusesExactly : Type 0
-RefusesExactly = (sig : PlainSignature) (g : Context) (h : Holding) (n : PlainObject) (t : PlainType) (path : List ℕ) (why : Cause)
-    → IsSimpleSignature sig → IsSimpleContext g → WellMarked (modes g) h → without_monads n ≡ true → without_indices t ≡ true
-    → (checked sig g h n t ≡ refused path why) ↔ ExplainedAt sig g h n t path why
-
--- So does a refusal of a neutral.
-abbrev pub RefusesNeutralsExactly : Type 0
-RefusesNeutralsExactly = (sig : PlainSignature) (g : Context) (h : Holding) (r : PlainNeutral) (path : List ℕ) (why : Cause)
-    → IsSimpleSignature sig → IsSimpleContext g → WellMarked (modes g) h → neutral_without_monads r ≡ true
-    → (inferred sig g h r ≡ refused path why) ↔ ExplainedInNeutral sig g h r path why
-
--- No part of the holding types an object exactly where some refusal explains it.
+-- In reach, no part of the holding types an object exactly where some refusal explains it.
 abbrev pub RefusedIsExplained : Type 0
 RefusedIsExplained = (sig : PlainSignature) (g : Context) (h : Holding) (n : PlainObject) (t : PlainType)
-    → IsSimpleSignature sig → IsSimpleContext g → WellMarked (modes g) h → without_monads n ≡ true → without_indices t ≡ true
+    → ObjectInReach sig g h n t
     → Agrees (modes g) h None (λ p. HasType sig g p n t) ↔ ((path : List ℕ) × (why : Cause) × ExplainedAt sig g h n t path why)
 
 -- The refusal that explains it is one, with its path and its cause.
 abbrev pub RefusalIsOne : Type 0
 RefusalIsOne = (sig : PlainSignature) (g : Context) (h : Holding) (n : PlainObject) (t : PlainType) (path other : List ℕ) (why because : Cause)
-    → IsSimpleSignature sig → IsSimpleContext g → WellMarked (modes g) h → without_monads n ≡ true → without_indices t ≡ true
+    → ObjectInReach sig g h n t
     → ExplainedAt sig g h n t path why → ExplainedAt sig g h n t other because → (path ≡ other) × (why ≡ because)
 
 -- So it is with a neutral.
 abbrev pub NeutralRefusalIsOne : Type 0
 NeutralRefusalIsOne = (sig : PlainSignature) (g : Context) (h : Holding) (r : PlainNeutral) (path other : List ℕ) (why because : Cause)
-    → IsSimpleSignature sig → IsSimpleContext g → WellMarked (modes g) h → neutral_without_monads r ≡ true
+    → NeutralInReach sig g h r
     → ExplainedInNeutral sig g h r path why → ExplainedInNeutral sig g h r other because → (path ≡ other) × (why ≡ because)
+
+-- So it is with an entry that is not well formed.
+abbrev pub EntryRefusalIsOne : Type 0
+EntryRefusalIsOne = (sig : PlainSignature) (e : PlainEntry) (path other : List ℕ) (why because : Cause)
+    → EntryInReach sig e
+    → ExplainedInClass sig e.class path why → ExplainedInClass sig e.class other because → (path ≡ other) × (why ≡ because)
 
 -- Two leftovers have the same row, and the same slack where a linear entry is left.
 abbrev pub LeaveTheSame : Context → Leftover → Leftover → Type 0
@@ -132,5 +105,10 @@ LeftoverIsOne = (sig : PlainSignature) (g : Context) (h : Holding) (n : PlainObj
 -- So it is with a neutral and its type.
 abbrev pub InferredIsOne : Type 0
 InferredIsOne = (sig : PlainSignature) (g : Context) (h : Holding) (r : PlainNeutral) (e f : PlainType × Leftover) → WellMarked (modes g) h
-    → AgreesWithType g h (passed e) (λ p a. Synthesizes sig g p r a) → AgreesWithType g h (passed f) (λ p a. Synthesizes sig g p r a)
-    → (e.0 ≡ f.0) × LeaveTheSame g e.1 f.1
+    → InferredIs sig g h r e → InferredIs sig g h r f → (e.0 ≡ f.0) × LeaveTheSame g e.1 f.1
+
+-- In reach, the types that a neutral synthesizes have no indices.
+abbrev pub SynthesizedInReach : Type 0
+SynthesizedInReach = (sig : PlainSignature) (g : Context) (h : Holding) (r : PlainNeutral) (p : Holding) (a : PlainType)
+    → NeutralInReach sig g h r
+    → IsSubholding (modes g) h p → Synthesizes sig g p r a → without_indices a ≡ true

@@ -16,11 +16,12 @@ pub mod WellFormed
 pub mod Clean
 pub mod Reach
 pub mod Refusal
-pub mod Checking
 pub mod Explained
-pub mod Laws
-pub mod Spine
 pub mod Answers
 pub mod Exact
-pub mod Stops
+pub mod Laws
+pub mod Outcome
+pub mod Checking
+pub mod Spine
 pub mod Formation
+pub mod Stops

@@ -1,15 +1,16 @@
--- Refusals of the kernel, and outcomes: something that passed, or a refusal with its path.
+-- Why the kernel refuses a part, and the numbers that its paths and names have.
 --
 -- A path lists the numbers of parts, from the whole to the part that is refused: of a lambda the body is 0, of a pair the parts are
--- 0 and 1, and of an atomic object the eliminations are numbered from the head on. What is wrong with an elimination itself is at
--- its place.
-use Rattle.std.specs.Prelude.{ℕ, suc, ◌-◌, Bool, List, ◌∷◌, length}
+-- 0 and 1, of an atomic object the eliminations are numbered from the head on, and of a monadic object first the steps and then the
+-- entries of the tuple. Of a type, each index of a family and each entry of a monad has its place, of a function the domain is 0 and
+-- the range 1, of & the parts are 0 and 1; of a kind each argument has its place. What is wrong with an elimination, a step or an entry
+-- itself is at its place.
+use Rattle.std.specs.Prelude.{ℕ, suc, ◌-◌, length}
 use Rattle.clf_syntax.specs.declared.tree.Mode.{Mode}
 use Rattle.clf_syntax.specs.declared.tree.Head.{Head}
-use Rattle.clf_syntax.specs.Tree.{PlainNeutral, head_alone, app, fst, snd}
+use Rattle.clf_syntax.specs.Tree.{PlainObject, PlainNeutral, head_alone, app, fst, snd}
 use Rattle.clf_syntax.specs.TypeTree.{PlainType}
 use Rattle.use_contexts.specs.Context.{Context}
-use Rattle.use_contexts.specs.Holding.{Holding}
 
 -- A variable's level counts from the oldest, from 1 on: it is the number in its printed name.
 abbrev pub level : Context → ℕ → ℕ
@@ -30,12 +31,16 @@ pub data Cause : Type 0 where
   not_pair : PlainType → Cause
   -- <> stands at this type, which is not <T>
   not_top : PlainType → Cause
+  -- a monadic object stands at, or a step's right side has, this type, which is no monad
+  not_monad : PlainType → Cause
   -- a neutral stands at this type, or has it, which is no family
   not_atomic : PlainType → Cause
   -- a metavariable or a hole
   not_closed : Cause
   -- the mode that is wanted, and the other that is found
   mode_differs : Mode → Mode → Cause
+  -- how many entries a telescope has, and the other number that a pattern or a tuple has
+  width : ℕ → ℕ → Cause
   -- a linear or affine variable, by its level, that is not held
   not_held : ℕ → Cause
   -- a linear variable, by its level, that is left at the end of its scope
@@ -44,24 +49,9 @@ pub data Cause : Type 0 where
   pairs_differ : ℕ → Cause
   -- the family that is found, and the other that is wanted
   family_differs : ℕ → ℕ → Cause
+  -- how many variables are in scope, the index that is found, and the one that is wanted, which is not joined with it
+  index_differs : ℕ → PlainObject → PlainObject → Cause
+  -- how many arguments a family's kind has, and the other number of indices that it stands with
+  family_arity : ℕ → ℕ → Cause
   -- a variable that is not in the context, or a number that is no constant or no family
   unknown_head : Head → Cause
-
--- the row that is left, and its slack
-abbrev pub Leftover : Type 0
-Leftover = Holding × Bool
-
-pub data Outcome (A : Type 0) : Type 0 where
-  passed : A → Outcome A
-  -- the path to the part that is refused, and why
-  refused : List ℕ → Cause → Outcome A
-
--- the outcome of the part with this number, as part of the whole
-abbrev pub at_part : {A : Type 0} → ℕ → Outcome A → Outcome A
-at_part k (passed a) = passed a
-at_part k (refused path cause) = refused (k ∷ path) cause
-
--- what comes after a part that passed
-abbrev pub and_then : {A B : Type 0} → Outcome A → (A → Outcome B) → Outcome B
-and_then (passed a) f = f a
-and_then (refused path cause) f = refused path cause

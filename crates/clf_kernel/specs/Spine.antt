@@ -1,13 +1,13 @@
--- The eliminations of a spine in order, as the check of a neutral goes through them.
+-- Inner: the eliminations of a spine in order, as the check of a neutral goes through them.
 use Rattle.std.specs.Prelude.{ℕ, suc, ◌||◌, List, [], ◌∷◌}
 use Rattle.clf_syntax.specs.declared.tree.Mode.{Mode}
 use Rattle.clf_syntax.specs.Tree.{PlainElimination, arg, first, second}
 use Rattle.clf_syntax.specs.TypeTree.{PlainType}
 use Rattle.use_contexts.specs.Context.{Context, modes}
-use Rattle.use_contexts.specs.Holding.{Holding}
-use Rattle.use_contexts.specs.Rows.{allowed, outside, slack_outside}
+use Rattle.use_contexts.specs.Holding.{Holding, allowed}
+use Rattle.use_contexts.specs.Rows.{outside, slack_outside, Leftover}
 use Rattle.clf_sig.specs.Entry.{PlainSignature}
-use Rattle.clf_kernel.specs.Refusal.{Outcome, passed, at_part, and_then, Leftover}
+use Rattle.clf_kernel.specs.Outcome.{Outcome, passed, at_part, and_then}
 use Rattle.clf_kernel.specs.Checking.{argument_left, first_left, second_left, checked}
 
 -- what an argument of this mode leaves of what its function left

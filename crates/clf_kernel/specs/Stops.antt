@@ -1,4 +1,4 @@
--- What the functions inside of the kernel answer. No call of the crate names these definitions.
+-- Inner: what the functions inside of the kernel answer. No call of the crate names these definitions.
 use Rattle.std.specs.Prelude.{ℕ, ◌≡◌, List, [], ◌∷◌, ◌++◌, reverse, Result, Ok, Err}
 use Rattle.clf_syntax.specs.declared.fault.OrWide.{OrWide}
 use Rattle.clf_syntax.specs.declared.fault.OrWide.TheVariants.{Fault, NoMemory, TooFar}
@@ -7,7 +7,8 @@ use Rattle.use_contexts.specs.declared.context.Ctx.{Ctx}
 use Rattle.clf_kernel.specs.declared.refusal.Refusal.{Refusal}
 use Rattle.clf_kernel.specs.declared.refusal.Stop.{Stop}
 use Rattle.clf_kernel.specs.declared.refusal.Stop.TheVariants.{Refused, NoMemory as StopNoMemory, TooFar as StopTooFar}
-use Rattle.clf_kernel.specs.Refusal.{Cause, Outcome, passed, refused}
+use Rattle.clf_kernel.specs.Refusal.{Cause}
+use Rattle.clf_kernel.specs.Outcome.{Outcome, passed, refused}
 use Rattle.clf_kernel.specs.Answers.{plain_cause, IsWide}
 
 -- A check that stops does not pass: it is refused, where the path has the number of the innermost part first, or ends for want of
@@ -49,3 +50,10 @@ IsFault _ _ = ⊥
 -- The inner context has one entry more, the newest.
 abbrev pub IsEntered : Ctx → Ctx → Type 0
 IsEntered outer inner = (e : TeleEntry) × (inner.entries ≡ outer.entries ++ e ∷ [])
+
+-- A call answers an outcome: what passed in its plain form, or the refusal with its path and its cause.
+abbrev pub Answers : {X A : Type 0} → (X → A) → Outcome A → Result X (OrWide Refusal) → Type 0
+Answers plain want (Ok x) = want ≡ passed (plain x)
+Answers plain want (Err (Fault r)) = want ≡ refused r.path.items (plain_cause r.cause)
+Answers plain want (Err NoMemory) = Unit {0}
+Answers plain want (Err (TooFar w)) = IsWide w

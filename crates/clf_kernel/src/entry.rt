@@ -1,14 +1,13 @@
 //! Whether an entry is well formed.
-ghost use Rattle.std.specs.Prelude.{◌≡◌, ◌≤◌, map, option_map, option_copied};
+ghost use Rattle.std.specs.Prelude.{◌≡◌, map, option_map, option_copied};
 ghost use Rattle.clf_syntax.specs.TypeTree.{telescope_of};
 ghost use Rattle.clf_syntax.specs.PlainTypes.{plain_ty, plain_kind, plain_tele_entry};
 ghost use Rattle.clf_sig.specs.Entry.{family_kind as kind_of_family};
 ghost use Rattle.clf_sig.specs.Signature.{plain_class, plain_entry, plain_signature};
-ghost use Rattle.clf_kernel.specs.Reach.{IsSimpleSignature};
-ghost use Rattle.clf_kernel.specs.WellFormed.{WellFormedEntry, may_be_implicit};
-ghost use Rattle.clf_kernel.specs.Refusal.{at_part};
-ghost use Rattle.clf_kernel.specs.Formation.{IsSimpleClass, Decides, class_formed, type_formed, family_formed, telescope_formed};
-ghost use Rattle.clf_kernel.specs.Answers.{Answers};
+ghost use Rattle.clf_kernel.specs.Reach.{EntryInReach};
+ghost use Rattle.clf_kernel.specs.Exact.{ChecksEntry};
+ghost use Rattle.clf_kernel.specs.Outcome.{at_part};
+ghost use Rattle.clf_kernel.specs.Formation.{class_formed, type_formed, family_formed, telescope_formed};
 ghost use Rattle.clf_kernel.specs.Stops.{Gives};
 
 use crate::refusal::{Cause, Refusal, Stop, fault, from_part, refuse};
@@ -18,14 +17,12 @@ use std::alloc::Global;
 
 /// Whether an entry is well formed over a signature.
 ///
-/// It refuses where it is not, with the path of the first number that is no family.
-#[tactic(auto, using(crate::proofs::Stops::answer_laws))]
+/// It refuses where it is not, with the path and the cause of a part of its class that the rules refuse. There is one such path with one
+/// such cause (`one_answer`).
+#[tactic(auto, using(crate::proofs::Stops::answer_laws, crate::proofs::Exactness::exact_laws))]
 pub fn check_entry(alloc: Global, sig: &Signature, entry: &Entry) -> Result<(), OrWide<Refusal>>
-    requires signature { IsSimpleSignature (plain_signature sig.now) }
-    requires class { IsSimpleClass (plain_class entry.now.class) }
-    requires implicit { entry.now.implicit ≤ may_be_implicit (plain_class entry.now.class) }
-    ensures formed { Decides result (WellFormedEntry (plain_signature sig.now) (plain_entry entry.now)) }
-    ensures outcome { Answers (λ x. x) (class_formed (plain_signature sig.now) (plain_class entry.now.class)) result }
+    requires reach { EntryInReach (plain_signature sig.now) (plain_entry entry.now) }
+    ensures exact { ChecksEntry (plain_signature sig.now) (plain_entry entry.now) result }
 {
     match check_class(alloc, sig, &entry.class) {
         Ok(_) => Ok(()),

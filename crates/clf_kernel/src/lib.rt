@@ -13,7 +13,8 @@ mod steps;
 
 pub use entry::check_entry;
 pub use laws::{
-    checking, clean, one_answer, refusals, weakening, well_formed_signatures, well_formed_types,
+    clean, longer_signatures, one_answer, synthesized_in_reach, well_formed_signatures,
+    well_formed_types,
 };
 pub use object::{check_object, infer};
 pub use refusal::{Cause, Inferred, Refusal};

@@ -1,12 +1,10 @@
 //! The calls of the kernel for objects and neutrals.
-ghost use Rattle.std.specs.Prelude.{◌≡◌, true, length};
+ghost use Rattle.std.specs.Prelude.{◌≡◌, length};
 ghost use Rattle.clf_syntax.specs.Plain.{plain_obj, plain_neutral};
 ghost use Rattle.clf_syntax.specs.PlainTypes.{plain_ty};
 ghost use Rattle.clf_sig.specs.Signature.{plain_signature};
-ghost use Rattle.use_contexts.specs.Context.{modes};
-ghost use Rattle.use_contexts.specs.Holding.{WellMarked};
 ghost use Rattle.use_contexts.specs.Marks.{context, marks};
-ghost use Rattle.clf_kernel.specs.Reach.{IsSimpleSignature, IsSimpleContext, without_indices, without_monads, neutral_without_monads};
+ghost use Rattle.clf_kernel.specs.Reach.{ObjectInReach, NeutralInReach};
 ghost use Rattle.clf_kernel.specs.Exact.{ChecksObject, InfersNeutral};
 ghost use Rattle.clf_kernel.specs.Checking.{checked, inferred};
 ghost use Rattle.clf_kernel.specs.Answers.{plain_left, plain_inferred};
@@ -22,7 +20,8 @@ use use_contexts::{Ctx, Holding, Left};
 /// What the check of an object against a type leaves of a holding.
 ///
 /// It refuses where no part of the holding types the object, with the path and the cause of a part that the rules refuse.
-/// There is one such path with one such cause, and one such rest (`one_answer`).
+/// There is one such path with one such cause, and one such rest (`one_answer`), but for slack where no linear entry is left: there it
+/// has nothing to take, and is answered or not.
 #[tactic(auto, using(crate::proofs::Stops::answer_laws, crate::proofs::Exactness::exact_laws))]
 pub fn check_object(
     alloc: Global,
@@ -32,11 +31,7 @@ pub fn check_object(
     obj: &Obj,
     ty: &Ty,
 ) -> Result<Left, OrWide<Refusal>>
-    requires signature { IsSimpleSignature (plain_signature sig.now) }
-    requires context { IsSimpleContext (context ctx.now) }
-    requires object { without_monads (plain_obj obj.now) ≡ true }
-    requires ty { without_indices (plain_ty ty.now) ≡ true }
-    requires marked { WellMarked (modes (context ctx.now)) (marks holding.now) }
+    requires reach { ObjectInReach (plain_signature sig.now) (context ctx.now) (marks holding.now) (plain_obj obj.now) (plain_ty ty.now) }
     ensures exact { ChecksObject (plain_signature sig.now) (context ctx.now) (marks holding.now) (plain_obj obj.now) (plain_ty ty.now) result }
 {
     match check_in_copy(alloc, sig, ctx, holding, obj, ty) {
@@ -48,7 +43,7 @@ pub fn check_object(
 /// The type of a neutral, and what it leaves of a holding.
 ///
 /// It refuses where no part of the holding types the neutral, with the path and the cause of a part that the rules refuse.
-/// There is one such path with one such cause, and one such type and rest (`one_answer`).
+/// There is one such path with one such cause, and one such type and rest (`one_answer`), but for slack as at `check_object`.
 #[tactic(auto, using(crate::proofs::Stops::answer_laws, crate::proofs::Exactness::exact_laws))]
 pub fn infer(
     alloc: Global,
@@ -57,10 +52,7 @@ pub fn infer(
     holding: &Holding,
     neutral: &Neutral,
 ) -> Result<Inferred, OrWide<Refusal>>
-    requires signature { IsSimpleSignature (plain_signature sig.now) }
-    requires context { IsSimpleContext (context ctx.now) }
-    requires neutral { neutral_without_monads (plain_neutral neutral.now) ≡ true }
-    requires marked { WellMarked (modes (context ctx.now)) (marks holding.now) }
+    requires reach { NeutralInReach (plain_signature sig.now) (context ctx.now) (marks holding.now) (plain_neutral neutral.now) }
     ensures exact { InfersNeutral (plain_signature sig.now) (context ctx.now) (marks holding.now) (plain_neutral neutral.now) result }
 {
     match infer_in_copy(alloc, sig, ctx, holding, neutral) {

@@ -1,9 +1,9 @@
 //! The rows from which arguments start, and what they leave outside.
 ghost use Rattle.std.specs.Prelude.{◌≡◌, ◌&&◌, not, if◌then◌else◌, IfOk, length};
 ghost use Rattle.use_contexts.specs.Context.{modes};
-ghost use Rattle.use_contexts.specs.Holding.{is_linear, is_persistent, persistent_alone as persistent_marks};
+ghost use Rattle.use_contexts.specs.Holding.{is_linear, is_persistent, persistent_alone as persistent_marks, without_linear as without_linear_marks};
 ghost use Rattle.use_contexts.specs.Marks.{context, marks};
-ghost use Rattle.use_contexts.specs.Rows.{without_linear as without_linear_marks, linear_of as linear_marks};
+ghost use Rattle.use_contexts.specs.Rows.{linear_of as linear_marks};
 
 use clf_syntax::Mode;
 use sqlite_items::Items;

@@ -11,7 +11,7 @@ use Rattle.trace_equal.proofs.WideSteps.{back, back_there, insert_at, line_idle,
 use Rattle.trace_equal.specs.Bijection.{Absent, Agree, AgreeAt, Distinct, IsMatching, Paired}
 use Rattle.trace_equal.specs.Exchange.{JoinedNeutral, JoinedTuple, next, stop}
 use Rattle.trace_equal.specs.Matching.{MatchesExpression, MatchesTuple, Pulled, match_done, match_step, pulled_here, pulled_later}
-use Rattle.trace_equal.specs.Search.{past, same}
+use Rattle.trace_equal.specs.Search.{past}
 use Rattle.trace_equal.specs.Steps.{WideStep, below, ren_wide_step, result_of, size, wide_step, wide_steps}
 use Rattle.trace_equal.specs.Laws.{JoinedHasMatching}
 

@@ -10,13 +10,13 @@ use Rattle.clf_syntax.specs.declared.tree.Mode.{Mode}
 use Rattle.clf_syntax.specs.declared.tree.Mode.TheVariants.{Affine, Linear, Persistent}
 use Rattle.trace_equal.proofs.Bijections.{extended, from_matching, joined_has_matching, pullable, rest_matching, ret_matching, to_matching}
 use Rattle.trace_equal.proofs.Closed.{alike_neutral, joined_neutral, like_to_neutral, joined_matches}
-use Rattle.trace_equal.specs.Laws.{FirstIsFound, SameIsJoined}
+use Rattle.trace_equal.specs.Laws.{FirstIsFound, IsJoinedDecides}
 use Rattle.trace_equal.proofs.Fronts.{PulledAt, both, halves, pull_complete, pull_sound}
 use Rattle.trace_equal.proofs.WideSteps.{place}
 use Rattle.trace_equal.specs.Bijection.{AgreeAt, IsAtMost, IsFirstMatching, IsMatching}
 use Rattle.trace_equal.specs.Exchange.{JoinedNeutral}
 use Rattle.trace_equal.specs.Matching.{Matches, MatchesExpression, MatchesNeutral, MatchesTuple, Pulled, match_app, match_atomic, match_bare, match_done, match_empty, match_entry, match_fst, match_hole, match_lam, match_monadic, match_pair, match_snd, match_unit}
-use Rattle.trace_equal.specs.Search.{Front, attempt, first, front, or_else, past, places, prefixed, pull_at, same, same_head, same_mode, same_modes, same_neutral, same_tuple}
+use Rattle.trace_equal.specs.Search.{Front, attempt, first, front, or_else, past, places, prefixed, pull_at, is_joined, same_head, same_mode, same_modes, is_joined_neutral, is_joined_tuple}
 use Rattle.trace_equal.specs.Steps.{WideStep, below, ren_wide_step, size, wide_step, wide_steps}
 
 mode_sound : (m n : Mode) → same_mode m n ≡ true → m ≡ n
@@ -189,30 +189,30 @@ ret_first t u false s c = λ m g. false_true (c (of_ret (from_matching (done t) 
     of_ret (match_done p) = p
 
 mutual
-  pub sound : (a b : PlainObject) → same a b ≡ true → Matches a b
-  sound (lam m b) (lam k c) e = let (x, y) = halves (same_mode m k) (same b c) e in subst (λ i. Matches (lam m b) (lam i c)) (mode_sound m k x) (match_lam (sound b c y))
-  sound (pair l r) (pair k s) e = let (x, y) = halves (same l k) (same r s) e in match_pair (sound l k x) (sound r s y)
+  pub sound : (a b : PlainObject) → is_joined a b ≡ true → Matches a b
+  sound (lam m b) (lam k c) e = let (x, y) = halves (same_mode m k) (is_joined b c) e in subst (λ i. Matches (lam m b) (lam i c)) (mode_sound m k x) (match_lam (sound b c y))
+  sound (pair l r) (pair k s) e = let (x, y) = halves (is_joined l k) (is_joined r s) e in match_pair (sound l k x) (sound r s y)
   sound unit unit e = match_unit
   sound (monadic e) (monadic f) t = match_monadic (found e f (first e f) (is_first e f) t)
   sound (atomic n) (atomic o) e = match_atomic (sound_neutral n o e)
   sound hole hole e = match_hole
   sound _ _ e = absurd (cc)
 
-  pub sound_neutral : (a b : PlainNeutral) → same_neutral a b ≡ true → MatchesNeutral a b
+  pub sound_neutral : (a b : PlainNeutral) → is_joined_neutral a b ≡ true → MatchesNeutral a b
   sound_neutral (head_alone h) (head_alone j) e = subst (λ i. MatchesNeutral (head_alone h) (head_alone i)) (head_sound h j e) match_bare
-  sound_neutral (app m r o) (app k s u) e = let (x, y) = halves (same_mode m k) (same_neutral r s && same o u) e in let (a, b) = halves (same_neutral r s) (same o u) y in
+  sound_neutral (app m r o) (app k s u) e = let (x, y) = halves (same_mode m k) (is_joined_neutral r s && is_joined o u) e in let (a, b) = halves (is_joined_neutral r s) (is_joined o u) y in
       subst (λ i. MatchesNeutral (app m r o) (app i s u)) (mode_sound m k x) (match_app (sound_neutral r s a) (sound o u b))
   sound_neutral (fst r) (fst s) e = match_fst (sound_neutral r s e)
   sound_neutral (snd r) (snd s) e = match_snd (sound_neutral r s e)
   sound_neutral _ _ e = absurd (cc)
 
-  pub sound_tuple : (a b : PlainTuple) → same_tuple a b ≡ true → MatchesTuple a b
+  pub sound_tuple : (a b : PlainTuple) → is_joined_tuple a b ≡ true → MatchesTuple a b
   sound_tuple empty empty e = match_empty
-  sound_tuple (entry m o t) (entry k u w) e = let (x, y) = halves (same_mode m k) (same o u && same_tuple t w) e in let (a, b) = halves (same o u) (same_tuple t w) y in
+  sound_tuple (entry m o t) (entry k u w) e = let (x, y) = halves (same_mode m k) (is_joined o u && is_joined_tuple t w) e in let (a, b) = halves (is_joined o u) (is_joined_tuple t w) y in
       subst (λ i. MatchesTuple (entry m o t) (entry i u w)) (mode_sound m k x) (match_entry (sound o u a) (sound_tuple t w b))
   sound_tuple _ _ e = absurd (cc)
 
-  pub complete : (a : PlainObject) {b : PlainObject} → Matches a b → same a b ≡ true
+  pub complete : (a : PlainObject) {b : PlainObject} → Matches a b → is_joined a b ≡ true
   complete (lam m b) (match_lam p) = both (mode_complete m) (complete b p)
   complete (pair l r) (match_pair p q) = both (complete l p) (complete r q)
   complete unit match_unit = refl
@@ -220,19 +220,19 @@ mutual
   complete (atomic n) (match_atomic p) = complete_neutral n p
   complete hole match_hole = refl
 
-  pub complete_neutral : (a : PlainNeutral) {b : PlainNeutral} → MatchesNeutral a b → same_neutral a b ≡ true
+  pub complete_neutral : (a : PlainNeutral) {b : PlainNeutral} → MatchesNeutral a b → is_joined_neutral a b ≡ true
   complete_neutral (head_alone h) match_bare = head_complete h
   complete_neutral (app m r o) (match_app p q) = both (mode_complete m) (both (complete_neutral r p) (complete o q))
   complete_neutral (fst r) (match_fst p) = complete_neutral r p
   complete_neutral (snd r) (match_snd p) = complete_neutral r p
 
-  pub complete_tuple : (a : PlainTuple) {b : PlainTuple} → MatchesTuple a b → same_tuple a b ≡ true
+  pub complete_tuple : (a : PlainTuple) {b : PlainTuple} → MatchesTuple a b → is_joined_tuple a b ≡ true
   complete_tuple empty match_empty = refl
   complete_tuple (entry m o t) (match_entry p q) = both (mode_complete m) (both (complete o p) (complete_tuple t q))
 
   pub is_first : (e f : PlainExpression) → IsFirstMatching e f (first e f)
-  is_first (step p r d) f = whole p r d f (λ v. same_neutral r v) (λ e. first d e) (λ v t. sound_neutral r v t) (λ v l. complete_neutral r l) (λ e. is_first d e)
-  is_first (done t) (done u) = ret_first t u (same_tuple t u) (λ e. sound_tuple t u e) (λ l. complete_tuple t l)
+  is_first (step p r d) f = whole p r d f (λ v. is_joined_neutral r v) (λ e. first d e) (λ v t. sound_neutral r v t) (λ v l. complete_neutral r l) (λ e. is_first d e)
+  is_first (done t) (done u) = ret_first t u (is_joined_tuple t u) (λ e. sound_tuple t u e) (λ l. complete_tuple t l)
   is_first (done t) (step q v e) = λ m g. no_ret (from_matching (done t) (step q v e) m g)
     where
       no_ret : MatchesExpression (done t) (step q v e) → ⊥
@@ -241,7 +241,7 @@ mutual
 pub first_is_found : FirstIsFound
 first_is_found = is_first
 
-pub same_is_joined : SameIsJoined
+pub same_is_joined : IsJoinedDecides
 same_is_joined a b = ((λ e. (joined_matches.0 a b).1 (sound a b e)), (λ j. complete a ((joined_matches.0 a b).0 j)))
 
 pub ruleset matching_laws = (first_is_found, same_is_joined, joined_has_matching)

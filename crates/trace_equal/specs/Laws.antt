@@ -6,7 +6,7 @@ use Rattle.clf_syntax.specs.Occurs.{occurs_neutral}
 use Rattle.trace_equal.specs.Exchange.{Joined, JoinedNeutral, JoinedExpression, JoinedTuple}
 use Rattle.trace_equal.specs.Matching.{Matches, MatchesNeutral, MatchesExpression, MatchesTuple}
 use Rattle.trace_equal.specs.Bijection.{IsMatching, IsFirstMatching}
-use Rattle.trace_equal.specs.Search.{first, same}
+use Rattle.trace_equal.specs.Search.{first, is_joined}
 
 -- Trees are joined exactly where they match.
 abbrev pub JoinedMatches : Type 0
@@ -60,6 +60,6 @@ JoinedHasMatching = (e f : PlainExpression) → JoinedExpression e f ↔ ((m : L
 abbrev pub FirstIsFound : Type 0
 FirstIsFound = (e f : PlainExpression) → IsFirstMatching e f (first e f)
 
--- The test tells whether two objects are joined.
-abbrev pub SameIsJoined : Type 0
-SameIsJoined = (o u : PlainObject) → (same o u ≡ true) ↔ Joined o u
+-- The test `is_joined` tells whether two objects are joined.
+abbrev pub IsJoinedDecides : Type 0
+IsJoinedDecides = (o u : PlainObject) → (is_joined o u ≡ true) ↔ Joined o u

@@ -1,4 +1,4 @@
--- The search for the first matching, as functions on plain trees: an inner definition, from which the laws of the crate lead to matchings.
+-- Inner: the search for the first matching, as functions on plain trees, from which the laws of the crate lead to matchings.
 use Rattle.std.specs.Prelude.{ℕ, Bool, true, false, zero, suc, ◌+◌, ◌&&◌, ◌||◌, nat_lt, nat_le, nat_eq, if◌then◌else◌, List, [], ◌∷◌, length, map, Some, None, is_some}
 use Rattle.std.proofs.Common.{Option}
 use Rattle.clf_syntax.specs.Renaming.{crossed, down, ren_expression, ren_neutral, up}
@@ -90,28 +90,28 @@ places zero i h = None
 places (suc n) i h = or_else (h i) (places n (suc i) h)
 
 abbrev mutual
-  pub same : PlainObject → PlainObject → Bool
-  same (lam m b) (lam k c) = same_mode m k && same b c
-  same (pair l r) (pair k s) = same l k && same r s
-  same unit unit = true
-  same (monadic e) (monadic f) = is_some (first e f)
-  same (atomic n) (atomic o) = same_neutral n o
-  same hole hole = true
-  same _ _ = false
+  pub is_joined : PlainObject → PlainObject → Bool
+  is_joined (lam m b) (lam k c) = same_mode m k && is_joined b c
+  is_joined (pair l r) (pair k s) = is_joined l k && is_joined r s
+  is_joined unit unit = true
+  is_joined (monadic e) (monadic f) = is_some (first e f)
+  is_joined (atomic n) (atomic o) = is_joined_neutral n o
+  is_joined hole hole = true
+  is_joined _ _ = false
 
-  pub same_neutral : PlainNeutral → PlainNeutral → Bool
-  same_neutral (head_alone h) (head_alone j) = same_head h j
-  same_neutral (app m r o) (app k s u) = same_mode m k && (same_neutral r s && same o u)
-  same_neutral (fst r) (fst s) = same_neutral r s
-  same_neutral (snd r) (snd s) = same_neutral r s
-  same_neutral _ _ = false
+  pub is_joined_neutral : PlainNeutral → PlainNeutral → Bool
+  is_joined_neutral (head_alone h) (head_alone j) = same_head h j
+  is_joined_neutral (app m r o) (app k s u) = same_mode m k && (is_joined_neutral r s && is_joined o u)
+  is_joined_neutral (fst r) (fst s) = is_joined_neutral r s
+  is_joined_neutral (snd r) (snd s) = is_joined_neutral r s
+  is_joined_neutral _ _ = false
 
   pub first : PlainExpression → PlainExpression → Option (List ℕ)
-  first (step p r d) f = places (length (wide_steps f)) 0 (λ i. attempt p (λ v. same_neutral r v) (λ e. first d e) i (pull_at i f))
-  first (done t) (done u) = if same_tuple t u then Some [] else None
+  first (step p r d) f = places (length (wide_steps f)) 0 (λ i. attempt p (λ v. is_joined_neutral r v) (λ e. first d e) i (pull_at i f))
+  first (done t) (done u) = if is_joined_tuple t u then Some [] else None
   first (done t) (step q v e) = None
 
-  pub same_tuple : PlainTuple → PlainTuple → Bool
-  same_tuple empty empty = true
-  same_tuple (entry m o t) (entry k u w) = same_mode m k && (same o u && same_tuple t w)
-  same_tuple _ _ = false
+  pub is_joined_tuple : PlainTuple → PlainTuple → Bool
+  is_joined_tuple empty empty = true
+  is_joined_tuple (entry m o t) (entry k u w) = same_mode m k && (is_joined o u && is_joined_tuple t w)
+  is_joined_tuple _ _ = false

@@ -1,5 +1,5 @@
 //! Laws of exchange, stated by functions that do nothing.
-ghost use Rattle.trace_equal.specs.Laws.{FirstIsFound, IndependenceInWords, JoinedHasMatching, JoinedIsEquivalence, JoinedMatches, JoinedWithoutSteps, SameIsJoined};
+ghost use Rattle.trace_equal.specs.Laws.{FirstIsFound, IndependenceInWords, JoinedHasMatching, JoinedIsEquivalence, JoinedMatches, JoinedWithoutSteps, IsJoinedDecides};
 
 /// Trees are joined exactly where they match, and without steps exactly where they are identical.
 #[tactic(auto, using(crate::proofs::Joined::exchange_laws))]
@@ -15,5 +15,5 @@ pub fn exchange()
 pub fn matchings()
     ensures exists { JoinedHasMatching }
     ensures first { FirstIsFound }
-    ensures same { SameIsJoined }
+    ensures joined { IsJoinedDecides }
 {}

@@ -2,8 +2,9 @@
 use Rattle.std.proofs.Common.{◌≡◌, suc, Bool, true, false, not, ◌&&◌, ◌||◌, List, [], ◌∷◌, length, None, Some, if◌then◌else◌, refl, ap, sym, subst, arith}
 use Rattle.clf_syntax.specs.declared.tree.Mode.{Mode}
 use Rattle.clf_syntax.specs.declared.tree.Mode.TheVariants.{Persistent, Affine, Linear}
-use Rattle.use_contexts.specs.Holding.{Holding, WellMarked, Split, is_weak, is_unrestricted, is_persistent, is_linear, persistent_alone, may_use}
-use Rattle.use_contexts.specs.Rows.{implies, within, stands, newest, older, EachWithin, EachStands, IsSubholding, Stands, Answer, Agrees, Shared, in_turn, without_linear, linear_of, allowed, outside, slack_outside, argued}
+use Rattle.use_contexts.specs.Holding.{Holding, WellMarked, Split, is_weak, is_unrestricted, is_persistent, is_linear, persistent_alone, may_use, without_linear, allowed}
+use Rattle.use_contexts.specs.Rows.{implies, within, stands, newest, older, EachWithin, EachStands, IsSubholding, Stands, Answer, Agrees, Shared, linear_of, outside, slack_outside}
+use Rattle.use_contexts.proofs.RowAnswers.{in_turn, argued}
 use Rattle.use_contexts.specs.Laws.{OfAffineArguments, OfPersistentArguments}
 use Rattle.use_contexts.proofs.Bits.{at_entry, given, given_2, given_3, and-left, and-right, and-both}
 use Rattle.use_contexts.proofs.Splits.{splits, EachSplit, split_each, each_split}

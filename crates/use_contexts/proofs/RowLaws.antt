@@ -3,7 +3,8 @@ use Rattle.std.proofs.Common.{◌≡◌, ℕ, suc, Bool, true, false, not, ◌&&
 use Rattle.clf_syntax.specs.declared.tree.Mode.{Mode}
 use Rattle.clf_syntax.specs.declared.tree.Mode.TheVariants.{Persistent, Affine, Linear}
 use Rattle.use_contexts.specs.Holding.{Holding, Split}
-use Rattle.use_contexts.specs.Rows.{implies, within, stands, newest, older, EachWithin, EachStands, IsSubholding, Stands, Answer, Agrees, Shared, in_turn, paired, paired_unless, differs, left_in_both, newest_difference}
+use Rattle.use_contexts.specs.Rows.{implies, within, stands, newest, older, EachWithin, EachStands, IsSubholding, Stands, Answer, Agrees, Shared, differs, left_in_both, newest_difference}
+use Rattle.use_contexts.proofs.RowAnswers.{in_turn, paired, paired_unless}
 use Rattle.use_contexts.specs.Laws.{InTurn, InPairs, Apart}
 use Rattle.use_contexts.proofs.Bits.{at_entry, given, given_2, given_3, and-left, and-right, and-both}
 use Rattle.use_contexts.proofs.Splits.{splits, EachSplit, split_each, each_split}

@@ -3,7 +3,8 @@ use Rattle.std.proofs.Common.{◌≡◌, ℕ, zero, suc, Bool, true, false, not,
 use Rattle.clf_syntax.specs.declared.tree.Mode.{Mode}
 use Rattle.clf_syntax.specs.declared.tree.Mode.TheVariants.{Persistent, Affine, Linear}
 use Rattle.use_contexts.specs.Holding.{Holding, WellMarked, Uses, without, is_weak, is_persistent, is_linear, all_held}
-use Rattle.use_contexts.specs.Rows.{implies, within, stands, newest, older, EachWithin, EachStands, IsSubholding, Answer, Agrees, taken, is_unused, closed, closed_all, entered}
+use Rattle.use_contexts.specs.Rows.{implies, within, stands, newest, older, EachWithin, EachStands, IsSubholding, Answer, Agrees, taken, is_unused}
+use Rattle.use_contexts.proofs.RowAnswers.{closed, closed_all, entered}
 use Rattle.use_contexts.specs.Laws.{OfUses, OfNothing, OfScopes}
 use Rattle.use_contexts.proofs.Bits.{at_entry, given, given_2, given_3, and-left, and-right, and-both}
 

@@ -59,6 +59,19 @@ may_use Persistent ms h = is_unrestricted ms h
 may_use Affine ms h = is_weak ms h
 may_use Linear ms h = true
 
+-- the holding without its linear entries
+abbrev pub without_linear : List Mode → Holding → Holding
+without_linear (m ∷ ms) (h ∷ hs) = (not (is_linear m) && h) ∷ without_linear ms hs
+without_linear [] hs = []
+without_linear (m ∷ ms) [] = []
+
+-- The largest part of a holding that an argument of a mode may use: a persistent one the persistent entries alone, an affine one no
+-- linear entry, a linear one all.
+abbrev pub allowed : Mode → List Mode → Holding → Holding
+allowed Persistent ms l = persistent_alone ms
+allowed Affine ms l = without_linear ms l
+allowed Linear ms l = l
+
 -- the holding with variable i no longer held
 abbrev pub without : ℕ → Holding → Holding
 without i [] = []

@@ -1,8 +1,8 @@
 -- Laws of rows, which the contracts of the functions in src/laws.rt state.
 use Rattle.std.specs.Prelude.{ℕ, ◌≡◌, ◌↔◌, Bool, true, false, ◌&&◌, ◌||◌, List, ◌∷◌, length, slice_get, None, Some}
 use Rattle.clf_syntax.specs.declared.tree.Mode.{Mode}
-use Rattle.use_contexts.specs.Holding.{Holding, WellMarked, Uses, is_weak, is_unrestricted, persistent_alone}
-use Rattle.use_contexts.specs.Rows.{IsSubholding, Stands, Shared, left_in_both, newest_difference, taken, is_unused, newest, older, without_linear, linear_of}
+use Rattle.use_contexts.specs.Holding.{Holding, WellMarked, Uses, is_weak, is_unrestricted, persistent_alone, without_linear}
+use Rattle.use_contexts.specs.Rows.{IsSubholding, Stands, Shared, left_in_both, newest_difference, taken, is_unused, newest, older, linear_of}
 
 -- Two checks in turn: the second's row, with slack where either has it, stands for exactly the parts that are split between
 -- one that the first stands for and one that the second stands for.

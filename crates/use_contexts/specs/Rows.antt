@@ -1,4 +1,5 @@
 -- Rows: what the check of a part leaves of a holding, with slack where the part may take more linear entries.
+-- Where a row has no linear entry, slack has nothing to take: with and without it the row stands for the same parts.
 use Rattle.std.specs.Prelude.{ℕ, zero, suc, ◌≡◌, Bool, true, false, not, ◌&&◌, ◌||◌, if◌then◌else◌, List, [], ◌∷◌, length, Option, Some, None}
 use Rattle.std.specs.Option.{option_map}
 use Rattle.clf_syntax.specs.declared.tree.Mode.{Mode}
@@ -73,9 +74,13 @@ IsSubholding ms h p = (length p ≡ length ms) × EachWithin ms h p
 abbrev pub Stands : List Mode → Holding → Holding → Bool → Holding → Type 0
 Stands ms h l s p = (length p ≡ length ms) × EachStands ms h l s p
 
--- an answer of a check: nothing, or the row that is left and its slack
+-- what a check leaves: the row that is left, and its slack
+abbrev pub Leftover : Type 0
+Leftover = Holding × Bool
+
+-- an answer of a check: nothing, or what it leaves
 abbrev pub Answer : Type 0
-Answer = Option (Holding × Bool)
+Answer = Option Leftover
 
 -- An answer agrees with a property of the parts of h: without an answer no part has it, and a row stands for exactly the parts that have it.
 abbrev pub Agrees : List Mode → Holding → Answer → (Holding → Type 0) → Type 0
@@ -86,60 +91,18 @@ Agrees ms h (Some a) P = IsSubholding ms h a.0 × ((p : Holding) → IsSubholdin
 abbrev pub Shared : List Mode → (Holding → Type 0) → (Holding → Type 0) → Holding → Type 0
 Shared ms P Q p = (g k : Holding) × Split ms p g k × P g × Q k
 
--- ---- how answers go together
--- the answer of two parts in turn, from the first's slack and the second's answer
-abbrev pub in_turn : Answer → Bool → Answer
-in_turn None s = None
-in_turn (Some b) s = Some (b.0, s || b.1)
-
--- the answer of a pair, from those of its parts
-abbrev pub paired_unless : Option ℕ → Holding × Bool → Answer
-paired_unless None a = Some a
-paired_unless (Some i) a = None
-
-abbrev pub paired : List Mode → Answer → Answer → Answer
-paired ms None b = None
-paired ms (Some a) None = None
-paired ms (Some a) (Some b) = paired_unless (newest_difference ms a.0 a.1 b.0 b.1) (left_in_both a.0 b.0, a.1 && b.1)
-
+-- ---- the end of a scope
 -- a linear entry is left at the end of its scope, without slack
 abbrev pub is_unused : Mode → Bool → Bool → Bool
 is_unused m l s = is_linear m && l && not s
 
--- the answer outside the scope of the newest entry
-abbrev pub closed : Mode → Answer → Answer
-closed m None = None
-closed m (Some a) = if is_unused m (newest a.0) a.1 then None else Some (older a.0, a.1)
-
--- the answer outside the scope of several entries, the last one the newest
-abbrev pub closed_all : List Mode → Answer → Answer
-closed_all [] r = r
-closed_all (n ∷ ns) r = closed n (closed_all ns r)
-
--- the modes with those of newer entries, the last one the newest
-abbrev pub entered : List Mode → List Mode → List Mode
-entered [] ms = ms
-entered (n ∷ ns) ms = entered ns (n ∷ ms)
-
 -- ---- arguments
--- the row without its linear entries
-abbrev pub without_linear : List Mode → Holding → Holding
-without_linear (m ∷ ms) (h ∷ hs) = (not (is_linear m) && h) ∷ without_linear ms hs
-without_linear [] hs = []
-without_linear (m ∷ ms) [] = []
-
 -- the linear entries of the first row, and the others of the second
 abbrev pub linear_of : List Mode → Holding → Holding → Holding
 linear_of (m ∷ ms) (a ∷ as') (b ∷ bs) = (if is_linear m then a else b) ∷ linear_of ms as' bs
 linear_of [] as' bs = []
 linear_of (m ∷ ms) [] bs = []
 linear_of (m ∷ ms) (a ∷ as') [] = []
-
--- The row from which an argument starts: a persistent one has the persistent entries alone, an affine one no linear entry.
-abbrev pub allowed : Mode → List Mode → Holding → Holding
-allowed Persistent ms l = persistent_alone ms
-allowed Affine ms l = without_linear ms l
-allowed Linear ms l = l
 
 -- the row outside an argument that started from what is allowed of l and left r
 abbrev pub outside : Mode → List Mode → Holding → Holding → Holding
@@ -150,8 +113,3 @@ outside Linear ms l r = r
 -- Only a linear argument's slack counts outside.
 abbrev pub slack_outside : Mode → Bool → Bool
 slack_outside m t = is_linear m && t
-
--- the answer outside an argument, from the row at its begin and its own answer
-abbrev pub argued : Mode → List Mode → Holding → Answer → Answer
-argued m ms l None = None
-argued m ms l (Some a) = Some (outside m ms l a.0, slack_outside m a.1)

@@ -2,7 +2,7 @@
 use Rattle.std.proofs.Common.{◌≡◌, ◌≤◌, reverse, drop, length}
 use Rattle.use_contexts.specs.Context.{modes}
 use Rattle.use_contexts.specs.Marks.{context, marks}
-use Rattle.use_contexts.specs.Rows.{without_linear}
+use Rattle.use_contexts.specs.Holding.{without_linear}
 use Rattle.clf_kernel.proofs.rows.without_linear.Given as goal
 
 abbrev pub invariant-loop-var : goal.invariant-loop-var
