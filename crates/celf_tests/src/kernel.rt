@@ -1,6 +1,6 @@
 //! Each call of the kernel once; tables of checks stand in `run`, over text.
 ghost use Rattle.std.specs.Prelude.{◌≡◌};
-ghost use Rattle.clf_sig.specs.Signature.{plain_class, plain_entry, plain_signature};
+ghost use Rattle.clf_sig.specs.Signature.{plain_entry, plain_signature};
 ghost use Rattle.clf_kernel.specs.Reach.{SignatureInReach, ClassInReach};
 
 use crate::trees::{atom, constant, family, function};
@@ -37,10 +37,11 @@ fn signature(rt: &impl Abort, alloc: Global) -> Signature
 }
 
 /// The answer about an entry none of whose arguments is implicit.
+#[tactic(auto, using(clf_kernel::proofs::InReach::reach_laws))]
 fn checked(alloc: Global, sig: &Signature, entry: Entry) -> Result<(), OrWide<Refusal>>
     requires signature { SignatureInReach (plain_signature sig.now) }
-    requires class { ClassInReach (plain_class entry.class) }
-    requires implicit { entry.implicit ≡ 0 }
+    requires class { ClassInReach (plain_entry entry).class }
+    requires implicit { (plain_entry entry).implicit ≡ 0 }
 {
     let answer = check_entry(alloc, sig, &entry);
     // By a call, as below: dropped at the end, each form of the tree would be a case of this function.
@@ -101,7 +102,7 @@ fn assert_slack(rt: &impl Abort, answer: Result<Left, OrWide<Refusal>>) {
 }
 
 #[test]
-#[tactic(auto, using(clf_syntax::specs::Plain::plain_laws, clf_syntax::specs::PlainTypes::plain_type_laws))]
+#[tactic(auto, using(clf_syntax::specs::Plain::plain_laws, clf_syntax::specs::PlainTypes::plain_type_laws, clf_kernel::proofs::InReach::reach_laws))]
 fn objects_are_checked(rt: HostRuntime) {
     let alloc = rt.alloc();
     let sig = signature(&rt, alloc);
@@ -135,7 +136,7 @@ fn assert_inferred(rt: &impl Abort, answer: Result<Inferred, OrWide<Refusal>>) {
 }
 
 #[test]
-#[tactic(auto, using(clf_syntax::specs::Plain::plain_laws, clf_syntax::specs::PlainTypes::plain_type_laws))]
+#[tactic(auto, using(clf_syntax::specs::Plain::plain_laws, clf_syntax::specs::PlainTypes::plain_type_laws, clf_kernel::proofs::InReach::reach_laws))]
 fn types_are_inferred(rt: HostRuntime) {
     let alloc = rt.alloc();
     let sig = signature(&rt, alloc);

@@ -1,11 +1,11 @@
--- An object, and a neutral, without variables is in reach where its signature, itself and its type are.
-use Rattle.std.proofs.Common.{◌≡◌, true, [], sym, subst}
+-- An object, and a neutral, without variables is in reach where its signature, itself and its type are; and an entry without implicit arguments.
+use Rattle.std.proofs.Common.{◌≡◌, true, [], sym, subst, arith}
 use Rattle.clf_syntax.specs.Tree.{PlainObject, PlainNeutral}
 use Rattle.clf_syntax.specs.TypeTree.{PlainType}
 use Rattle.use_contexts.specs.Context.{Context}
 use Rattle.use_contexts.specs.Holding.{Holding}
-use Rattle.clf_sig.specs.Entry.{PlainSignature}
-use Rattle.clf_kernel.specs.Reach.{without_indices, without_monads, neutral_without_monads, SignatureInReach, ObjectInReach, NeutralInReach}
+use Rattle.clf_sig.specs.Entry.{PlainSignature, PlainEntry}
+use Rattle.clf_kernel.specs.Reach.{without_indices, without_monads, neutral_without_monads, SignatureInReach, ClassInReach, ObjectInReach, NeutralInReach, EntryInReach}
 
 pub object_in_reach : (sig : PlainSignature) (g : Context) (h : Holding) (n : PlainObject) (t : PlainType) → g ≡ [] → h ≡ [] → SignatureInReach sig → without_monads n ≡ true → without_indices t ≡ true
     → ObjectInReach sig g h n t
@@ -17,4 +17,7 @@ pub neutral_in_reach : (sig : PlainSignature) (g : Context) (h : Holding) (r : P
 neutral_in_reach sig g h r e f s m =
     subst (λ k. NeutralInReach sig k h r) (sym e) (subst (λ k. NeutralInReach sig [] k r) (sym f) (record { signature = s; context = tt; marked = tt; neutral = m }))
 
-pub ruleset reach_laws = (object_in_reach, neutral_in_reach)
+pub entry_in_reach : (sig : PlainSignature) (e : PlainEntry) → SignatureInReach sig → ClassInReach e.class → e.implicit ≡ 0 → EntryInReach sig e
+entry_in_reach sig e s c i = record { signature = s; class = c; implicit = omega (arith, i) }
+
+pub ruleset reach_laws = (object_in_reach, neutral_in_reach, entry_in_reach)

@@ -44,6 +44,9 @@ pub data Chain (A : Type 0) (X : A → A → Type 0) : A → A → Type 0 where
   next : {a b c : A} → X a b → Chain A X b c → Chain A X a c
 
 -- Joined: exchanges lead from one tree to the other.
+-- An exchange asks which variables are mentioned, and not which are used: `<>` uses what it does not mention. So it need not keep types.
+-- With c of type {a} and k of type <T> -o {b}, `let {x} = c in let {y} = k <> in y` has the result {b}, where <> uses x, and its exchange
+-- `let {y} = k <> in let {x} = c in y` has none, since there nothing uses x. Trees that are joined and typed are both typed.
 abbrev pub Joined : PlainObject → PlainObject → Type 0
 Joined o u = Chain PlainObject Exchanged o u
 

@@ -12,6 +12,7 @@ use Rattle.clf_kernel.specs.Answers.{plain_cause}
 use Rattle.clf_kernel.specs.Typing.{HasType}
 use Rattle.clf_kernel.specs.Explained.{ExplainedAt}
 use Rattle.clf_kernel.specs.Exact.{ChecksObject}
+use Rattle.clf_kernel.proofs.InReach.{object_in_reach}
 use Rattle.celf_reading.proofs.Bare.{without_indices-bare}
 use Rattle.celf_reading.proofs.WithinReach.{simple-signature}
 use Rattle.celf_reading.proofs.ChecksBack.{checks_read_back}
@@ -20,11 +21,11 @@ use Rattle.celf_run.specs.Transcript.{Judged, has_none, has_type, typed}
 use Rattle.celf_run.proofs.Answering.{refusal-answers}
 use Rattle.celf_run.proofs.check.judge.Goals as goal
 
-pub check_object-judged-requires-clause-signature : goal.check_object-judged-requires-clause-signature
-check_object-judged-requires-clause-signature c = simple-signature (plain_signature c.args.sig.now) c.requires.bare
-
-pub check_object-judged-requires-clause-ty : goal.check_object-judged-requires-clause-ty
-check_object-judged-requires-clause-ty c = without_indices-bare (plain_signature c.args.sig.now) (plain_ty c.args.ty.now) c.requires.ty
+pub check_object-judged-requires : goal.check_object-judged-requires
+check_object-judged-requires c =
+    let sig = plain_signature c.args.sig.now in
+    let type = without_indices-bare sig (plain_ty c.args.ty.now) c.requires.ty in
+    record { reach = object_in_reach sig _ _ (plain_obj c.args.obj.now) (plain_ty c.args.ty.now) c.empty-ctx.ensures (ap reverse c.new.ensures) (simple-signature sig c.requires.bare) c.requires.object type }
 
 -- what the kernel answers in the empty context and its holding
 answers-empty : (sig : _) (g : Context) (h : Holding) (n : _) (a : _) (r : Result Left (OrWide Refusal)) → g ≡ [] → h ≡ [] → ChecksObject sig g h n a r → ChecksObject sig [] [] n a r
