@@ -10,15 +10,14 @@ use Rattle.clf_syntax.specs.Tree.{PlainObject, lam, pair, unit, monadic, atomic,
 use Rattle.clf_syntax.specs.TypeTree.{PlainType, family, function, both, top, monad}
 use Rattle.clf_syntax.specs.Renaming.{ren_type, up}
 use Rattle.use_contexts.specs.Context.{Context, modes}
-use Rattle.use_contexts.specs.Holding.{Holding, WellMarked, Split, Uses, is_weak, is_linear, is_persistent, persistent_alone, may_use, allowed, without_linear}
+use Rattle.use_contexts.specs.Holding.{Holding, WellMarked, Uses, is_weak, is_linear, is_persistent, persistent_alone, may_use, allowed, without_linear}
 use Rattle.use_contexts.specs.Rows.{IsSubholding, Answer, Agrees, Shared, left_in_both, newest_difference, taken, is_unused, newest, older, outside, slack_outside}
 use Rattle.use_contexts.proofs.RowAnswers.{paired, paired_unless, closed}
 use Rattle.use_contexts.proofs.Bits.{and-left, and-right}
 use Rattle.use_contexts.proofs.RowLaws.{agrees-same, pair-agrees, IsSubholding-first}
 use Rattle.use_contexts.proofs.UseLaws.{IsSubholding-self, WellMarked-part, unit-agrees, idle-agrees, take-refused, take-agrees, scope-agrees}
 use Rattle.use_contexts.proofs.ArgumentLaws.{argument-agrees}
-use Rattle.hered_subst.specs.Substitution.{single, SubstitutedType}
-use Rattle.trace_equal.specs.Exchange.{JoinedEach}
+use Rattle.hered_subst.specs.Substitution.{single}
 use Rattle.clf_sig.specs.Entry.{PlainSignature, constant_type}
 use Rattle.clf_kernel.specs.Typing.{HeadHasType, LambdaRule, PairRule, AtomicRule, ApplicationRule, HasType, Synthesizes}
 use Rattle.clf_kernel.specs.Refusal.{unused, mode_differs, family_differs, eliminations}

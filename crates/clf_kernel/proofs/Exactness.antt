@@ -1,12 +1,12 @@
 -- From the outcome of a check to what the rules say.
-use Rattle.std.proofs.Common.{◌≡◌, true, subst, Result, Ok, Err}
+use Rattle.std.proofs.Common.{subst, Result, Ok, Err}
 use Rattle.clf_syntax.specs.declared.fault.OrWide.{OrWide}
 use Rattle.clf_syntax.specs.declared.fault.OrWide.TheVariants.{Fault, NoMemory, TooFar}
 use Rattle.clf_syntax.specs.Tree.{PlainObject, PlainNeutral}
 use Rattle.clf_syntax.specs.TypeTree.{PlainType}
 use Rattle.use_contexts.specs.declared.join.Left.{Left}
 use Rattle.use_contexts.specs.Context.{Context, modes}
-use Rattle.use_contexts.specs.Holding.{Holding, WellMarked}
+use Rattle.use_contexts.specs.Holding.{Holding}
 use Rattle.use_contexts.specs.Rows.{Agrees, Leftover}
 use Rattle.clf_sig.specs.Entry.{PlainSignature, PlainEntry}
 use Rattle.clf_kernel.specs.declared.refusal.Refusal.{Refusal}

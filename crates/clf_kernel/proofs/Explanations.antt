@@ -9,7 +9,7 @@ use Rattle.clf_syntax.specs.Tree.{PlainObject, lam, pair, unit, monadic, atomic,
 use Rattle.clf_syntax.specs.TypeTree.{PlainType, family, function, both, top, monad}
 use Rattle.use_contexts.specs.Context.{Context, modes}
 use Rattle.use_contexts.specs.Holding.{Holding, WellMarked, allowed}
-use Rattle.use_contexts.specs.Rows.{implies, within, stands, differs, IsSubholding, EachWithin, EachStands, Stands, Agrees, newest_difference, is_unused, newest, older, outside, slack_outside, Leftover}
+use Rattle.use_contexts.specs.Rows.{implies, within, stands, differs, EachWithin, Stands, Agrees, newest_difference, is_unused, newest, older, outside, slack_outside, Leftover}
 use Rattle.use_contexts.proofs.Bits.{at_entry, given, given_3, and-left, and-right, and-both}
 use Rattle.use_contexts.proofs.RowLaws.{IsSubholding-stands}
 use Rattle.use_contexts.proofs.UseLaws.{WellMarked-part}
@@ -21,7 +21,7 @@ use Rattle.clf_kernel.specs.Checking.{constant_left, held_left, variable_left, h
 use Rattle.trace_equal.specs.Search.{same_mode}
 use Rattle.clf_kernel.specs.Reach.{without_indices, SignatureInReach, ContextInReach, ObjectInReach, NeutralInReach, without_monads, neutral_without_monads}
 use Rattle.clf_kernel.specs.Explained.{DiffersAt, MaySynthesize, object_at, neutral_with, whole, in_body, in_left_part, in_right_part, in_neutral, at_head, at_argument, at_first, at_second, before_argument, before_first, before_second, in_argument_part, lambda_at_none, argument_to_none, pair_at_none, first_of_none, second_of_none, unit_at_none, neutral_at_none, neutral_of_none, hole_stands, metavariable_stands, lambda_differs, argument_differs, variable_not_held, variable_unused, parts_differ, other_family, no_variable, no_constant, ExplainedAt, ExplainedInNeutral}
-use Rattle.clf_kernel.proofs.UsedParts.{used, used_stands, used_of, length-used_of, each-used_of, used-part, some-part}
+use Rattle.clf_kernel.proofs.UsedParts.{used, used_stands, used_of, length-used_of, each-used_of, some-part}
 use Rattle.clf_kernel.proofs.Leavings.{row-leaves}
 use Rattle.clf_kernel.proofs.Agreement.{AgreesWithType, marked-there, same-mode, other-mode, other-number, allowed-marked, object-agrees, neutral-agrees}
 

@@ -1,6 +1,5 @@
 -- A part at a path that is refused for a cause is the check's refusal: it is the first, and the one that is answered.
-use Rattle.std.proofs.Common.{◌≡◌, ◌≤◌, ◌<◌, ℕ, suc, ◌-◌, ◌==◌, Bool, true, false, ◌&&◌, ◌||◌, if◌then◌else◌, List, [], ◌∷◌, length, Option, None, Some, slice_get, refl, sym, ap, subst, ◌∙◌, ◌↔◌, arith}
-use Rattle.std.proofs.Math.Bool.{beq}
+use Rattle.std.proofs.Common.{◌≡◌, ◌≤◌, ◌<◌, ℕ, suc, ◌-◌, ◌==◌, Bool, true, false, ◌||◌, if◌then◌else◌, List, [], ◌∷◌, length, Option, None, Some, slice_get, refl, sym, ap, subst, ◌∙◌, ◌↔◌, arith}
 use Rattle.std.proofs.lemmas.Bool.{cond-true, cond-false}
 use Rattle.clf_syntax.specs.declared.tree.Mode.{Mode}
 use Rattle.clf_syntax.specs.declared.tree.Mode.TheVariants.{Persistent, Affine, Linear}
@@ -9,8 +8,8 @@ use Rattle.clf_syntax.specs.Tree.{PlainObject, lam, pair, PlainNeutral, head_alo
 use Rattle.clf_syntax.specs.TypeTree.{PlainType, family, function, both, top, monad}
 use Rattle.use_contexts.specs.Context.{Context, modes}
 use Rattle.use_contexts.specs.Holding.{Holding, WellMarked, allowed}
-use Rattle.use_contexts.specs.Rows.{implies, within, stands, IsSubholding, EachWithin, EachStands, Agrees, newest_difference, is_unused, newest, older, outside, slack_outside, Leftover}
-use Rattle.use_contexts.proofs.Bits.{at_entry, given_3, and-left, and-right, and-both}
+use Rattle.use_contexts.specs.Rows.{IsSubholding, Agrees, newest_difference, is_unused, newest, older, outside, slack_outside, Leftover}
+use Rattle.use_contexts.proofs.Bits.{and-left, and-right}
 use Rattle.use_contexts.proofs.UseLaws.{WellMarked-part, scope-agrees}
 use Rattle.clf_sig.specs.Entry.{PlainSignature}
 use Rattle.clf_kernel.specs.Typing.{HasType, Synthesizes}

@@ -5,7 +5,7 @@ use Rattle.clf_syntax.specs.declared.tree.Mode.{Mode}
 use Rattle.clf_syntax.specs.declared.tree.Mode.TheVariants.{Persistent, Affine, Linear}
 use Rattle.use_contexts.specs.Context.{Context, modes}
 use Rattle.use_contexts.specs.Holding.{Holding}
-use Rattle.use_contexts.specs.Rows.{within, stands, newest, older, EachWithin, EachStands, IsSubholding, Agrees, Leftover}
+use Rattle.use_contexts.specs.Rows.{within, stands, newest, older, EachWithin, EachStands, Agrees, Leftover}
 use Rattle.use_contexts.proofs.Bits.{and-left, and-right}
 use Rattle.clf_kernel.specs.Explained.{CanSpare, Leaves}
 use Rattle.clf_kernel.proofs.UsedParts.{used_of, used-part}

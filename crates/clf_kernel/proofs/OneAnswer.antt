@@ -1,13 +1,12 @@
 -- What the rules say of an object or a neutral is said of one answer alone.
-use Rattle.std.proofs.Common.{◌≡◌, ℕ, Bool, true, false, not, ◌&&◌, List, [], ◌∷◌, None, Some, refl, sym, subst, arith}
-use Rattle.std.proofs.Math.Bool.{beq}
+use Rattle.std.proofs.Common.{◌≡◌, ℕ, Bool, true, false, not, ◌&&◌, List, [], ◌∷◌, None, Some, refl, sym, subst}
 use Rattle.clf_syntax.specs.declared.tree.Mode.{Mode}
 use Rattle.clf_syntax.specs.declared.tree.Mode.TheVariants.{Persistent, Affine, Linear}
 use Rattle.clf_syntax.specs.TypeTree.{PlainType}
 use Rattle.use_contexts.specs.Context.{Context, modes}
 use Rattle.use_contexts.specs.Holding.{Holding, WellMarked, is_weak, is_linear}
 use Rattle.use_contexts.specs.Rows.{implies, within, stands, newest, older, IsSubholding, EachWithin, EachStands, Stands, Agrees, Leftover}
-use Rattle.use_contexts.proofs.Bits.{at_entry, given_2, given_3, and-left, and-right, and-both}
+use Rattle.use_contexts.proofs.Bits.{at_entry, given_2, given_3, and-left, and-right}
 use Rattle.use_contexts.proofs.UseLaws.{IsSubholding-self}
 use Rattle.clf_kernel.specs.Typing.{HasType, Synthesizes}
 use Rattle.clf_kernel.specs.Reach.{without_indices}

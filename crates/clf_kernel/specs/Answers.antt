@@ -1,19 +1,15 @@
 -- What the calls of the kernel answer, in plain form.
-use Rattle.std.specs.Prelude.{◌≡◌, ◌≤◌, length, Result, Ok, Err}
+use Rattle.std.specs.Prelude.{◌≤◌, length}
 use Rattle.clf_syntax.specs.TypeTree.{PlainType}
 use Rattle.clf_syntax.specs.PlainTypes.{plain_ty}
 use Rattle.clf_syntax.specs.declared.tree.Tele.{out-Tele}
 use Rattle.clf_syntax.specs.declared.fault.Wide.{Wide}
-use Rattle.clf_syntax.specs.declared.fault.OrWide.{OrWide}
-use Rattle.clf_syntax.specs.declared.fault.OrWide.TheVariants.{Fault, NoMemory, TooFar}
 use Rattle.use_contexts.specs.declared.join.Left.{Left}
 use Rattle.use_contexts.specs.Marks.{marks}
 use Rattle.clf_kernel.specs.declared.refusal.Cause.{Cause as DeclaredCause}
 use Rattle.clf_kernel.specs.declared.refusal.Cause.TheVariants.{NotFunction, NotPair, NotTop, NotAtomic, NotClosed, ModeDiffers, NotHeld, Unused, PairsDiffer, FamilyDiffers, UnknownHead}
-use Rattle.clf_kernel.specs.declared.refusal.Refusal.{Refusal}
 use Rattle.clf_kernel.specs.declared.refusal.Inferred.{Inferred}
 use Rattle.clf_kernel.specs.Refusal.{Cause, not_function, not_pair, not_top, not_atomic, not_closed, mode_differs, not_held, unused, pairs_differ, family_differs, unknown_head}
-use Rattle.clf_kernel.specs.Outcome.{Outcome, passed, refused}
 use Rattle.use_contexts.specs.Rows.{Leftover}
 
 abbrev pub plain_cause : DeclaredCause → Cause

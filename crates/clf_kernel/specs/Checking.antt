@@ -7,7 +7,6 @@
 use Rattle.std.specs.Prelude.{ℕ, suc, Bool, true, false, ◌||◌, ◌&&◌, ◌==◌, if◌then◌else◌, [], ◌∷◌, length, Option, None, Some}
 use Rattle.std.specs.List.{slice_get}
 use Rattle.clf_syntax.specs.declared.tree.Mode.{Mode}
-use Rattle.clf_syntax.specs.declared.tree.Mode.TheVariants.{Persistent, Affine, Linear}
 use Rattle.clf_syntax.specs.declared.tree.Head.{Head}
 use Rattle.clf_syntax.specs.declared.tree.Head.TheVariants.{Const, Var, Meta}
 use Rattle.clf_syntax.specs.Tree.{PlainObject, lam, pair, unit, monadic, atomic, hole, PlainNeutral, head_alone, app, fst, snd}
@@ -15,7 +14,7 @@ use Rattle.clf_syntax.specs.TypeTree.{PlainType, family, function, both, top}
 use Rattle.use_contexts.specs.Context.{Context, modes}
 use Rattle.trace_equal.specs.Search.{same_mode}
 use Rattle.use_contexts.specs.Holding.{Holding, allowed}
-use Rattle.use_contexts.specs.Rows.{Answer, taken, left_in_both, newest_difference, newest, older, is_unused, outside, slack_outside, Leftover}
+use Rattle.use_contexts.specs.Rows.{taken, left_in_both, newest_difference, newest, older, is_unused, outside, slack_outside, Leftover}
 use Rattle.clf_sig.specs.Entry.{PlainSignature, constant_type}
 use Rattle.clf_kernel.specs.Refusal.{not_function, not_pair, not_top, not_atomic, not_closed, mode_differs, not_held, unused, pairs_differ, family_differs, unknown_head, level, eliminations}
 use Rattle.clf_kernel.specs.Outcome.{Outcome, passed, refused, at_part, and_then}

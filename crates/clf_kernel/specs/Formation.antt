@@ -1,13 +1,9 @@
 -- Inner: which family number of a type without indices is the first that is no family. Proofs lead from it to the rules of WellFormed
 -- and Explained.
-use Rattle.std.specs.Prelude.{ℕ, suc, ◌≡◌, true, [], Option, Some, None, Result, Ok, Err}
+use Rattle.std.specs.Prelude.{ℕ, suc, [], Option, Some, None}
 use Rattle.clf_syntax.specs.declared.tree.Head.TheVariants.{Const}
-use Rattle.clf_syntax.specs.declared.fault.OrWide.{OrWide}
-use Rattle.clf_syntax.specs.declared.fault.OrWide.TheVariants.{Fault, NoMemory, TooFar}
 use Rattle.clf_syntax.specs.TypeTree.{PlainType, family, function, both, top, monad, PlainTelescope, end, binding, PlainKind}
 use Rattle.clf_sig.specs.Entry.{PlainSignature, PlainClass, family_of, constant_of, family_kind}
-use Rattle.clf_kernel.specs.declared.refusal.Refusal.{Refusal}
-use Rattle.clf_kernel.specs.Reach.{without_indices}
 use Rattle.clf_kernel.specs.Refusal.{unknown_head}
 use Rattle.clf_kernel.specs.Outcome.{Outcome, passed, refused, at_part, and_then}
 

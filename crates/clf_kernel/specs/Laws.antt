@@ -2,9 +2,8 @@
 -- state them.
 use Rattle.std.specs.Prelude.{ℕ, ◌≡◌, ◌↔◌, Bool, true, false, List, [], ◌∷◌, ◌++◌, None, Some}
 use Rattle.std.specs.List.{slice_get}
-use Rattle.clf_syntax.specs.declared.tree.Mode.{Mode}
 use Rattle.clf_syntax.specs.Tree.{PlainObject, PlainNeutral, PlainExpression}
-use Rattle.clf_syntax.specs.TypeTree.{PlainType, family, function, both, top, monad, PlainTelescope, PlainKind}
+use Rattle.clf_syntax.specs.TypeTree.{PlainType, family, PlainTelescope, PlainKind}
 use Rattle.use_contexts.specs.Context.{Context, modes}
 use Rattle.use_contexts.specs.Holding.{Holding, WellMarked, is_weak}
 use Rattle.use_contexts.specs.Rows.{IsSubholding, Stands, Agrees, Leftover}
