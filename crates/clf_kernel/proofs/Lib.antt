@@ -17,3 +17,6 @@ pub mod OneAnswer
 pub mod Entries
 pub mod InReach
 pub mod Exactness
+pub mod OneType
+pub mod TypedExamples
+pub mod FormedExamples

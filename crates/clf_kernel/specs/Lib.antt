@@ -25,3 +25,4 @@ pub mod Checking
 pub mod Spine
 pub mod Formation
 pub mod Stops
+pub mod Examples

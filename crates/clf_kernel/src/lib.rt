@@ -10,6 +10,7 @@ mod refusal;
 mod rows;
 mod scope;
 mod steps;
+mod worked;
 
 pub use entry::check_entry;
 pub use laws::{
@@ -18,3 +19,4 @@ pub use laws::{
 };
 pub use object::{check_object, infer};
 pub use refusal::{Cause, Inferred, Refusal};
+pub use worked::worked_judgments;

@@ -1,0 +1,12 @@
+pub mod Erased
+pub mod FormedTypes
+pub mod Mentioned
+pub mod Counted
+pub mod SplitLaws
+pub mod MoreAffine
+pub mod JoinedChains
+pub mod Decisions
+pub mod Lost
+pub mod Fixed
+pub mod Carried
+pub mod ContextLaws

@@ -1,0 +1,5 @@
+use Rattle.clf_kernel.proofs.OneType.{type_is_one}
+use Rattle.typing_laws.proofs.laws.one_type.Goals as goal
+
+pub returns : goal.returns
+returns c = type_is_one

@@ -1,0 +1,31 @@
+-- What is held, and what a typed tree mentions of it.
+use Rattle.std.specs.Prelude.{ℕ, ◌≡◌, true, false, List, [], ◌∷◌, Some}
+use Rattle.std.specs.List.{slice_get}
+use Rattle.clf_syntax.specs.declared.tree.Mode.{Mode}
+use Rattle.clf_syntax.specs.declared.tree.Mode.TheVariants.{Persistent, Affine, Linear}
+use Rattle.clf_syntax.specs.Tree.{PlainObject, PlainNeutral, PlainExpression}
+use Rattle.clf_syntax.specs.TypeTree.{PlainType, PlainTelescope}
+use Rattle.clf_syntax.specs.Occurs.{occurs}
+use Rattle.use_contexts.specs.Context.{Context, modes}
+use Rattle.use_contexts.specs.Holding.{Holding}
+use Rattle.clf_sig.specs.Entry.{PlainSignature}
+use Rattle.clf_kernel.specs.Typing.{HasType, Synthesizes, ExpressionHasType}
+
+-- A typed object mentions variables alone that the holding holds: none that is beyond it, and none that is marked as not held.
+abbrev pub MentionsTakenAlone : Type 0
+MentionsTakenAlone = (sig : PlainSignature) (g : Context) (h : Holding) (n : PlainObject) (a : PlainType) → HasType sig g h n a → (i : ℕ) → (slice_get h i ≡ Some true → ⊥) → occurs i n ≡ false
+
+-- The second holding has all marks of the first, and perhaps more affine ones.
+abbrev pub MoreAffine : List Mode → Holding → Holding → Type 0
+MoreAffine [] [] [] = Unit {0}
+MoreAffine (Affine ∷ ms) (x ∷ h) (y ∷ k) = (x ≡ true → y ≡ true) × MoreAffine ms h k
+MoreAffine (Persistent ∷ ms) (x ∷ h) (y ∷ k) = (x ≡ y) × MoreAffine ms h k
+MoreAffine (Linear ∷ ms) (x ∷ h) (y ∷ k) = (x ≡ y) × MoreAffine ms h k
+MoreAffine _ _ _ = ⊥
+
+-- Affine weakening: an object keeps its type where more affine entries are held.
+abbrev pub AffineWeakening : Type 0
+AffineWeakening = (sig : PlainSignature) (g : Context) (h k : Holding) → MoreAffine (modes g) h k
+    → ((n : PlainObject) (a : PlainType) → HasType sig g h n a → HasType sig g k n a)
+    × ((r : PlainNeutral) (a : PlainType) → Synthesizes sig g h r a → Synthesizes sig g k r a)
+    × ((e : PlainExpression) (s : PlainTelescope) → ExpressionHasType sig g h e s → ExpressionHasType sig g k e s)
