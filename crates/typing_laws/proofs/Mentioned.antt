@@ -15,7 +15,7 @@ use Rattle.use_contexts.specs.Context.{Context, modes, with_entries}
 use Rattle.use_contexts.specs.Holding.{Holding, SplitEntry, Split, all_held}
 use Rattle.clf_sig.specs.Entry.{PlainSignature}
 use Rattle.clf_kernel.specs.Typing.{HeadHasType, HasType, Synthesizes, ExpressionHasType, TupleHasType}
-use Rattle.typing_laws.specs.Held.{MentionsTakenAlone}
+use Rattle.typing_laws.specs.Held.{MentionsHeldAlone}
 
 pub none_of : (a b : Bool) → a ≡ false → b ≡ false → a || b ≡ false
 none_of false b e f = f
@@ -95,5 +95,5 @@ mutual
   unheld_tuple sig g h (entry m n t) s p i e = let (e1, e2) = split_unheld (modes g) h p.for_first p.for_later i p.split e in
       none_of (occurs i n) (occurs_tuple i t) (unheld_object sig g p.for_first n p.first_type p.first i e1) (unheld_tuple sig g p.for_later t p.after_put p.later i e2)
 
-pub mentions_taken_alone : MentionsTakenAlone
-mentions_taken_alone = unheld_object
+pub mentions_held_alone : MentionsHeldAlone
+mentions_held_alone = unheld_object

@@ -12,8 +12,8 @@ use Rattle.clf_sig.specs.Entry.{PlainSignature}
 use Rattle.clf_kernel.specs.Typing.{HasType, Synthesizes, ExpressionHasType}
 
 -- A typed object mentions variables alone that the holding holds: none that is beyond it, and none that is marked as not held.
-abbrev pub MentionsTakenAlone : Type 0
-MentionsTakenAlone = (sig : PlainSignature) (g : Context) (h : Holding) (n : PlainObject) (a : PlainType) → HasType sig g h n a → (i : ℕ) → (slice_get h i ≡ Some true → ⊥) → occurs i n ≡ false
+abbrev pub MentionsHeldAlone : Type 0
+MentionsHeldAlone = (sig : PlainSignature) (g : Context) (h : Holding) (n : PlainObject) (a : PlainType) → HasType sig g h n a → (i : ℕ) → (slice_get h i ≡ Some true → ⊥) → occurs i n ≡ false
 
 -- The second holding has all marks of the first, and perhaps more affine ones.
 abbrev pub MoreAffine : List Mode → Holding → Holding → Type 0

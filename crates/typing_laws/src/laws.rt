@@ -1,7 +1,7 @@
 //! Laws of the rules, each stated by a function that does nothing.
 ghost use Rattle.typing_laws.specs.Congruence.{JoinedIsCongruence, JoinedIsEquivalenceOnEachSort};
 ghost use Rattle.typing_laws.specs.Contexts.{ContextWeakening};
-ghost use Rattle.typing_laws.specs.Held.{AffineWeakening, MentionsTakenAlone};
+ghost use Rattle.typing_laws.specs.Held.{AffineWeakening, MentionsHeldAlone};
 ghost use Rattle.typing_laws.specs.LostTypes.{ExchangeLosesTypes};
 ghost use Rattle.typing_laws.specs.SimpleTyping.{SynthesizedIsSimplyFormed, TypedIsSimplyTyped, WellFormedIsSimplyFormed};
 ghost use Rattle.typing_laws.specs.Splits.{SplitAssociates, SplitCommutes, SplitHasNeutral};
@@ -22,7 +22,7 @@ pub fn one_type()
 
 /// A typed object mentions variables alone that its holding holds.
 pub fn mentions()
-    ensures { MentionsTakenAlone }
+    ensures { MentionsHeldAlone }
 {}
 
 /// Linear and affine variables are used at most once, and linear ones that are held occur where no `<>` stands.
