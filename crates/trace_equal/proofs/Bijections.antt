@@ -118,11 +118,11 @@ insert_length zero y ys = refl
 insert_length (suc i) y [] = refl
 insert_length (suc i) y (z ∷ ys) = ap suc (insert_length i y ys)
 
-map_length : {A B : Type 0} (f : A → B) (xs : List A) → length (map f xs) ≡ length xs
+pub map_length : {A B : Type 0} (f : A → B) (xs : List A) → length (map f xs) ≡ length xs
 map_length f [] = refl
 map_length f (x ∷ xs) = ap suc (map_length f xs)
 
-wide_length_ren : (r : Renumbering) (e : PlainExpression) → length (wide_steps (ren_expression r e)) ≡ length (wide_steps e)
+pub wide_length_ren : (r : Renumbering) (e : PlainExpression) → length (wide_steps (ren_expression r e)) ≡ length (wide_steps e)
 wide_length_ren r (step ms n e) = ap suc (wide_length_ren (lifted (length ms) r) e)
 wide_length_ren r (done t) = refl
 
@@ -208,7 +208,7 @@ pullable (step q o g) (suc i) us ms n r e a =
         sum : (i : ℕ) → i + length q + size g ≡ i + (size g + length q)
         sum i = omega arith
 
-own_from : (f g : Renumbering) (a b n : ℕ) → map f (map (up a) (below n)) ≡ map g (map (up b) (below n)) → (c : ℕ) → c < n → f (c + a) ≡ g (c + b)
+pub own_from : (f g : Renumbering) (a b n : ℕ) → map f (map (up a) (below n)) ≡ map g (map (up b) (below n)) → (c : ℕ) → c < n → f (c + a) ≡ g (c + b)
 own_from f g a b zero e c h = absurd (omega arith)
 own_from f g a b (suc n) e c h = ⊎_elim (λ k. own_from f g a b n (tails e) c k) (λ k. subst (λ j. f (j + a) ≡ g (j + b)) (same k) (heads e)) (cut c n)
   where

@@ -1,5 +1,5 @@
 -- The search finds the first matching.
-use Rattle.std.specs.Prelude.{ℕ, Bool, true, false, zero, suc, ◌+◌, ◌≡◌, ◌<◌, ◌≤◌, ◌⊎◌, ◌&&◌, nat_eq, if◌then◌else◌, List, [], ◌∷◌, length, map, refl, Some, None, is_some}
+use Rattle.std.specs.Prelude.{ℕ, Bool, true, false, zero, suc, ◌+◌, ◌≡◌, ◌<◌, ◌≤◌, ◌⊎◌, ◌&&◌, ◌↔◌, nat_eq, if◌then◌else◌, List, [], ◌∷◌, length, map, refl, Some, None, is_some}
 use Rattle.std.proofs.Common.{Option, ap, sym, subst, ◌∙◌, arith, inl, inr, ⊎_elim}
 use Rattle.clf_syntax.proofs.RenamingLaws.{composed_neutral, ext, pairs}
 use Rattle.clf_syntax.specs.Renaming.{ren_neutral, up}
@@ -14,7 +14,7 @@ use Rattle.trace_equal.specs.Laws.{FirstIsFound, IsJoinedDecides}
 use Rattle.trace_equal.proofs.Fronts.{PulledAt, both, halves, pull_complete, pull_sound}
 use Rattle.trace_equal.proofs.WideSteps.{place}
 use Rattle.trace_equal.specs.Bijection.{AgreeAt, IsAtMost, IsFirstMatching, IsMatching}
-use Rattle.trace_equal.specs.Exchange.{JoinedNeutral}
+use Rattle.trace_equal.specs.Exchange.{JoinedNeutral, JoinedTuple}
 use Rattle.trace_equal.specs.Matching.{Matches, MatchesExpression, MatchesNeutral, MatchesTuple, Pulled, match_app, match_atomic, match_bare, match_done, match_empty, match_entry, match_fst, match_hole, match_lam, match_monadic, match_pair, match_snd, match_unit}
 use Rattle.trace_equal.specs.Search.{Front, attempt, first, front, or_else, past, places, prefixed, pull_at, is_joined, same_head, same_mode, same_modes, is_joined_neutral, is_joined_tuple}
 use Rattle.trace_equal.specs.Steps.{WideStep, below, ren_wide_step, size, wide_step, wide_steps}
@@ -30,7 +30,7 @@ mode_complete Persistent = refl
 mode_complete Affine = refl
 mode_complete Linear = refl
 
-modes_sound : (ms ns : List Mode) → same_modes ms ns ≡ true → ms ≡ ns
+pub modes_sound : (ms ns : List Mode) → same_modes ms ns ≡ true → ms ≡ ns
 modes_sound [] [] e = refl
 modes_sound [] (n ∷ ns) e = absurd (cc)
 modes_sound (m ∷ ms) [] e = absurd (cc)
@@ -39,7 +39,7 @@ modes_sound (m ∷ ms) (n ∷ ns) e = let (a, b) = halves (same_mode m n) (same_
     conses : {a b : Mode} {c d : List Mode} → a ≡ b → c ≡ d → (a ∷ c) ≡ (b ∷ d)
     conses e f = cc
 
-modes_complete : (ms : List Mode) → same_modes ms ms ≡ true
+pub modes_complete : (ms : List Mode) → same_modes ms ms ≡ true
 modes_complete [] = refl
 modes_complete (m ∷ ms) = both (mode_complete m) (modes_complete ms)
 
@@ -102,7 +102,7 @@ places_from : (good : List ℕ → Type 0) (h : ℕ → Option (List ℕ)) → (
 places_from good h a zero i = λ j l k m g. absurd (omega arith)
 places_from good h a (suc n) i = joined_from good i n (h i) (places n (suc i) h) (a i) (places_from good h a n (suc i))
 
-at_bound : (i : ℕ) (x : WideStep) (ys : List WideStep) → AgreeAt i x ys → i < length ys
+pub at_bound : (i : ℕ) (x : WideStep) (ys : List WideStep) → AgreeAt i x ys → i < length ys
 at_bound i x [] a = absurd a
 at_bound zero x (y ∷ ys) a = omega arith
 at_bound (suc i) x (y ∷ ys) a = up (at_bound i x ys a)
@@ -243,5 +243,12 @@ first_is_found = is_first
 
 pub same_is_joined : IsJoinedDecides
 same_is_joined a b = ((λ e. (joined_matches.0 a b).1 (sound a b e)), (λ j. complete a ((joined_matches.0 a b).0 j)))
+
+-- the tests of neutrals and tuples
+pub neutral_test_decides : (n r : PlainNeutral) → (is_joined_neutral n r ≡ true) ↔ JoinedNeutral n r
+neutral_test_decides n r = ((λ e. joined_neutral (sound_neutral n r e)), (λ j. complete_neutral n (like_to_neutral (alike_neutral n) j)))
+
+pub tuple_test_decides : (t u : PlainTuple) → (is_joined_tuple t u ≡ true) ↔ JoinedTuple t u
+tuple_test_decides t u = ((λ e. (joined_matches.3 t u).1 (sound_tuple t u e)), (λ j. complete_tuple t ((joined_matches.3 t u).0 j)))
 
 pub ruleset matching_laws = (first_is_found, same_is_joined, joined_has_matching)

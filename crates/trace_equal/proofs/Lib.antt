@@ -5,3 +5,6 @@ pub mod WideSteps
 pub mod Bijections
 pub mod Fronts
 pub mod FirstMatching
+pub mod Fitting
+pub mod Places
+pub mod Ids

@@ -1,11 +1,15 @@
 -- Laws of exchange, as statements; the functions of the crate's `laws` state them.
-use Rattle.std.specs.Prelude.{ℕ, ◌≡◌, ◌<◌, ◌↔◌, Bool, true, false, ◌&&◌, List}
-use Rattle.clf_syntax.specs.Tree.{PlainObject, lam, pair, unit, monadic, atomic, hole, PlainNeutral, head_alone, app, fst, snd, PlainExpression, step, done, PlainTuple, empty, entry}
-use Rattle.clf_syntax.specs.Renaming.{ren_neutral, up}
+use Rattle.std.specs.Prelude.{ℕ, ◌+◌, ◌≡◌, ◌<◌, ◌↔◌, Bool, true, false, ◌&&◌, List, [], length}
+use Rattle.clf_syntax.specs.declared.tree.Mode.{Mode}
+use Rattle.clf_syntax.specs.Tree.{PlainObject, lam, pair, unit, monadic, atomic, hole, PlainNeutral, head_alone, app, fst, snd, PlainExpression, step, done, PlainTuple, empty, entry, steps_on}
+use Rattle.clf_syntax.specs.Renaming.{Renumbering, ren_expression, ren_neutral, ren_tuple, up}
 use Rattle.clf_syntax.specs.Occurs.{occurs_neutral}
 use Rattle.trace_equal.specs.Exchange.{Joined, JoinedNeutral, JoinedExpression, JoinedTuple}
 use Rattle.trace_equal.specs.Matching.{Matches, MatchesNeutral, MatchesExpression, MatchesTuple}
 use Rattle.trace_equal.specs.Bijection.{IsMatching, IsFirstMatching}
+use Rattle.trace_equal.specs.Ids.{EachUnder, by, rights_by, table_after, total}
+use Rattle.trace_equal.specs.Places.{Covers, all_places, search}
+use Rattle.trace_equal.specs.Steps.{wide_steps}
 use Rattle.trace_equal.specs.Search.{first, is_joined}
 
 -- Trees are joined exactly where they match.
@@ -63,3 +67,15 @@ FirstIsFound = (e f : PlainExpression) → IsFirstMatching e f (first e f)
 -- The test `is_joined` tells whether two objects are joined.
 abbrev pub IsJoinedDecides : Type 0
 IsJoinedDecides = (o u : PlainObject) → (is_joined o u ≡ true) ↔ Joined o u
+
+-- The search by places finds the first matching of two expressions under tables that number their variables, from any lists of
+-- candidates that have each place of a matching: so no tree need be rebuilt, and fewer candidates will do.
+abbrev pub FirstIsFoundUnderTables : Type 0
+FirstIsFoundUnderTables = (d : ℕ) (t u : List ℕ) (l : PlainExpression) (ss : List (List Mode × PlainNeutral)) (w : PlainTuple) (cs : List (List ℕ)) → EachUnder d t → EachUnder d u
+    → Covers cs (ren_expression (by d t) l) (ren_expression (by d u) (steps_on ss (done w)))
+    → search (rights_by (d + total ss) d u ss) (ren_tuple (by (d + total ss) (table_after d u ss)) w) cs (by (d + total ss) t) [] l
+    ≡ first (ren_expression (by d t) l) (ren_expression (by d u) (steps_on ss (done w)))
+
+-- All places in order are such candidates.
+abbrev pub AllPlacesCover : Type 0
+AllPlacesCover = (p : Renumbering) (e f : PlainExpression) → Covers (all_places (length (wide_steps f)) e) (ren_expression p e) f

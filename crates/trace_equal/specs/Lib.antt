@@ -7,4 +7,6 @@ pub mod Matching
 pub mod Steps
 pub mod Bijection
 pub mod Search
+pub mod Places
+pub mod Ids
 pub mod Laws

@@ -1,5 +1,5 @@
 //! Laws of exchange, stated by functions that do nothing.
-ghost use Rattle.trace_equal.specs.Laws.{FirstIsFound, IndependenceInWords, JoinedHasMatching, JoinedIsEquivalence, JoinedMatches, JoinedWithoutSteps, IsJoinedDecides};
+ghost use Rattle.trace_equal.specs.Laws.{AllPlacesCover, FirstIsFound, FirstIsFoundUnderTables, IndependenceInWords, JoinedHasMatching, JoinedIsEquivalence, JoinedMatches, JoinedWithoutSteps, IsJoinedDecides};
 
 /// Trees are joined exactly where they match, and without steps exactly where they are identical.
 #[tactic(auto, using(crate::proofs::Joined::exchange_laws))]
@@ -16,4 +16,11 @@ pub fn matchings()
     ensures exists { JoinedHasMatching }
     ensures first { FirstIsFound }
     ensures joined { IsJoinedDecides }
+{}
+
+/// Under tables that number the variables, the search by places finds the first matching too, and all places are candidates.
+#[tactic(auto, using(crate::proofs::Ids::table_laws))]
+pub fn matchings_by_places()
+    ensures found { FirstIsFoundUnderTables }
+    ensures all { AllPlacesCover }
 {}

@@ -3,4 +3,4 @@
 
 mod laws;
 
-pub use laws::{exchange, matchings};
+pub use laws::{exchange, matchings, matchings_by_places};
