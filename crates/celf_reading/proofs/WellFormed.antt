@@ -6,7 +6,7 @@ use Rattle.use_contexts.specs.Context.{Context}
 use Rattle.clf_sig.specs.Entry.{PlainClass, family_of, constant_of, PlainEntry, PlainSignature, place_of, class_at, family_kind, names}
 use Rattle.clf_sig.proofs.Names.{is_named}
 use Rattle.clf_kernel.specs.WellFormed.{WellFormedType, WellFormedClass, WellFormedEntry, AllMayFollow, WellFormedSignature}
-use Rattle.clf_kernel.proofs.Signatures.{bare_families}
+use Rattle.clf_kernel.proofs.Signatures.{families_without_arguments}
 use Rattle.celf_explicit.specs.Entries.{read_entry}
 use Rattle.celf_reading.specs.Bare.{IsBareType, IsBareClass, IsBareEntry, AreBare, IsBareSignature}
 use Rattle.celf_reading.proofs.Bare.{read_entry-bare}
@@ -16,7 +16,7 @@ bare-family sig k e = rw e refl
 
 -- In a bare type no index stands, so it is well formed in every context.
 pub bare-type : (sig : PlainSignature) (g : Context) (a : PlainType) → IsBareType sig a → WellFormedType sig g a
-bare-type sig g (family k ns) h = rw h.1 ((bare_families sig g k).1 (bare-family sig k h.0))
+bare-type sig g (family k ns) h = rw h.1 ((families_without_arguments sig g k).1 (bare-family sig k h.0))
 bare-type sig g (function m a b) h = (bare-type sig g a h.0, bare-type sig _ b h.1)
 bare-type sig g (both a b) h = (bare-type sig g a h.0, bare-type sig g b h.1)
 bare-type sig g top h = tt

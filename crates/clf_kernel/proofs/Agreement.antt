@@ -17,13 +17,13 @@ use Rattle.use_contexts.proofs.Bits.{and-left, and-right}
 use Rattle.use_contexts.proofs.RowLaws.{agrees-same, pair-agrees, IsSubholding-first}
 use Rattle.use_contexts.proofs.UseLaws.{IsSubholding-self, WellMarked-part, unit-agrees, idle-agrees, take-refused, take-agrees, scope-agrees}
 use Rattle.use_contexts.proofs.ArgumentLaws.{argument-agrees}
-use Rattle.hered_subst.specs.Substitution.{single}
+use Rattle.hered_subst.specs.Substitution.{single, SubstitutedType}
 use Rattle.clf_sig.specs.Entry.{PlainSignature, constant_type}
 use Rattle.clf_kernel.specs.Typing.{HeadHasType, LambdaRule, PairRule, AtomicRule, ApplicationRule, HasType, Synthesizes}
 use Rattle.clf_kernel.specs.Refusal.{unused, mode_differs, family_differs, eliminations}
 use Rattle.clf_kernel.specs.Outcome.{Outcome, passed, refused, at_part, and_then, answer_of}
 use Rattle.use_contexts.specs.Rows.{Leftover}
-use Rattle.clf_kernel.specs.Checking.{constant_left, held_left, variable_left, head_left, closed_scope, lambda_left, joined_left, pair_left, unit_left, found_left, atomic_left, argument_left, first_left, second_left, checked, inferred}
+use Rattle.clf_kernel.specs.Checking.{Put, staying, constant_left, held_left, variable_left, head_left, closed_scope, lambda_left, joined_left, pair_left, unit_left, found_left, atomic_left, argument_left, first_left, second_left, checked, inferred}
 use Rattle.trace_equal.specs.Search.{same_mode}
 use Rattle.clf_kernel.specs.Reach.{without_indices, SignatureInReach, ContextInReach, ObjectInReach, NeutralInReach, without_monads, neutral_without_monads}
 use Rattle.clf_kernel.proofs.Held.{same_number}
@@ -232,6 +232,14 @@ allowed-marked Persistent ms l w = alone-marked ms
 allowed-marked Affine ms l w = weak-marked ms l w
 allowed-marked Linear ms l w = w
 
+-- What is put is right for types without indices. So what is said of applications holds of any such function, and of that which puts
+-- objects into types with indices once it is asked of those.
+abbrev pub Puts : Put → Type 0
+Puts put = (n : PlainObject) (c : PlainType) → without_indices c ≡ true → SubstitutedType (single n 0) c (put n c)
+
+pub staying-puts : Puts staying
+staying-puts n c e = itself-type (single n 0) c e
+
 -- the rule of an application, of any properties of its function and its argument
 abbrev ApplicationHas : Mode → Context → PlainObject → (Holding → PlainType → Type 0) → (PlainType → Holding → Type 0) → Holding → PlainType → Type 0
 ApplicationHas m g n P Q p t = ApplicationRule g p m n t P (λ k a. Q a k)
@@ -254,20 +262,21 @@ application-type m g n a c P Q w one p t y =
     let e : y.range ≡ c = function-result (one y.for_function (function m y.domain y.range) y.applied) in
     same-type y.type (subst (λ d. without_indices d ≡ true) (sym e) w) ∙ e
 
-application-same : (m : Mode) (g : Context) (h : Holding) (place : ℕ) (n : PlainObject) (a c : PlainType) (x : Leftover) (r : Outcome Leftover)
+application-same : (put : Put) (puts : Puts put) (m : Mode) (g : Context) (h : Holding) (place : ℕ) (n : PlainObject) (a c : PlainType) (x : Leftover) (r : Outcome Leftover)
     (P : Holding → PlainType → Type 0) (Q : PlainType → Holding → Type 0)
     → AgreesWithType g h (passed (function m a c, x)) P → Agrees (modes g) (allowed m (modes g) x.0) (answer_of r) (Q a)
-    → AgreesWithType g h (and_then (at_part place r) (λ y. passed (c, (outside m (modes g) x.0 y.0, x.1 || slack_outside m y.1)))) (ApplicationHas m g n P Q)
-application-same m g h place n a c x (refused path cause) P Q u v =
+    → AgreesWithType g h (and_then (at_part place r) (λ y. passed (put n c, (outside m (modes g) x.0 y.0, x.1 || slack_outside m y.1)))) (ApplicationHas m g n P Q)
+application-same put puts m g h place n a c x (refused path cause) P Q u v =
     let self = IsSubholding-self (modes g) x.0 (WellMarked-part (modes g) h x.0 u.1.0) in
     let none = argument-agrees m (modes g) h x.0 x.1 None (λ q. P q (function m a c)) (Q a) self u.1 v in
     λ p t w y. none p w (shared-at m g n a c P Q u.2 p t y)
-application-same m g h place n a c x (passed b) P Q u v =
+application-same put puts m g h place n a c x (passed b) P Q u v =
     let self = IsSubholding-self (modes g) x.0 (WellMarked-part (modes g) h x.0 u.1.0) in
     let some = argument-agrees m (modes g) h x.0 x.1 (Some b) (λ q. P q (function m a c)) (Q a) self u.1 v in
-    let simple = and-right (without_indices a) (without_indices c) u.0 in (
-      simple,
-      agrees-same (modes g) h (Some (outside m (modes g) x.0 b.0, x.1 || slack_outside m b.1)) (SharedAt m g a c P Q) (λ p. ApplicationHas m g n P Q p c)
+    let simple = and-right (without_indices a) (without_indices c) u.0 in
+    let stays : put n c ≡ c = same-type (puts n c simple) simple in (
+      subst (λ d. without_indices d ≡ true) (sym stays) simple,
+      agrees-same (modes g) h (Some (outside m (modes g) x.0 b.0, x.1 || slack_outside m b.1)) (SharedAt m g a c P Q) (λ p. ApplicationHas m g n P Q p (put n c))
           (λ p y. record {
             domain = a;
             range = c;
@@ -277,44 +286,44 @@ application-same m g h place n a c x (passed b) P Q u v =
             applied = y.3;
             usable = y.4.0;
             argument = y.4.1;
-            type = itself-type (single n 0) c simple;
+            type = puts n c simple;
           })
-          (λ p y. shared-at m g n a c P Q u.2 p c y)
+          (λ p y. shared-at m g n a c P Q u.2 p (put n c) y)
           some,
-      application-type m g n a c P Q simple u.2,
+      (λ p t y. application-type m g n a c P Q simple u.2 p t y ∙ sym stays),
     )
 
-application-function : (m k : Mode) (b : Bool) → same_mode m k ≡ b → (g : Context) (h : Holding) (place : ℕ) (n : PlainObject) (a c : PlainType) (x : Leftover) (r : Outcome Leftover)
+application-function : (put : Put) (puts : Puts put) (m k : Mode) (b : Bool) → same_mode m k ≡ b → (g : Context) (h : Holding) (place : ℕ) (n : PlainObject) (a c : PlainType) (x : Leftover) (r : Outcome Leftover)
     (P : Holding → PlainType → Type 0) (Q : PlainType → Holding → Type 0)
     → AgreesWithType g h (passed (function k a c, x)) P → Agrees (modes g) (allowed m (modes g) x.0) (answer_of r) (Q a)
-    → AgreesWithType g h (if b then and_then (at_part place r) (λ y. passed (c, (outside m (modes g) x.0 y.0, x.1 || slack_outside m y.1))) else refused (place ∷ []) (mode_differs k m))
+    → AgreesWithType g h (if b then and_then (at_part place r) (λ y. passed (put n c, (outside m (modes g) x.0 y.0, x.1 || slack_outside m y.1))) else refused (place ∷ []) (mode_differs k m))
     (ApplicationHas m g n P Q)
-application-function m k true e g h place n a c x r P Q u v =
-    application-same m g h place n a c x r P Q (subst (λ j. AgreesWithType g h (passed (function j a c, x)) P) (sym (same-mode m k e)) u) v
-application-function m k false e g h place n a c x r P Q u v = λ p t w y.
+application-function put puts m k true e g h place n a c x r P Q u v =
+    application-same put puts m g h place n a c x r P Q (subst (λ j. AgreesWithType g h (passed (function j a c, x)) P) (sym (same-mode m k e)) u) v
+application-function put puts m k false e g h place n a c x r P Q u v = λ p t w y.
     other-mode m k e (sym (function-mode (u.2 y.for_function (function m y.domain y.range) y.applied)))
 
-argument-left-agrees : (m : Mode) (g : Context) (h : Holding) (place : ℕ) (n : PlainObject) (f : PlainType) (x : Leftover) (argument : Holding → PlainType → Outcome Leftover)
+argument-left-agrees : (put : Put) (puts : Puts put) (m : Mode) (g : Context) (h : Holding) (place : ℕ) (n : PlainObject) (f : PlainType) (x : Leftover) (argument : Holding → PlainType → Outcome Leftover)
     (P : Holding → PlainType → Type 0) (Q : PlainType → Holding → Type 0)
     → AgreesWithType g h (passed (f, x)) P
     → ((row : Holding) (a : PlainType) → WellMarked (modes g) row → without_indices a ≡ true → Agrees (modes g) row (answer_of (argument row a)) (Q a))
-    → AgreesWithType g h (argument_left m g place (f, x) argument) (ApplicationHas m g n P Q)
-argument-left-agrees m g h place n (function k a c) x argument P Q u v =
+    → AgreesWithType g h (argument_left put m g n place (f, x) argument) (ApplicationHas m g n P Q)
+argument-left-agrees put puts m g h place n (function k a c) x argument P Q u v =
     let row = allowed m (modes g) x.0 in
     let marked = allowed-marked m (modes g) x.0 (WellMarked-part (modes g) h x.0 u.1.0) in
-    application-function m k (same_mode m k) refl g h place n a c x (argument row a) P Q u (v row a marked (and-left (without_indices a) (without_indices c) u.0))
-argument-left-agrees m g h place n (family i ns) x argument P Q u v = λ p t w y. let e = u.2 y.for_function (function m y.domain y.range) y.applied in absurd (cc)
-argument-left-agrees m g h place n (both a c) x argument P Q u v = λ p t w y. let e = u.2 y.for_function (function m y.domain y.range) y.applied in absurd (cc)
-argument-left-agrees m g h place n top x argument P Q u v = λ p t w y. let e = u.2 y.for_function (function m y.domain y.range) y.applied in absurd (cc)
-argument-left-agrees m g h place n (monad s) x argument P Q u v = λ p t w y. let e = u.2 y.for_function (function m y.domain y.range) y.applied in absurd (cc)
+    application-function put puts m k (same_mode m k) refl g h place n a c x (argument row a) P Q u (v row a marked (and-left (without_indices a) (without_indices c) u.0))
+argument-left-agrees put puts m g h place n (family i ns) x argument P Q u v = λ p t w y. let e = u.2 y.for_function (function m y.domain y.range) y.applied in absurd (cc)
+argument-left-agrees put puts m g h place n (both a c) x argument P Q u v = λ p t w y. let e = u.2 y.for_function (function m y.domain y.range) y.applied in absurd (cc)
+argument-left-agrees put puts m g h place n top x argument P Q u v = λ p t w y. let e = u.2 y.for_function (function m y.domain y.range) y.applied in absurd (cc)
+argument-left-agrees put puts m g h place n (monad s) x argument P Q u v = λ p t w y. let e = u.2 y.for_function (function m y.domain y.range) y.applied in absurd (cc)
 
-application-agrees : (m : Mode) (g : Context) (h : Holding) (place : ℕ) (n : PlainObject) (r : Outcome (PlainType × Leftover)) (argument : Holding → PlainType → Outcome Leftover)
+application-agrees : (put : Put) (puts : Puts put) (m : Mode) (g : Context) (h : Holding) (place : ℕ) (n : PlainObject) (r : Outcome (PlainType × Leftover)) (argument : Holding → PlainType → Outcome Leftover)
     (P : Holding → PlainType → Type 0) (Q : PlainType → Holding → Type 0)
     → AgreesWithType g h r P
     → ((row : Holding) (a : PlainType) → WellMarked (modes g) row → without_indices a ≡ true → Agrees (modes g) row (answer_of (argument row a)) (Q a))
-    → AgreesWithType g h (and_then r (λ f. argument_left m g place f argument)) (ApplicationHas m g n P Q)
-application-agrees m g h place n (refused path cause) argument P Q u v = λ p t w y. u y.for_function (function m y.domain y.range) (IsSubholding-first (modes g) h p y.for_function y.for_argument y.split w) y.applied
-application-agrees m g h place n (passed f) argument P Q u v = argument-left-agrees m g h place n f.0 f.1 argument P Q u v
+    → AgreesWithType g h (and_then r (λ f. argument_left put m g n place f argument)) (ApplicationHas m g n P Q)
+application-agrees put puts m g h place n (refused path cause) argument P Q u v = λ p t w y. u y.for_function (function m y.domain y.range) (IsSubholding-first (modes g) h p y.for_function y.for_argument y.split w) y.applied
+application-agrees put puts m g h place n (passed f) argument P Q u v = argument-left-agrees put puts m g h place n f.0 f.1 argument P Q u v
 
 -- ---- projections
 first-agrees : (g : Context) (h : Holding) (place : ℕ) (r : Outcome (PlainType × Leftover)) (P : Holding → PlainType → Type 0)
@@ -394,36 +403,36 @@ head-agrees sig s g c h w (Meta k) = λ p a u y. y
 module _ (sig : PlainSignature) (s : SignatureInReach sig) where
   mutual
     pub object-agrees : (n : PlainObject) (g : Context) (h : Holding) (t : PlainType) → ContextInReach g → WellMarked (modes g) h → without_monads n ≡ true → without_indices t ≡ true
-        → Agrees (modes g) h (answer_of (checked sig g h n t)) (λ p. HasType sig g p n t)
+        → Agrees (modes g) h (answer_of (checked staying sig g h n t)) (λ p. HasType sig g p n t)
     object-agrees (lam m b) g h t c w n e =
-        lambda-agrees m g h t (λ a d. checked sig ((m, a) ∷ g) (true ∷ h) b d) (λ a d p. HasType sig ((m, a) ∷ g) p b d) e
+        lambda-agrees m g h t (λ a d. checked staying sig ((m, a) ∷ g) (true ∷ h) b d) (λ a d p. HasType sig ((m, a) ∷ g) p b d) e
         (λ a d x y. object-agrees b ((m, a) ∷ g) (true ∷ h) d (x, c) ((λ q. refl), w) n y)
     object-agrees (pair l r) g h t c w n e =
-        pair-left-agrees g h t (λ a. checked sig g h l a) (λ d. checked sig g h r d) (λ a p. HasType sig g p l a) (λ d p. HasType sig g p r d) e
+        pair-left-agrees g h t (λ a. checked staying sig g h l a) (λ d. checked staying sig g h r d) (λ a p. HasType sig g p l a) (λ d p. HasType sig g p r d) e
         (λ a x. object-agrees l g h a c w (and-left (without_monads l) (without_monads r) n) x)
         (λ d x. object-agrees r g h d c w (and-right (without_monads l) (without_monads r) n) x)
     object-agrees unit g h t c w n e = unit-left-agrees g h t w
     object-agrees (monadic x) g h t c w n e = absurd (cc)
-    object-agrees (atomic r) g h t c w n e = atomic-agrees g h t (inferred sig g h r) (λ p a. Synthesizes sig g p r a) e (neutral-agrees r g h c w n)
+    object-agrees (atomic r) g h t c w n e = atomic-agrees g h t (inferred staying sig g h r) (λ p a. Synthesizes sig g p r a) e (neutral-agrees r g h c w n)
     object-agrees hole g h t c w n e = λ p u y. y
 
     pub neutral-agrees : (r : PlainNeutral) (g : Context) (h : Holding) → ContextInReach g → WellMarked (modes g) h → neutral_without_monads r ≡ true
-        → AgreesWithType g h (inferred sig g h r) (λ p a. Synthesizes sig g p r a)
+        → AgreesWithType g h (inferred staying sig g h r) (λ p a. Synthesizes sig g p r a)
     neutral-agrees (head_alone x) g h c w n = head-agrees sig s g c h w x
     neutral-agrees (app m r o) g h c w n =
-        application-agrees m g h (eliminations r) o (inferred sig g h r) (λ row a. checked sig g row o a) (λ p a. Synthesizes sig g p r a) (λ a p. HasType sig g p o a)
+        application-agrees staying staying-puts m g h (eliminations r) o (inferred staying sig g h r) (λ row a. checked staying sig g row o a) (λ p a. Synthesizes sig g p r a) (λ a p. HasType sig g p o a)
         (neutral-agrees r g h c w (and-left (neutral_without_monads r) (without_monads o) n))
         (λ row a x y. object-agrees o g row a c x (and-right (neutral_without_monads r) (without_monads o) n) y)
-    neutral-agrees (fst r) g h c w n = first-agrees g h (eliminations r) (inferred sig g h r) (λ p a. Synthesizes sig g p r a) (neutral-agrees r g h c w n)
-    neutral-agrees (snd r) g h c w n = second-agrees g h (eliminations r) (inferred sig g h r) (λ p a. Synthesizes sig g p r a) (neutral-agrees r g h c w n)
+    neutral-agrees (fst r) g h c w n = first-agrees g h (eliminations r) (inferred staying sig g h r) (λ p a. Synthesizes sig g p r a) (neutral-agrees r g h c w n)
+    neutral-agrees (snd r) g h c w n = second-agrees g h (eliminations r) (inferred staying sig g h r) (λ p a. Synthesizes sig g p r a) (neutral-agrees r g h c w n)
 
 -- What is left stands for exactly the parts of the holding under which the rules type the object, and a refusal comes only where there
 -- is no such part.
 pub checks_exactly : (sig : PlainSignature) (g : Context) (h : Holding) (n : PlainObject) (t : PlainType) → ObjectInReach sig g h n t
-    → Agrees (modes g) h (answer_of (checked sig g h n t)) (λ p. HasType sig g p n t)
+    → Agrees (modes g) h (answer_of (checked staying sig g h n t)) (λ p. HasType sig g p n t)
 checks_exactly sig g h n t w = object-agrees sig w.signature n g h t w.context w.marked w.object w.type
 
 -- So it is with the type that is found of a neutral.
 pub infers_exactly : (sig : PlainSignature) (g : Context) (h : Holding) (r : PlainNeutral) → NeutralInReach sig g h r
-    → AgreesWithType g h (inferred sig g h r) (λ p a. Synthesizes sig g p r a)
+    → AgreesWithType g h (inferred staying sig g h r) (λ p a. Synthesizes sig g p r a)
 infers_exactly sig g h r w = neutral-agrees sig w.signature r g h w.context w.marked w.neutral

@@ -17,7 +17,7 @@ use Rattle.clf_sig.specs.Entry.{PlainSignature, constant_type}
 use Rattle.clf_kernel.specs.Typing.{HasType, Synthesizes}
 use Rattle.clf_kernel.specs.Refusal.{Cause, unused, mode_differs, family_differs, eliminations}
 use Rattle.clf_kernel.specs.Outcome.{Outcome, passed, refused, at_part, and_then, answer_of}
-use Rattle.clf_kernel.specs.Checking.{constant_left, held_left, variable_left, head_left, closed_scope, lambda_left, joined_left, pair_left, unit_left, found_left, atomic_left, argument_left, first_left, second_left, checked, inferred}
+use Rattle.clf_kernel.specs.Checking.{staying, constant_left, held_left, variable_left, head_left, closed_scope, lambda_left, joined_left, pair_left, unit_left, found_left, atomic_left, argument_left, first_left, second_left, checked, inferred}
 use Rattle.trace_equal.specs.Search.{same_mode}
 use Rattle.clf_kernel.specs.Reach.{without_indices, SignatureInReach, ContextInReach, ObjectInReach, NeutralInReach, without_monads, neutral_without_monads}
 use Rattle.clf_kernel.specs.Explained.{DiffersAt, MaySynthesize, object_at, neutral_with, whole, in_body, in_left_part, in_right_part, in_neutral, at_head, at_argument, at_first, at_second, before_argument, before_first, before_second, in_argument_part, lambda_at_none, argument_to_none, pair_at_none, first_of_none, second_of_none, unit_at_none, neutral_at_none, neutral_of_none, hole_stands, metavariable_stands, lambda_differs, argument_differs, variable_not_held, variable_unused, parts_differ, other_family, no_variable, no_constant, ExplainedAt, ExplainedInNeutral}
@@ -339,7 +339,7 @@ module _ (sig : PlainSignature) (g : Context) (h : Holding) where
   argument-left-explained : (m : Mode) (r : PlainNeutral) (n : PlainObject) (f : PlainType) (x : Leftover) (argument : Holding → PlainType → Outcome Leftover)
       → AgreesWithType g h (passed (f, x)) (λ p a. Synthesizes sig g p r a)
       → ((row : Holding) (a : PlainType) → WellMarked (modes g) row → without_indices a ≡ true → Explained sig g row n a (argument row a))
-      → NeutralExplained sig g h (app m r n) (argument_left m g (eliminations r) (f, x) argument)
+      → NeutralExplained sig g h (app m r n) (argument_left staying m g n (eliminations r) (f, x) argument)
   argument-left-explained m r n (function k a c) x argument u v =
       let row = allowed m (modes g) x.0 in
       let marked = allowed-marked m (modes g) x.0 (WellMarked-part (modes g) h x.0 u.1.0) in
@@ -352,7 +352,7 @@ module _ (sig : PlainSignature) (g : Context) (h : Holding) where
   application-explained : (m : Mode) (r : PlainNeutral) (n : PlainObject) (o : Outcome (PlainType × Leftover)) (argument : Holding → PlainType → Outcome Leftover)
       → AgreesWithType g h o (λ p a. Synthesizes sig g p r a) → NeutralExplained sig g h r o
       → ((row : Holding) (a : PlainType) → WellMarked (modes g) row → without_indices a ≡ true → Explained sig g row n a (argument row a))
-      → NeutralExplained sig g h (app m r n) (and_then o (λ f. argument_left m g (eliminations r) f argument))
+      → NeutralExplained sig g h (app m r n) (and_then o (λ f. argument_left staying m g n (eliminations r) f argument))
   application-explained m r n (refused path why) argument u v w = (v.0, v.1, v.2, before_argument v.3, v.4)
   application-explained m r n (passed f) argument u v w = argument-left-explained m r n f.0 f.1 argument u w
 
@@ -399,38 +399,38 @@ module _ (sig : PlainSignature) (g : Context) (h : Holding) where
 module _ (sig : PlainSignature) (s : SignatureInReach sig) where
   mutual
     object-explained : (n : PlainObject) (g : Context) (h : Holding) (t : PlainType) → ContextInReach g → WellMarked (modes g) h → without_monads n ≡ true → without_indices t ≡ true
-        → Explained sig g h n t (checked sig g h n t)
+        → Explained sig g h n t (checked staying sig g h n t)
     object-explained (lam m b) g h t c w n e =
-        lambda-explained sig g h m b t (λ a d. checked sig ((m, a) ∷ g) (true ∷ h) b d) e
+        lambda-explained sig g h m b t (λ a d. checked staying sig ((m, a) ∷ g) (true ∷ h) b d) e
         (λ a d x y. object-agrees sig s b ((m, a) ∷ g) (true ∷ h) d (x, c) ((λ q. refl), w) n y)
         (λ a d x y. object-explained b ((m, a) ∷ g) (true ∷ h) d (x, c) ((λ q. refl), w) n y)
     object-explained (pair l r) g h t c w n e =
         let x = and-left (without_monads l) (without_monads r) n in
         let y = and-right (without_monads l) (without_monads r) n in
-        pair-explained sig g h l r t (λ a. checked sig g h l a) (λ d. checked sig g h r d) e
+        pair-explained sig g h l r t (λ a. checked staying sig g h l a) (λ d. checked staying sig g h r d) e
         (λ a z. (object-agrees sig s l g h a c w x z, object-explained l g h a c w x z))
         (λ d z. (object-agrees sig s r g h d c w y z, object-explained r g h d c w y z))
     object-explained unit g h t c w n e = unit-explained sig g h t
     object-explained (monadic x) g h t c w n e = absurd (cc)
-    object-explained (atomic r) g h t c w n e = atomic-explained sig g h r t (inferred sig g h r) (neutral-agrees sig s r g h c w n) (neutral-explained r g h c w n)
+    object-explained (atomic r) g h t c w n e = atomic-explained sig g h r t (inferred staying sig g h r) (neutral-agrees sig s r g h c w n) (neutral-explained r g h c w n)
     object-explained hole g h t c w n e = (g, h, object_at hole t, whole, hole_stands)
 
     neutral-explained : (r : PlainNeutral) (g : Context) (h : Holding) → ContextInReach g → WellMarked (modes g) h → neutral_without_monads r ≡ true
-        → NeutralExplained sig g h r (inferred sig g h r)
+        → NeutralExplained sig g h r (inferred staying sig g h r)
     neutral-explained (head_alone y) g h c w n = head-explained sig g h y w
     neutral-explained (app m r o) g h c w n =
         let x = and-left (neutral_without_monads r) (without_monads o) n in
         let y = and-right (neutral_without_monads r) (without_monads o) n in
-        application-explained sig g h m r o (inferred sig g h r) (λ row a. checked sig g row o a) (neutral-agrees sig s r g h c w x) (neutral-explained r g h c w x)
+        application-explained sig g h m r o (inferred staying sig g h r) (λ row a. checked staying sig g row o a) (neutral-agrees sig s r g h c w x) (neutral-explained r g h c w x)
         (λ row a marked z. object-explained o g row a c marked y z)
-    neutral-explained (fst r) g h c w n = first-explained sig g h r (inferred sig g h r) (neutral-agrees sig s r g h c w n) (neutral-explained r g h c w n)
-    neutral-explained (snd r) g h c w n = second-explained sig g h r (inferred sig g h r) (neutral-agrees sig s r g h c w n) (neutral-explained r g h c w n)
+    neutral-explained (fst r) g h c w n = first-explained sig g h r (inferred staying sig g h r) (neutral-agrees sig s r g h c w n) (neutral-explained r g h c w n)
+    neutral-explained (snd r) g h c w n = second-explained sig g h r (inferred staying sig g h r) (neutral-agrees sig s r g h c w n) (neutral-explained r g h c w n)
 
 -- in words of an equation
 pub explained-object : (sig : PlainSignature) (g : Context) (h : Holding) (n : PlainObject) (t : PlainType) (path : List ℕ) (why : Cause) → ObjectInReach sig g h n t
-    → checked sig g h n t ≡ refused path why → ExplainedAt sig g h n t path why
+    → checked staying sig g h n t ≡ refused path why → ExplainedAt sig g h n t path why
 explained-object sig g h n t path why w q = subst (λ o. Explained sig g h n t o) q (object-explained sig w.signature n g h t w.context w.marked w.object w.type)
 
 pub explained-neutral : (sig : PlainSignature) (g : Context) (h : Holding) (r : PlainNeutral) (path : List ℕ) (why : Cause) → NeutralInReach sig g h r
-    → inferred sig g h r ≡ refused path why → ExplainedInNeutral sig g h r path why
+    → inferred staying sig g h r ≡ refused path why → ExplainedInNeutral sig g h r path why
 explained-neutral sig g h r path why w q = subst (λ o. NeutralExplained sig g h r o) q (neutral-explained sig w.signature r g h w.context w.marked w.neutral)

@@ -8,7 +8,7 @@ use Rattle.clf_kernel.specs.Reach.{SignatureInReach}
 use Rattle.clf_kernel.specs.WellFormed.{WellFormedType, WellFormedTelescope, WellFormedKind, WellFormedClass, WellFormedEntry, may_be_implicit}
 use Rattle.clf_kernel.specs.Outcome.{Outcome, passed, refused, at_part, and_then}
 use Rattle.clf_kernel.specs.Formation.{family_formed, type_formed, telescope_formed, class_formed}
-use Rattle.clf_kernel.proofs.Signatures.{bare_families, first_of_both, second_of_both}
+use Rattle.clf_kernel.proofs.Signatures.{families_without_arguments, first_of_both, second_of_both}
 
 -- An outcome decides a statement: it holds where the outcome passed, and not where it is refused.
 abbrev pub Decided : {A : Type 0} → Outcome A → Type 0 → Type 0
@@ -36,7 +36,7 @@ decided_family f None h = λ e. cc
 module _ (sig : PlainSignature) (simple : SignatureInReach sig) where
   mutual
     pub decided_type : (a : PlainType) (g : Context) → without_indices a ≡ true → Decided (type_formed sig a) (WellFormedType sig g a)
-    decided_type (family f []) g e = decided_as (family_formed f (family_kind sig f)) (bare_families sig g f).1 (bare_families sig g f).0 (decided_family f (family_kind sig f) (simple.1 f))
+    decided_type (family f []) g e = decided_as (family_formed f (family_kind sig f)) (families_without_arguments sig g f).1 (families_without_arguments sig g f).0 (decided_family f (family_kind sig f) (simple.1 f))
     decided_type (family f (n ∷ ns)) g e = absurd (cc)
     decided_type (function m a b) g e = decided_parts _ _ 0 1 (type_formed sig a) (type_formed sig b) (decided_type a g (first_of_both _ _ e)) (decided_type b ((m, a) ∷ g) (second_of_both (without_indices a) _ e))
     decided_type (both a b) g e = decided_parts _ _ 0 1 (type_formed sig a) (type_formed sig b) (decided_type a g (first_of_both _ _ e)) (decided_type b g (second_of_both (without_indices a) _ e))

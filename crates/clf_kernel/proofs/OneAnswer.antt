@@ -12,7 +12,7 @@ use Rattle.clf_kernel.specs.Typing.{HasType, Synthesizes}
 use Rattle.clf_kernel.specs.Reach.{without_indices}
 use Rattle.clf_kernel.specs.Refusal.{Cause}
 use Rattle.clf_kernel.specs.Outcome.{Outcome, passed, refused, answer_of}
-use Rattle.clf_kernel.specs.Checking.{checked, inferred}
+use Rattle.clf_kernel.specs.Checking.{staying, checked, inferred}
 use Rattle.clf_kernel.specs.Formation.{class_formed}
 use Rattle.clf_kernel.specs.Explained.{ExplainedAt}
 use Rattle.clf_kernel.specs.Laws.{RefusedIsExplained, RefusalIsOne, NeutralRefusalIsOne, EntryRefusalIsOne, LeaveTheSame, LeftoverIsOne, SlackIsIdle, InferredIsOne, SynthesizedInReach}
@@ -28,23 +28,23 @@ same_refusal o path other why because e f = (cc, cc)
 
 pub refusal_is_one : RefusalIsOne
 refusal_is_one sig g h n t path other why because w x y =
-    same_refusal (checked sig g h n t) path other why because ((refuses_exactly sig g h n t path why w).1 x) ((refuses_exactly sig g h n t other because w).1 y)
+    same_refusal (checked staying sig g h n t) path other why because ((refuses_exactly sig g h n t path why w).1 x) ((refuses_exactly sig g h n t other because w).1 y)
 
 pub neutral_refusal_is_one : NeutralRefusalIsOne
 neutral_refusal_is_one sig g h r path other why because w x y =
-    same_refusal (inferred sig g h r) path other why because ((refuses_neutrals_exactly sig g h r path why w).1 x) ((refuses_neutrals_exactly sig g h r other because w).1 y)
+    same_refusal (inferred staying sig g h r) path other why because ((refuses_neutrals_exactly sig g h r path why w).1 x) ((refuses_neutrals_exactly sig g h r other because w).1 y)
 
 pub entry_refusal_is_one : EntryRefusalIsOne
 entry_refusal_is_one sig e path other why because w x y =
     same_refusal (class_formed sig e.class) path other why because (class-exact sig w.signature e.class path why w.class x) (class-exact sig w.signature e.class other because w.class y)
 
 pub refused_is_explained : RefusedIsExplained
-refused_is_explained sig g h n t w = (there (checked sig g h n t) refl, back)
+refused_is_explained sig g h n t w = (there (checked staying sig g h n t) refl, back)
   where
-    agrees : (o : Outcome Leftover) → checked sig g h n t ≡ o → Agrees (modes g) h (answer_of o) (λ p. HasType sig g p n t)
+    agrees : (o : Outcome Leftover) → checked staying sig g h n t ≡ o → Agrees (modes g) h (answer_of o) (λ p. HasType sig g p n t)
     agrees o q = subst (λ (x : Outcome Leftover). Agrees (modes g) h (answer_of x) (λ p. HasType sig g p n t)) q (checks_exactly sig g h n t w)
 
-    there : (o : Outcome Leftover) → checked sig g h n t ≡ o → Agrees (modes g) h None (λ p. HasType sig g p n t) → (path : List ℕ) × (why : Cause) × ExplainedAt sig g h n t path why
+    there : (o : Outcome Leftover) → checked staying sig g h n t ≡ o → Agrees (modes g) h None (λ p. HasType sig g p n t) → (path : List ℕ) × (why : Cause) × ExplainedAt sig g h n t path why
     there (passed a) q none = let p = some-part (modes g) h a (λ p. HasType sig g p n t) (agrees (passed a) q) in absurd (none p.0 p.1 p.2)
     there (refused path why) q none = (path, why, (refuses_exactly sig g h n t path why w).0 q)
 
@@ -53,7 +53,7 @@ refused_is_explained sig g h n t w = (there (checked sig g h n t) refl, back)
 
 -- a type that a neutral within reach synthesizes
 pub synthesized_in_reach : SynthesizedInReach
-synthesized_in_reach sig g h r p a w = by (inferred sig g h r) (infers_exactly sig g h r w)
+synthesized_in_reach sig g h r p a w = by (inferred staying sig g h r) (infers_exactly sig g h r w)
   where
     by : (o : Outcome (PlainType × Leftover)) → AgreesWithType g h o (λ q b. Synthesizes sig g q r b) → IsSubholding (modes g) h p → Synthesizes sig g p r a → without_indices a ≡ true
     by (passed f) u s t = subst (λ b. without_indices b ≡ true) (sym (u.2 p a t)) u.0

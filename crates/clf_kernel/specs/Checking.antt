@@ -1,7 +1,7 @@
 -- Inner: what the check of an object leaves of a holding, or which refusal comes first. This follows the table of leftovers in
 -- docs/language.md. What the calls that check promise does not speak of it: proofs lead from it to the rules of Typing and Explained.
--- It speaks of objects without monads over types without indices, where nothing is put for the variable of a function;
--- what it says of a monadic object is of no use yet.
+-- It speaks of objects without monads, and of types without indices, which stay as they are where an object is put for a variable of
+-- theirs; what it says of a monadic object is of no use yet.
 --
 -- The parts of an object are checked in the order of their numbers, and then the object itself.
 use Rattle.std.specs.Prelude.{ℕ, suc, Bool, true, false, ◌||◌, ◌&&◌, ◌==◌, if◌then◌else◌, [], ◌∷◌, length, Option, None, Some}
@@ -18,6 +18,14 @@ use Rattle.use_contexts.specs.Rows.{taken, left_in_both, newest_difference, newe
 use Rattle.clf_sig.specs.Entry.{PlainSignature, constant_type}
 use Rattle.clf_kernel.specs.Refusal.{not_function, not_pair, not_top, not_atomic, not_closed, mode_differs, not_held, unused, pairs_differ, family_differs, unknown_head, level, eliminations}
 use Rattle.clf_kernel.specs.Outcome.{Outcome, passed, refused, at_part, and_then}
+
+-- What the type of an application is: a function's range with the argument put for its variable.
+abbrev pub Put : Type 0
+Put = PlainObject → PlainType → PlainType
+
+-- A type without indices stays as it is.
+abbrev pub staying : Put
+staying n c = c
 
 -- A constant has its type, and uses nothing.
 abbrev pub constant_left : ℕ → Holding → Option PlainType → Outcome (PlainType × Leftover)
@@ -79,12 +87,12 @@ atomic_left t found = refused [] (not_atomic t)
 
 -- An argument is put to a function of its mode. It starts from what its mode allows of the row that the function left;
 -- outside, what it left of that is left, and the slack of a linear one counts.
-abbrev pub argument_left : Mode → Context → ℕ → PlainType × Leftover → (Holding → PlainType → Outcome Leftover) → Outcome (PlainType × Leftover)
-argument_left m g place ((function k a c), x) argument =
+abbrev pub argument_left : Put → Mode → Context → PlainObject → ℕ → PlainType × Leftover → (Holding → PlainType → Outcome Leftover) → Outcome (PlainType × Leftover)
+argument_left put m g n place ((function k a c), x) argument =
     if same_mode m k
-    then and_then (at_part place (argument (allowed m (modes g) x.0) a)) (λ y. passed (c, (outside m (modes g) x.0 y.0, x.1 || slack_outside m y.1)))
+    then and_then (at_part place (argument (allowed m (modes g) x.0) a)) (λ y. passed (put n c, (outside m (modes g) x.0 y.0, x.1 || slack_outside m y.1)))
     else refused (place ∷ []) (mode_differs k m)
-argument_left m g place (t, x) argument = refused (place ∷ []) (not_function t)
+argument_left put m g n place (t, x) argument = refused (place ∷ []) (not_function t)
 
 abbrev pub first_left : ℕ → PlainType × Leftover → Outcome (PlainType × Leftover)
 first_left place ((both a c), x) = passed (a, x)
@@ -95,18 +103,18 @@ second_left place ((both a c), x) = passed (c, x)
 second_left place (t, x) = refused (place ∷ []) (not_pair t)
 
 abbrev mutual
-  -- checked sig g h n t: what the check of the object n against the type t leaves of the holding h
-  pub checked : PlainSignature → Context → Holding → PlainObject → PlainType → Outcome Leftover
-  checked sig g h (lam m b) t = lambda_left m g t (λ a c. checked sig ((m, a) ∷ g) (true ∷ h) b c)
-  checked sig g h (pair l r) t = pair_left g t (λ a. checked sig g h l a) (λ c. checked sig g h r c)
-  checked sig g h unit t = unit_left h t
-  checked sig g h (monadic e) t = refused [] not_closed
-  checked sig g h (atomic n) t = and_then (inferred sig g h n) (atomic_left t)
-  checked sig g h hole t = refused [] not_closed
+  -- checked put sig g h n t: what the check of the object n against the type t leaves of the holding h
+  pub checked : Put → PlainSignature → Context → Holding → PlainObject → PlainType → Outcome Leftover
+  checked put sig g h (lam m b) t = lambda_left m g t (λ a c. checked put sig ((m, a) ∷ g) (true ∷ h) b c)
+  checked put sig g h (pair l r) t = pair_left g t (λ a. checked put sig g h l a) (λ c. checked put sig g h r c)
+  checked put sig g h unit t = unit_left h t
+  checked put sig g h (monadic e) t = refused [] not_closed
+  checked put sig g h (atomic n) t = and_then (inferred put sig g h n) (atomic_left t)
+  checked put sig g h hole t = refused [] not_closed
 
-  -- inferred sig g h r: the type of the neutral r, and what it leaves of the holding h
-  pub inferred : PlainSignature → Context → Holding → PlainNeutral → Outcome (PlainType × Leftover)
-  inferred sig g h (head_alone x) = head_left sig g h x
-  inferred sig g h (app m r n) = and_then (inferred sig g h r) (λ f. argument_left m g (eliminations r) f (λ row a. checked sig g row n a))
-  inferred sig g h (fst r) = and_then (inferred sig g h r) (first_left (eliminations r))
-  inferred sig g h (snd r) = and_then (inferred sig g h r) (second_left (eliminations r))
+  -- inferred put sig g h r: the type of the neutral r, and what it leaves of the holding h
+  pub inferred : Put → PlainSignature → Context → Holding → PlainNeutral → Outcome (PlainType × Leftover)
+  inferred put sig g h (head_alone x) = head_left sig g h x
+  inferred put sig g h (app m r n) = and_then (inferred put sig g h r) (λ f. argument_left put m g n (eliminations r) f (λ row a. checked put sig g row n a))
+  inferred put sig g h (fst r) = and_then (inferred put sig g h r) (first_left (eliminations r))
+  inferred put sig g h (snd r) = and_then (inferred put sig g h r) (second_left (eliminations r))

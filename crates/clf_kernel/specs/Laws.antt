@@ -18,8 +18,8 @@ use Rattle.clf_kernel.specs.Exact.{InferredIs}
 use Rattle.clf_syntax.specs.Occurs.{occurs, occurs_type, occurs_telescope}
 
 -- A family without arguments is a well-formed type exactly where the signature has it so.
-abbrev pub BareFamilies : Type 0
-BareFamilies = (sig : PlainSignature) (g : Context) (f : ℕ) → WellFormedType sig g (family f []) ↔ (family_kind sig f ≡ Some [])
+abbrev pub FamiliesWithoutArguments : Type 0
+FamiliesWithoutArguments = (sig : PlainSignature) (g : Context) (f : ℕ) → WellFormedType sig g (family f []) ↔ (family_kind sig f ≡ Some [])
 
 -- A type without indices is well formed in every context where it is in one.
 abbrev pub AnyContext : Type 0

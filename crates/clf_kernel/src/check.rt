@@ -9,7 +9,7 @@ ghost use Rattle.use_contexts.specs.Marks.{context, marks};
 ghost use Rattle.use_contexts.specs.Rows.{newest_difference};
 ghost use Rattle.use_contexts.specs.Holding.{allowed};
 ghost use Rattle.clf_kernel.specs.Outcome.{and_then, at_part};
-ghost use Rattle.clf_kernel.specs.Checking.{closed_scope, lambda_left, joined_left, atomic_left, argument_left, checked, inferred};
+ghost use Rattle.clf_kernel.specs.Checking.{staying, closed_scope, lambda_left, joined_left, atomic_left, argument_left, checked, inferred};
 ghost use Rattle.clf_kernel.specs.Spine.{argument_used, elimination_left, spine_left};
 ghost use Rattle.clf_kernel.specs.Answers.{plain_left, plain_inferred};
 ghost use Rattle.clf_kernel.specs.Stops.{Gives};
@@ -37,7 +37,7 @@ pub fn check(
 ) -> Result<Left, Stop>
     requires marked { length (marks row) ≡ length (context ctx.old) }
     requires numbered { length (context ctx.old) < 2 ^ 32 }
-    ensures outcome { Gives plain_left (checked (plain_signature sig.now) (context ctx.old) (marks row) (plain_obj obj.now) (plain_ty ty.now)) result }
+    ensures outcome { Gives plain_left (checked staying (plain_signature sig.now) (context ctx.old) (marks row) (plain_obj obj.now) (plain_ty ty.now)) result }
     ensures marked { IfOk result (λ left. length (marks left.row) ≡ length (context ctx.old)) }
     ensures kept { OnOk result (ctx.new ≡ ctx.old) }
 {
@@ -74,7 +74,7 @@ fn check_neutral(
 ) -> Result<Left, Stop>
     requires marked { length (marks row) ≡ length (context ctx.old) }
     requires numbered { length (context ctx.old) < 2 ^ 32 }
-    ensures outcome { Gives plain_left (and_then (inferred (plain_signature sig.now) (context ctx.old) (marks row) (plain_neutral neutral.now)) (atomic_left (plain_ty ty.now))) result }
+    ensures outcome { Gives plain_left (and_then (inferred staying (plain_signature sig.now) (context ctx.old) (marks row) (plain_neutral neutral.now)) (atomic_left (plain_ty ty.now))) result }
     ensures marked { IfOk result (λ left. length (marks left.row) ≡ length (context ctx.old)) }
     ensures kept { OnOk result (ctx.new ≡ ctx.old) }
 {
@@ -95,7 +95,7 @@ fn check_left(
 ) -> Result<Left, Stop>
     requires marked { length (marks row.now) ≡ length (context ctx.old) }
     requires numbered { length (context ctx.old) < 2 ^ 32 }
-    ensures outcome { Gives plain_left (at_part 0 (checked (plain_signature sig.now) (context ctx.old) (marks row.now) (plain_obj obj.now) (plain_ty ty.now))) result }
+    ensures outcome { Gives plain_left (at_part 0 (checked staying (plain_signature sig.now) (context ctx.old) (marks row.now) (plain_obj obj.now) (plain_ty ty.now))) result }
     ensures marked { IfOk result (λ left. length (marks left.row) ≡ length (context ctx.old)) }
     ensures kept { OnOk result (ctx.new ≡ ctx.old) }
 {
@@ -118,7 +118,7 @@ fn check_right(
     requires marked { length (marks row) ≡ length (context ctx.old) }
     requires numbered { length (context ctx.old) < 2 ^ 32 }
     requires first_marked { length (marks first.row) ≡ length (context ctx.old) }
-    ensures outcome { Gives plain_left (and_then (at_part 1 (checked (plain_signature sig.now) (context ctx.old) (marks row) (plain_obj obj.now) (plain_ty ty.now))) (λ y. joined_left (context ctx.old) (plain_left first) y (newest_difference (modes (context ctx.old)) (marks first.row) first.slack y.0 y.1))) result }
+    ensures outcome { Gives plain_left (and_then (at_part 1 (checked staying (plain_signature sig.now) (context ctx.old) (marks row) (plain_obj obj.now) (plain_ty ty.now))) (λ y. joined_left (context ctx.old) (plain_left first) y (newest_difference (modes (context ctx.old)) (marks first.row) first.slack y.0 y.1))) result }
     ensures marked { IfOk result (λ left. length (marks left.row) ≡ length (context ctx.old)) }
     ensures kept { OnOk result (ctx.new ≡ ctx.old) }
 {
@@ -139,7 +139,7 @@ fn check_part(
 ) -> Result<Left, Stop>
     requires marked { length (marks row) ≡ length (context ctx.old) }
     requires numbered { length (context ctx.old) < 2 ^ 32 }
-    ensures outcome { Gives plain_left (at_part place (checked (plain_signature sig.now) (context ctx.old) (marks row) (plain_obj obj.now) (plain_ty ty.now))) result }
+    ensures outcome { Gives plain_left (at_part place (checked staying (plain_signature sig.now) (context ctx.old) (marks row) (plain_obj obj.now) (plain_ty ty.now))) result }
     ensures marked { IfOk result (λ left. length (marks left.row) ≡ length (context ctx.old)) }
     ensures kept { OnOk result (ctx.new ≡ ctx.old) }
 {
@@ -162,7 +162,7 @@ fn check_lambda(
 ) -> Result<Left, Stop>
     requires marked { length (marks row) ≡ length (context ctx.old) }
     requires numbered { length (context ctx.old) < 2 ^ 32 }
-    ensures outcome { Gives plain_left (lambda_left mode (context ctx.old) (plain_ty ty.now) (λ a c. checked (plain_signature sig.now) ((mode, a) ∷ context ctx.old) (true ∷ marks row) (plain_obj body.now) c)) result }
+    ensures outcome { Gives plain_left (lambda_left mode (context ctx.old) (plain_ty ty.now) (λ a c. checked staying (plain_signature sig.now) ((mode, a) ∷ context ctx.old) (true ∷ marks row) (plain_obj body.now) c)) result }
     ensures marked { IfOk result (λ left. length (marks left.row) ≡ length (context ctx.old)) }
     ensures kept { OnOk result (ctx.new ≡ ctx.old) }
 {
@@ -204,7 +204,7 @@ fn check_body(
 ) -> Result<Left, Stop>
     requires marked { length (marks row) ≡ length (context ctx.old) }
     requires numbered { length (context ctx.old) < 2 ^ 32 }
-    ensures outcome { Gives plain_left (and_then (at_part 0 (checked (plain_signature sig.now) ((mode, plain_ty dom.now) ∷ context ctx.old) (true ∷ marks row) (plain_obj body.now) (plain_ty cod.now))) (closed_scope mode (context ctx.old))) result }
+    ensures outcome { Gives plain_left (and_then (at_part 0 (checked staying (plain_signature sig.now) ((mode, plain_ty dom.now) ∷ context ctx.old) (true ∷ marks row) (plain_obj body.now) (plain_ty cod.now))) (closed_scope mode (context ctx.old))) result }
     ensures marked { IfOk result (λ left. length (marks left.row) ≡ length (context ctx.old)) }
     ensures kept { OnOk result (ctx.new ≡ ctx.old) }
 {
@@ -226,7 +226,7 @@ pub fn infer_neutral(
 ) -> Result<Inferred, Stop>
     requires marked { length (marks row) ≡ length (context ctx.old) }
     requires numbered { length (context ctx.old) < 2 ^ 32 }
-    ensures outcome { Gives plain_inferred (inferred (plain_signature sig.now) (context ctx.old) (marks row) (plain_neutral neutral.now)) result }
+    ensures outcome { Gives plain_inferred (inferred staying (plain_signature sig.now) (context ctx.old) (marks row) (plain_neutral neutral.now)) result }
     ensures marked { IfOk result (λ found. length (marks found.left.row) ≡ length (context ctx.old)) }
     ensures kept { OnOk result (ctx.new ≡ ctx.old) }
 {
@@ -246,7 +246,7 @@ fn infer_spine(
 ) -> Result<Inferred, Stop>
     requires marked { length (marks found.left.row) ≡ length (context ctx.old) }
     requires numbered { length (context ctx.old) < 2 ^ 32 }
-    ensures outcome { Gives plain_inferred (spine_left (plain_signature sig.now) (context ctx.old) 0 (map plain_elim spine.now) (plain_inferred found)) result }
+    ensures outcome { Gives plain_inferred (spine_left staying (plain_signature sig.now) (context ctx.old) 0 (map plain_elim spine.now) (plain_inferred found)) result }
     ensures marked { IfOk result (λ found. length (marks found.left.row) ≡ length (context ctx.old)) }
     ensures kept { OnOk result (ctx.new ≡ ctx.old) }
 {
@@ -272,7 +272,7 @@ fn eliminate(
 ) -> Result<Inferred, Stop>
     requires marked { length (marks found.left.row) ≡ length (context ctx.old) }
     requires numbered { length (context ctx.old) < 2 ^ 32 }
-    ensures outcome { Gives plain_inferred (elimination_left (plain_signature sig.now) (context ctx.old) place (plain_elim act.now) (plain_inferred found)) result }
+    ensures outcome { Gives plain_inferred (elimination_left staying (plain_signature sig.now) (context ctx.old) place (plain_elim act.now) (plain_inferred found)) result }
     ensures marked { IfOk result (λ found. length (marks found.left.row) ≡ length (context ctx.old)) }
     ensures kept { OnOk result (ctx.new ≡ ctx.old) }
 {
@@ -297,7 +297,7 @@ fn put_argument(
 ) -> Result<Inferred, Stop>
     requires marked { length (marks found.left.row) ≡ length (context ctx.old) }
     requires numbered { length (context ctx.old) < 2 ^ 32 }
-    ensures outcome { Gives plain_inferred (argument_left mode (context ctx.old) place (plain_inferred found) (λ row a. checked (plain_signature sig.now) (context ctx.old) row (plain_obj obj.now) a)) result }
+    ensures outcome { Gives plain_inferred (argument_left staying mode (context ctx.old) (plain_obj obj.now) place (plain_inferred found) (λ row a. checked staying (plain_signature sig.now) (context ctx.old) row (plain_obj obj.now) a)) result }
     ensures marked { IfOk result (λ found. length (marks found.left.row) ≡ length (context ctx.old)) }
     ensures kept { OnOk result (ctx.new ≡ ctx.old) }
 {
@@ -345,7 +345,7 @@ fn check_argument(
 ) -> Result<Left, Stop>
     requires marked { length (marks left.row) ≡ length (context ctx.old) }
     requires numbered { length (context ctx.old) < 2 ^ 32 }
-    ensures outcome { Gives plain_left (argument_used mode (context ctx.old) place (plain_left left) (λ row. checked (plain_signature sig.now) (context ctx.old) row (plain_obj obj.now) (plain_ty ty.now))) result }
+    ensures outcome { Gives plain_left (argument_used mode (context ctx.old) place (plain_left left) (λ row. checked staying (plain_signature sig.now) (context ctx.old) row (plain_obj obj.now) (plain_ty ty.now))) result }
     ensures marked { IfOk result (λ left. length (marks left.row) ≡ length (context ctx.old)) }
     ensures kept { OnOk result (ctx.new ≡ ctx.old) }
 {
@@ -370,7 +370,7 @@ fn check_persistent(
 ) -> Result<Left, Stop>
     requires marked { length (marks left.row) ≡ length (context ctx.old) }
     requires numbered { length (context ctx.old) < 2 ^ 32 }
-    ensures outcome { Gives plain_left (argument_used Persistent (context ctx.old) place (plain_left left) (λ row. checked (plain_signature sig.now) (context ctx.old) row (plain_obj obj.now) (plain_ty ty.now))) result }
+    ensures outcome { Gives plain_left (argument_used Persistent (context ctx.old) place (plain_left left) (λ row. checked staying (plain_signature sig.now) (context ctx.old) row (plain_obj obj.now) (plain_ty ty.now))) result }
     ensures marked { IfOk result (λ left. length (marks left.row) ≡ length (context ctx.old)) }
     ensures kept { OnOk result (ctx.new ≡ ctx.old) }
 {
@@ -393,7 +393,7 @@ fn check_affine(
 ) -> Result<Left, Stop>
     requires marked { length (marks left.row) ≡ length (context ctx.old) }
     requires numbered { length (context ctx.old) < 2 ^ 32 }
-    ensures outcome { Gives plain_left (argument_used Affine (context ctx.old) place (plain_left left) (λ row. checked (plain_signature sig.now) (context ctx.old) row (plain_obj obj.now) (plain_ty ty.now))) result }
+    ensures outcome { Gives plain_left (argument_used Affine (context ctx.old) place (plain_left left) (λ row. checked staying (plain_signature sig.now) (context ctx.old) row (plain_obj obj.now) (plain_ty ty.now))) result }
     ensures marked { IfOk result (λ left. length (marks left.row) ≡ length (context ctx.old)) }
     ensures kept { OnOk result (ctx.new ≡ ctx.old) }
 {
@@ -418,7 +418,7 @@ fn check_without_linear(
 ) -> Result<Left, Stop>
     requires marked { length (marks row.now) ≡ length (context ctx.old) }
     requires numbered { length (context ctx.old) < 2 ^ 32 }
-    ensures outcome { Gives plain_left (at_part place (checked (plain_signature sig.now) (context ctx.old) (allowed Affine (modes (context ctx.old)) (marks row.now)) (plain_obj obj.now) (plain_ty ty.now))) result }
+    ensures outcome { Gives plain_left (at_part place (checked staying (plain_signature sig.now) (context ctx.old) (allowed Affine (modes (context ctx.old)) (marks row.now)) (plain_obj obj.now) (plain_ty ty.now))) result }
     ensures marked { IfOk result (λ left. length (marks left.row) ≡ length (context ctx.old)) }
     ensures kept { OnOk result (ctx.new ≡ ctx.old) }
 {
@@ -440,7 +440,7 @@ fn check_linear(
 ) -> Result<Left, Stop>
     requires marked { length (marks left.row) ≡ length (context ctx.old) }
     requires numbered { length (context ctx.old) < 2 ^ 32 }
-    ensures outcome { Gives plain_left (argument_used Linear (context ctx.old) place (plain_left left) (λ row. checked (plain_signature sig.now) (context ctx.old) row (plain_obj obj.now) (plain_ty ty.now))) result }
+    ensures outcome { Gives plain_left (argument_used Linear (context ctx.old) place (plain_left left) (λ row. checked staying (plain_signature sig.now) (context ctx.old) row (plain_obj obj.now) (plain_ty ty.now))) result }
     ensures marked { IfOk result (λ left. length (marks left.row) ≡ length (context ctx.old)) }
     ensures kept { OnOk result (ctx.new ≡ ctx.old) }
 {

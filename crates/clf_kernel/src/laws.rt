@@ -1,10 +1,10 @@
 //! Laws of the rules, each stated by a function that does nothing.
-ghost use Rattle.clf_kernel.specs.Laws.{AnyContext, BareFamilies, EachFollows, EntriesWellFormed, EntryRefusalIsOne, Extended, InferredIsOne, LeftoverIsOne, LongerSignatures, MentionsNothingUnheld, NamesDiffer, NeutralRefusalIsOne, RefusalIsOne, RefusedIsExplained, SlackIsIdle, SynthesizedInReach, WellFormedIsClean};
+ghost use Rattle.clf_kernel.specs.Laws.{AnyContext, FamiliesWithoutArguments, EachFollows, EntriesWellFormed, EntryRefusalIsOne, Extended, InferredIsOne, LeftoverIsOne, LongerSignatures, MentionsNothingUnheld, NamesDiffer, NeutralRefusalIsOne, RefusalIsOne, RefusedIsExplained, SlackIsIdle, SynthesizedInReach, WellFormedIsClean};
 
 /// Families without arguments are well formed where the signature has them so, and types without indices are so in every context.
 #[tactic(auto, using(crate::proofs::Signatures::signature_laws))]
 pub fn well_formed_types()
-    ensures families { BareFamilies }
+    ensures families { FamiliesWithoutArguments }
     ensures context { AnyContext }
 {}
 

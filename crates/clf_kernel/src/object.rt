@@ -6,7 +6,7 @@ ghost use Rattle.clf_sig.specs.Signature.{plain_signature};
 ghost use Rattle.use_contexts.specs.Marks.{context, marks};
 ghost use Rattle.clf_kernel.specs.Reach.{ObjectInReach, NeutralInReach};
 ghost use Rattle.clf_kernel.specs.Exact.{ChecksObject, InfersNeutral};
-ghost use Rattle.clf_kernel.specs.Checking.{checked, inferred};
+ghost use Rattle.clf_kernel.specs.Checking.{staying, checked, inferred};
 ghost use Rattle.clf_kernel.specs.Answers.{plain_left, plain_inferred};
 ghost use Rattle.clf_kernel.specs.Stops.{Gives};
 
@@ -72,7 +72,7 @@ fn check_in_copy(
     ty: &Ty,
 ) -> Result<Left, Stop>
     requires { length (marks holding.now) ≡ length (context ctx.now) }
-    ensures { Gives plain_left (checked (plain_signature sig.now) (context ctx.now) (marks holding.now) (plain_obj obj.now) (plain_ty ty.now)) result }
+    ensures { Gives plain_left (checked staying (plain_signature sig.now) (context ctx.now) (marks holding.now) (plain_obj obj.now) (plain_ty ty.now)) result }
 {
     if ctx.len() > u32::MAX as usize {
         return Err(too_far(alloc));
@@ -92,7 +92,7 @@ fn infer_in_copy(
     neutral: &Neutral,
 ) -> Result<Inferred, Stop>
     requires { length (marks holding.now) ≡ length (context ctx.now) }
-    ensures { Gives plain_inferred (inferred (plain_signature sig.now) (context ctx.now) (marks holding.now) (plain_neutral neutral.now)) result }
+    ensures { Gives plain_inferred (inferred staying (plain_signature sig.now) (context ctx.now) (marks holding.now) (plain_neutral neutral.now)) result }
 {
     if ctx.len() > u32::MAX as usize {
         return Err(too_far(alloc));
