@@ -11,16 +11,16 @@ use Rattle.clf_kernel.specs.Typing.{HasType}
 use Rattle.clf_kernel.specs.Reach.{ObjectInReach}
 use Rattle.clf_kernel.specs.Refusal.{Cause}
 use Rattle.clf_kernel.specs.Outcome.{Outcome, passed, refused, answer_of}
-use Rattle.clf_kernel.specs.Checking.{checked}
+use Rattle.clf_kernel.specs.Checking.{staying, checked}
 use Rattle.clf_kernel.specs.Explained.{ExplainedAt}
 use Rattle.clf_kernel.proofs.Agreement.{checks_exactly}
 use Rattle.clf_kernel.proofs.FirstRefusals.{refuses_exactly}
 use Rattle.typing_laws.specs.Types.{IsDecided}
 
-by_outcome : (sig : PlainSignature) (g : Context) (h : Holding) (n : PlainObject) (t : PlainType) → ObjectInReach sig g h n t → (o : Outcome Leftover) → checked sig g h n t ≡ o
+by_outcome : (sig : PlainSignature) (g : Context) (h : Holding) (n : PlainObject) (t : PlainType) → ObjectInReach sig g h n t → (o : Outcome Leftover) → checked staying sig g h n t ≡ o
     → ((a : Leftover) × Agrees (modes g) h (Some a) (λ p. HasType sig g p n t)) ⊎ ((path : List ℕ) × (why : Cause) × ExplainedAt sig g h n t path why)
 by_outcome sig g h n t w (passed a) e = inl (a, subst (λ o. Agrees (modes g) h (answer_of o) (λ p. HasType sig g p n t)) e (checks_exactly sig g h n t w))
 by_outcome sig g h n t w (refused path why) e = inr (path, why, (refuses_exactly sig g h n t path why w).0 e)
 
 pub is_decided : IsDecided
-is_decided sig g h n t w = by_outcome sig g h n t w (checked sig g h n t) refl
+is_decided sig g h n t w = by_outcome sig g h n t w (checked staying sig g h n t) refl
