@@ -8,6 +8,7 @@ use Rattle.celf_surface.specs.declared.surface.Bound.TheVariants.{Number, Star}
 use Rattle.celf_surface.specs.declared.surface.Span.{Span}
 use Rattle.celf_surface.specs.Surface.{WrittenObject, lam, app, named, hole, unit, pair, braces, first, second, WrittenArguments, no_arguments, argument, WrittenSteps, no_steps, step, WrittenTuple, tuple_one, tuple_list, tuple_marked, tuple_bare, WrittenTuples, no_tuples, tuples_and, WrittenType, pi, exists, arrow, tensor, marked, both, type_word, family, top, one, braced, WrittenBody, declare, query, trace, equal, check, WrittenItem}
 use Rattle.celf_sugar.specs.declared.fault.SugarFault.{SugarFault}
+use Rattle.celf_sugar.specs.declared.limits.TheConstants.{MOST_STEPS, MOST_ATTEMPTS, MOST_IMPLICIT}
 use Rattle.celf_sugar.specs.declared.fault.SugarFault.TheVariants.{KindPlace, NotAsync, Redex, OutOfRange, BadImplicit, NoMemory}
 use Rattle.celf_sugar.specs.PlainTree as plain
 use Rattle.celf_sugar.specs.Sugar.{reading}
@@ -134,7 +135,7 @@ too_many (Some Star) t = []
 
 abbrev pub implicit_outside : Option Bound → List Span
 implicit_outside None = []
-implicit_outside (Some n) = outside 0 (2 ^ 32 - 1) n
+implicit_outside (Some n) = outside 0 MOST_IMPLICIT n
 
 -- the misplaced words `type` of an item
 abbrev pub kind_places_of : WrittenBody → List Span
@@ -163,8 +164,8 @@ redexes_of (check o t) = redexes o ++ type_redexes t
 -- the numbers of an item that are outside their ranges
 abbrev pub out_of_range_of : WrittenBody → List Span
 out_of_range_of (declare n i t) = implicit_outside i
-out_of_range_of (query d e l a t) = outside 0 100000 d ++ (outside 0 100000 e ++ (outside 0 100000 l ++ outside 1 1000 a))
-out_of_range_of (trace n t) = outside 0 100000 n
+out_of_range_of (query d e l a t) = outside 0 MOST_STEPS d ++ (outside 0 MOST_STEPS e ++ (outside 0 MOST_STEPS l ++ outside 1 MOST_ATTEMPTS a))
+out_of_range_of (trace n t) = outside 0 MOST_STEPS n
 out_of_range_of (equal l r t) = []
 out_of_range_of (check o t) = []
 

@@ -5,7 +5,8 @@ use std::alloc::AllocError;
 /// Why an item has no plain form. Each span is that of the part at fault.
 #[derive(Debug, Drop)]
 pub enum SugarFault {
-    /// The word `type` stands elsewhere than at the end of a declaration's kind, or that kind has an arrow other than `->`, `<-` and `Pi`.
+    /// The word `type` stands elsewhere than at the end of a declaration's kind, or that kind has an arrow other than `->`,
+    /// `<-` and `Pi`.
     KindPlace(Span),
     /// A synchronous type stands where none may.
     NotAsync(Span),

@@ -18,7 +18,8 @@ use std::alloc::Global;
 
 /// The item without its sugar.
 ///
-/// Where it has faults, it answers the one with the least start, and at equal starts the first in the order of `SugarFault`; of two synchronous types that start at one byte the outer one.
+/// Where it has faults, it answers the one with the least start, and at equal starts the first in the order of `SugarFault`;
+/// of two synchronous types that start at one byte the outer one.
 /// `NoMemory` comes only where memory runs out.
 #[tactic(auto, using(crate::proofs::AnswerLaws::answer_laws))]
 pub fn desugar(alloc: Global, item: &Item) -> Result<Plain, SugarFault>
@@ -119,9 +120,12 @@ fn trace(alloc: Global, n: Bound, ty: &SType) -> Result<PlainBody, SugarFault>
 /// `#equal left = right : ty.`
 #[tactic(auto, using(crate::proofs::AnswerLaws::answer_laws))]
 fn equal(alloc: Global, left: &SObj, right: &SObj, ty: &SType) -> Result<PlainBody, SugarFault>
-    ensures plain { IfOk result (λ b. body_of b ≡ plain_body (equal_of (object_tree left.now) (object_tree right.now) (surface ty.now))) }
-    ensures clean { OnOk result (first_of (equal_of (object_tree left.now) (object_tree right.now) (surface ty.now)) ≡ None) }
-    ensures fault { IfErr result (λ f. IsFirst f (first_of (equal_of (object_tree left.now) (object_tree right.now) (surface ty.now)))) }
+    ensures plain { IfOk result (λ b. body_of b
+        ≡ plain_body (equal_of (object_tree left.now) (object_tree right.now) (surface ty.now))) }
+    ensures clean { OnOk result
+        (first_of (equal_of (object_tree left.now) (object_tree right.now) (surface ty.now)) ≡ None) }
+    ensures fault { IfErr result (λ f.
+        IsFirst f (first_of (equal_of (object_tree left.now) (object_tree right.now) (surface ty.now)))) }
 {
     if let Some(fault) = equal_fault(left, right, ty) {
         return Err(fault);

@@ -11,6 +11,7 @@ use crate::fault::SugarFault;
 use crate::first::{Found, first};
 use crate::kind_place::kind_place;
 use crate::leading::class_leading;
+use crate::limits::{MOST_ATTEMPTS, MOST_STEPS};
 use crate::not_async::not_async;
 use crate::number::{implicit_outside, outside, too_many};
 use crate::plain::PClass;
@@ -46,12 +47,13 @@ pub fn query_fault(d: Bound, e: Bound, l: Bound, a: Bound, ty: &SType) -> Option
 
 #[tactic(auto, using(crate::proofs::EarliestLaws::earliest_laws))]
 fn query_range(d: Bound, e: Bound, l: Bound, a: Bound) -> Option<Span>
-    ensures { result ≡ earliest start (outside_of 0 100000 d ++ (outside_of 0 100000 e ++ (outside_of 0 100000 l ++ outside_of 1 1000 a))) }
+    ensures { result ≡ earliest start (outside_of 0 MOST_STEPS d ++ (outside_of 0 MOST_STEPS e
+        ++ (outside_of 0 MOST_STEPS l ++ outside_of 1 MOST_ATTEMPTS a))) }
 {
-    let limits = sooner(outside(0, 100_000, l), outside(1, 1_000, a));
+    let limits = sooner(outside(0, MOST_STEPS, l), outside(1, MOST_ATTEMPTS, a));
     sooner(
-        outside(0, 100_000, d),
-        sooner(outside(0, 100_000, e), limits),
+        outside(0, MOST_STEPS, d),
+        sooner(outside(0, MOST_STEPS, e), limits),
     )
 }
 
@@ -63,7 +65,7 @@ pub fn trace_fault(n: Bound, ty: &SType) -> Option<SugarFault>
         kind_place: kind_place(ty, false),
         not_async: not_async(ty, true),
         redex: type_redex(ty),
-        out_of_range: outside(0, 100_000, n),
+        out_of_range: outside(0, MOST_STEPS, n),
         bad_implicit: None,
     })
 }
@@ -82,7 +84,8 @@ pub fn equal_fault(left: &SObj, right: &SObj, ty: &SType) -> Option<SugarFault>
 }
 
 fn equal_redex(left: &SObj, right: &SObj, ty: &SType) -> Option<Span>
-    ensures { result ≡ earliest start (redexes (object_tree left.now) ++ (redexes (object_tree right.now) ++ type_redexes (surface ty.now))) }
+    ensures { result ≡ earliest start (redexes (object_tree left.now)
+        ++ (redexes (object_tree right.now) ++ type_redexes (surface ty.now))) }
 {
     sooner(redex(left), sooner(redex(right), type_redex(ty)))
 }

@@ -8,6 +8,7 @@ mod item;
 mod item_fault;
 mod kind_place;
 mod leading;
+mod limits;
 mod not_async;
 mod number;
 mod object;

@@ -5,6 +5,7 @@ ghost use Rattle.celf_sugar.specs.Earliest.{earliest};
 ghost use Rattle.celf_sugar.specs.Faults.{start, outside as outside_of, leading as leading_of, too_many as too_many_of, implicit_outside as implicit_outside_of};
 ghost use Rattle.celf_sugar.specs.Sugar.{number as number_of, implicit as implicit_of, reading};
 
+use crate::limits::MOST_IMPLICIT;
 use celf_surface::{Bound, Span};
 
 /// The span of a number below `low` or above `high`.
@@ -23,19 +24,21 @@ pub fn outside(low: u64, high: u64, bound: Bound) -> Option<Span>
     }
 }
 
-/// The span of a number of implicit arguments past 4,294,967,295.
+/// The span of a number of implicit arguments past `MOST_IMPLICIT`.
 pub fn implicit_outside(implicit: Option<Bound>) -> Option<Span>
     ensures { result ≡ earliest start (implicit_outside_of implicit) }
 {
     match implicit {
         None => None,
-        Some(bound) => outside(0, 4_294_967_295, bound),
+        Some(bound) => outside(0, MOST_IMPLICIT, bound),
     }
 }
 
-/// The span of a number of implicit arguments greater than `leading`, the number of persistent functions or arguments that the type or kind begins with.
+/// The span of a number of implicit arguments greater than `leading`, the number of persistent functions or arguments that
+/// the type or kind begins with.
 pub fn too_many(implicit: Option<Bound>, leading: u64) -> Option<Span>
-    ensures { (t : WrittenType) → min (leading_of (reading t).as_type) (2 ^ 64 - 1) ≡ leading → result ≡ earliest start (too_many_of implicit t) }
+    ensures { (t : WrittenType) → min (leading_of (reading t).as_type) (2 ^ 64 - 1) ≡ leading
+        → result ≡ earliest start (too_many_of implicit t) }
 {
     match implicit {
         None | Some(Bound::Star) => None,

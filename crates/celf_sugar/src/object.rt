@@ -161,7 +161,8 @@ fn argument(alloc: Global, arg: &SArg) -> Result<PElim, AllocError>
 #[cycle(object)]
 #[tactic(auto, using(crate::specs::Plain::expression_laws, crate::specs::SugarLists::sugar_laws))]
 fn expression(alloc: Global, expr: &SExpr) -> Result<PExpr, AllocError>
-    ensures { IfOk result (λ e. desugared_expression e ≡ (steps_of (expression_tree expr.now).0, tuple_of (entries_of_tuple (expression_tree expr.now).1))) }
+    ensures { IfOk result (λ e. desugared_expression e
+        ≡ (steps_of (expression_tree expr.now).0, tuple_of (entries_of_tuple (expression_tree expr.now).1))) }
 {
     let steps = steps(alloc, expr.steps.as_slice())?;
     Ok(PExpr {

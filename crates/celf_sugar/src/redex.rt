@@ -66,7 +66,8 @@ fn redex_in_argument(arg: &SArg) -> Option<Span>
 #[cycle(redex)]
 #[tactic(auto, using(celf_surface::specs::Surface::surface_laws, crate::proofs::EarliestLaws::earliest_laws, crate::specs::FaultLists::listed_laws))]
 fn redex_in_expression(expr: &SExpr) -> Option<Span>
-    ensures { result ≡ sooner_of start (earliest start (step_redexes (expression_tree expr.now).0)) (earliest start (tuple_redexes (expression_tree expr.now).1)) }
+    ensures { result ≡ sooner_of start (earliest start (step_redexes (expression_tree expr.now).0))
+        (earliest start (tuple_redexes (expression_tree expr.now).1)) }
 {
     sooner(
         redex_in_steps(expr.steps.as_slice()),

@@ -87,7 +87,8 @@ fn pi_type(
     name: &Name,
     dom: Boxed<PTy>,
 ) -> Result<PTy, AllocError>
-    ensures { IfOk result (λ t. desugared_type t ≡ function span Persistent (Some name.now) (desugared_type dom) (reading (surface cod.now)).as_type) }
+    ensures { IfOk result (λ t. desugared_type t
+        ≡ function span Persistent (Some name.now) (desugared_type dom) (reading (surface cod.now)).as_type) }
 {
     let cod = boxed_type(alloc, cod)?;
     let name = name.copy(alloc)?;
@@ -103,7 +104,8 @@ fn arrow_type(
     mode: Mode,
     dom: Boxed<PTy>,
 ) -> Result<PTy, AllocError>
-    ensures { IfOk result (λ t. desugared_type t ≡ function span mode None (desugared_type dom) (reading (surface cod.now)).as_type) }
+    ensures { IfOk result (λ t. desugared_type t
+        ≡ function span mode None (desugared_type dom) (reading (surface cod.now)).as_type) }
 {
     let cod = boxed_type(alloc, cod)?;
     Ok(function_type(span, mode, None, dom, cod))
@@ -117,7 +119,8 @@ fn lolli_type(
     span: Span,
     doms: Items<PEntry>,
 ) -> Result<PTy, AllocError>
-    ensures { IfOk result (λ t. desugared_type t ≡ functions_of span (map desugared_entry doms) (reading (surface cod.now)).as_type) }
+    ensures { IfOk result (λ t. desugared_type t
+        ≡ functions_of span (map desugared_entry doms) (reading (surface cod.now)).as_type) }
 {
     let cod = boxed_type(alloc, cod)?;
     functions(alloc, span, doms, cod)
@@ -126,7 +129,8 @@ fn lolli_type(
 /// A type, given the left one of the two that it is both of.
 #[cycle(types)]
 fn with_type(alloc: Global, right: &SType, span: Span, left: Boxed<PTy>) -> Result<PTy, AllocError>
-    ensures { IfOk result (λ t. desugared_type t ≡ both span (desugared_type left) (reading (surface right.now)).as_type) }
+    ensures { IfOk result (λ t. desugared_type t
+        ≡ both span (desugared_type left) (reading (surface right.now)).as_type) }
 {
     let right = boxed_type(alloc, right)?;
     Ok(both_type(span, left, right))
@@ -174,7 +178,8 @@ fn entries_behind(
     name: Name,
     dom: PTy,
 ) -> Result<Items<PEntry>, AllocError>
-    ensures { IfOk result (λ es. map desugared_entry es ≡ (Persistent, Some name, desugared_type dom) ∷ (reading (surface rest.now)).as_entries) }
+    ensures { IfOk result (λ es. map desugared_entry es
+        ≡ (Persistent, Some name, desugared_type dom) ∷ (reading (surface rest.now)).as_entries) }
 {
     let bound = bound_entry(alloc, name, dom)?;
     joined(bound, entries(alloc, rest)?)
@@ -188,7 +193,8 @@ fn entries_of_factors(
     factors: &SType,
     first: Items<PEntry>,
 ) -> Result<Items<PEntry>, AllocError>
-    ensures { IfOk result (λ es. map desugared_entry es ≡ map desugared_entry first ++ (reading (surface factors.now)).as_entries) }
+    ensures { IfOk result (λ es. map desugared_entry es
+        ≡ map desugared_entry first ++ (reading (surface factors.now)).as_entries) }
 {
     let mut found = first;
     let mut rest = factors;
@@ -267,7 +273,8 @@ fn family_type(
     at: Span,
     indices: &[SObj],
 ) -> Result<PTy, AllocError>
-    ensures { IfOk result (λ t. desugared_type t ≡ family span (record { name = name.now; dollar = dollar; span = at }) (map object_of (map object_tree indices.now))) }
+    ensures { IfOk result (λ t. desugared_type t
+        ≡ family span (record { name = name.now; dollar = dollar; span = at }) (map object_of (map object_tree indices.now))) }
 {
     let head = PName {
         name: name.copy(alloc)?,
@@ -324,7 +331,8 @@ fn function_of_entry(
     entry: PEntry,
     cod: Boxed<PTy>,
 ) -> Result<Boxed<PTy>, AllocError>
-    ensures { IfOk result (λ t. desugared_type t ≡ function span (desugared_entry entry).0 (desugared_entry entry).1 (desugared_entry entry).2 (desugared_type cod)) }
+    ensures { IfOk result (λ t. desugared_type t ≡ function span
+        (desugared_entry entry).0 (desugared_entry entry).1 (desugared_entry entry).2 (desugared_type cod)) }
 {
     let PEntry { mode, name, ty } = entry;
     let dom = Boxed::new(alloc, ty)?;
@@ -418,7 +426,8 @@ fn arguments_behind(
     name: Option<Name>,
     dom: &SType,
 ) -> Result<Items<PEntry>, AllocError>
-    ensures { IfOk result (λ es. map desugared_entry es ≡ (Persistent, name, (reading (surface dom.now)).as_type) ∷ kind_arguments_of (surface rest.now)) }
+    ensures { IfOk result (λ es. map desugared_entry es
+        ≡ (Persistent, name, (reading (surface dom.now)).as_type) ∷ kind_arguments_of (surface rest.now)) }
 {
     let dom = plain_type_of(alloc, dom)?;
     let argument = one_entry(alloc, Mode::Persistent, name, dom)?;
