@@ -5,3 +5,5 @@ pub mod OccursLaws
 pub mod Renamings
 pub mod Spines
 pub mod Next
+pub mod Renumbered
+pub mod Parts

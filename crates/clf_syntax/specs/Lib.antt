@@ -4,7 +4,10 @@ pub mod Plain
 pub mod PlainTypes
 pub mod Word
 pub mod Renaming
+pub mod Renamings
+pub mod Written
 pub mod Shift
+pub mod Renumbered
 pub mod Occurs
 pub mod Spines
 pub mod PlainSimple

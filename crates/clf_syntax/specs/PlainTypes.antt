@@ -3,7 +3,7 @@ use Rattle.std.specs.Prelude.{ℕ, List, map, ◌≡◌}
 use Rattle.clf_syntax.specs.declared.tree.Mode.{Mode}
 use Rattle.clf_syntax.specs.declared.tree.Obj.{Obj}
 use Rattle.clf_syntax.specs.declared.tree.Ty.{Ty, Fam, Fun, With, Top, Monad, fold-Ty, fold-roll-Ty}
-use Rattle.clf_syntax.specs.declared.tree.Tele.{Tele, fold-Tele, fold_out-Tele, out-Tele}
+use Rattle.clf_syntax.specs.declared.tree.Tele.{Tele, roll-Tele, fold-Tele, fold-roll-Tele, fold_out-Tele, out-Tele}
 use Rattle.clf_syntax.specs.declared.tree.TeleEntry.{TeleEntry, fold-TeleEntry, fold_out-TeleEntry, out-TeleEntry}
 use Rattle.clf_syntax.specs.declared.tree.Kind.{Kind}
 use Rattle.clf_syntax.specs.declared.tree.Ty.TheOpen as layer
@@ -60,6 +60,10 @@ plain-Monad s = fold-roll-Ty _ _ _ on_ty on_tele on_tele_entry (layer.Monad s)
 pub plain-tele : (s : Tele) → plain_tele s ≡ telescope_of (map plain_tele_entry (out-Tele s).entries)
 unfolding plain_ty plain_tele plain_tele_entry
 plain-tele s = fold_out-Tele _ _ _ on_ty on_tele on_tele_entry s
+
+pub plain-Tele : (entries : List TeleEntry) → plain_tele (roll-Tele (record { entries = entries })) ≡ telescope_of (map plain_tele_entry entries)
+unfolding plain_ty plain_tele plain_tele_entry
+plain-Tele entries = fold-roll-Tele _ _ _ on_ty on_tele on_tele_entry (record { entries = entries })
 
 pub plain-tele-entry : (e : TeleEntry) → plain_tele_entry e ≡ ((out-TeleEntry e).mode, plain_ty (out-TeleEntry e).ty)
 unfolding plain_ty plain_tele plain_tele_entry

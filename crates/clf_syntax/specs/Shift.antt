@@ -1,9 +1,9 @@
 -- Shift: every free variable from a number on rises by the same amount.
-use Rattle.std.specs.Prelude.{ℕ, ◌+◌, nat_le, if◌then◌else◌, map, length}
+use Rattle.std.specs.Prelude.{ℕ, ◌+◌, nat_le, if◌then◌else◌, [], ◌∷◌, map, length}
 use Rattle.clf_syntax.specs.declared.tree.Head.{Head}
 use Rattle.clf_syntax.specs.declared.tree.Head.TheVariants.{Const, Var, Meta}
 use Rattle.clf_syntax.specs.Tree.{PlainObject, lam, pair, unit, monadic, atomic, hole, PlainNeutral, head_alone, app, fst, snd, PlainExpression, step, done, PlainTuple, empty, entry}
-use Rattle.clf_syntax.specs.TypeTree.{PlainType, family, function, both, top, monad, PlainTelescope, end, binding}
+use Rattle.clf_syntax.specs.TypeTree.{PlainType, family, function, both, top, monad, PlainTelescope, end, binding, PlainKind}
 
 abbrev pub shift_head : ℕ → ℕ → Head → Head
 shift_head by from (Const c) = Const c
@@ -44,3 +44,7 @@ abbrev mutual
   pub shift_telescope : ℕ → ℕ → PlainTelescope → PlainTelescope
   shift_telescope by from end = end
   shift_telescope by from (binding m a s) = binding m (shift_type by from a) (shift_telescope by (from + 1) s)
+
+abbrev pub shift_kind : ℕ → ℕ → PlainKind → PlainKind
+shift_kind by from [] = []
+shift_kind by from (a ∷ k) = shift_type by from a ∷ shift_kind by (from + 1) k

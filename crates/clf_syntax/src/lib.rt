@@ -4,21 +4,25 @@
 mod copy;
 mod erasure;
 mod fault;
+mod identity;
 mod laws;
 mod modes;
 mod name;
 mod number;
 mod occurs;
+mod rename;
 mod tree;
 mod types;
 mod word;
 
 pub use erasure::erase;
 pub use fault::{Or, OrWide, TooFar, Want, Wide};
+pub use identity::same;
 pub use laws::renaming;
 pub use modes::Modes;
 pub use name::Name;
 pub use occurs::{occurs_in_arguments, occurs_in_entries};
+pub use rename::{Renaming, deeper};
 pub use tree::{
     Elim, Expr, Head, Kind, Mode, Neutral, Obj, Simple, SimpleEntry, Step, Tele, TeleEntry,
     TupleEntry, Ty,
