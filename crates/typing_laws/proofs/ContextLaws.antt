@@ -20,7 +20,7 @@ pub constants_closed : (sig : PlainSignature) → WellFormedSignature sig → (r
 constants_closed sig w r c a e = fixed_type sig [] r (λ i l. absurd (omega arith)) a ((entries_well_formed sig w).1 c a e)
 
 -- ---- a new entry
-raise_all : (by : ℕ) → raise by 0 ≡ up by
+pub raise_all : (by : ℕ) → raise by 0 ≡ up by
 raise_all by = ext (at_number by)
   where
     at_number : (by i : ℕ) → raise by 0 i ≡ up by i
@@ -60,7 +60,7 @@ newest m b g = record {
   uses = λ h i l p. subst (λ j. Uses (m ∷ modes g) (is_persistent m ∷ h) j) (sym (add-one i)) (p.0, both_true (not (is_linear m && is_persistent m)) (is_weak (modes g) (without i h)) (idle m) p.1);
 }
 
-same_past : (k : ℕ) (x : Bool) → past (with_mark k x) ≡ with_mark (suc k) x
+pub same_past : (k : ℕ) (x : Bool) → past (with_mark k x) ≡ with_mark (suc k) x
 same_past k x = ext at_holding
   where
     at_holding : (h : Holding) → past (with_mark k x) h ≡ with_mark (suc k) x h

@@ -10,3 +10,5 @@ pub mod Lost
 pub mod Fixed
 pub mod Carried
 pub mod ContextLaws
+pub mod Swapped
+pub mod Returned

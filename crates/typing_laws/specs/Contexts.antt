@@ -56,7 +56,7 @@ ContextWeakening = (sig : PlainSignature) (g : Context) (h : Holding) (k : ℕ) 
 
 -- Strengthening: an entry that nothing mentions may go, if it is persistent or not held.
 abbrev pub ContextStrengthening : Type 0
-ContextStrengthening = (sig : PlainSignature) (g : Context) (h : Holding) (k : ℕ) (m : Mode) (b : PlainType) → WellFormedSignature sig → length h ≡ length g → k ≤ length g
+ContextStrengthening = (sig : PlainSignature) (g : Context) (h : Holding) (k : ℕ) (m : Mode) (b : PlainType) → WellFormedSignature sig → k ≤ length g
     → AreBroughtBack sig (raise 1 k) g (with_entry k (m, b) g) h (with_mark k (is_persistent m) h)
 
 -- Exchange: two neighbouring entries, of which the newer one does not mention the older one, change places.

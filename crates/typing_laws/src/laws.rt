@@ -1,6 +1,6 @@
 //! Laws of the rules, each stated by a function that does nothing.
 ghost use Rattle.typing_laws.specs.Congruence.{JoinedIsCongruence, JoinedIsEquivalenceOnEachSort};
-ghost use Rattle.typing_laws.specs.Contexts.{ContextWeakening};
+ghost use Rattle.typing_laws.specs.Contexts.{ContextExchange, ContextStrengthening, ContextWeakening};
 ghost use Rattle.typing_laws.specs.Held.{AffineWeakening, MentionsHeldAlone};
 ghost use Rattle.typing_laws.specs.LostTypes.{ExchangeLosesTypes};
 ghost use Rattle.typing_laws.specs.SimpleTyping.{SynthesizedIsSimplyFormed, TypedIsSimplyTyped, WellFormedIsSimplyFormed};
@@ -35,6 +35,16 @@ pub fn used()
 pub fn weakening()
     ensures affine { AffineWeakening }
     ensures context { ContextWeakening }
+{}
+
+/// What is typed stays typed where two neighbouring entries of a context change places.
+pub fn exchange()
+    ensures { ContextExchange }
+{}
+
+/// What is typed stays typed without an entry of the context that nothing mentions, if it is persistent or not held.
+pub fn strengthening()
+    ensures { ContextStrengthening }
 {}
 
 /// A split commutes and associates, and the persistent entries alone take nothing.

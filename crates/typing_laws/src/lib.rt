@@ -4,5 +4,5 @@
 mod laws;
 
 pub use laws::{
-    congruence, decided, lost_types, mentions, one_type, simple_typing, splits, used, weakening,
+    congruence, decided, exchange, lost_types, mentions, one_type, simple_typing, splits, strengthening, used, weakening,
 };
