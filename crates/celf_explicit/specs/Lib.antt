@@ -9,3 +9,4 @@ pub mod Reading
 pub mod ReadingLists
 pub mod Locals
 pub mod Entries
+pub mod Explicit

@@ -3,6 +3,8 @@
 
 mod earliest;
 mod entry;
+mod item;
+mod laws;
 mod locals;
 mod meaning;
 mod place;
@@ -11,5 +13,7 @@ mod scope;
 mod unknown;
 
 pub use entry::read_entry;
+pub use item::{UnknownName, explicit};
+pub use laws::known_where_read;
 pub use read::{read_check, read_type};
 pub use unknown::first_unknown;

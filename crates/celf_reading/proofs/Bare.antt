@@ -10,7 +10,7 @@ use Rattle.celf_explicit.specs.Names.{family_only, family_named}
 use Rattle.celf_explicit.specs.Reading.{read_type}
 use Rattle.celf_explicit.specs.Entries.{read_class, fresh_entry, read_entry}
 use Rattle.celf_reading.specs.Bare.{IsBareType, IsBareClass, IsBareEntry, AreBare, IsBareSignature}
-use Rattle.celf_reading.proofs.Options.{option_map-some, option_and_then-some, combined-some}
+use Rattle.celf_explicit.proofs.Options.{option_map-some, option_and_then-some, combined-some}
 use Rattle.celf_lexer.proofs.Signs.{same_bytes-refl}
 use Rattle.celf_reading.proofs.Places.{place_of-behind}
 

@@ -1,4 +1,3 @@
-pub mod Options
 pub mod Places
 pub mod Bare
 pub mod WellFormed

@@ -13,7 +13,7 @@ use Rattle.clf_printer.specs.Text.{variable_text}
 use Rattle.celf_explicit.specs.Names.{constant_named}
 use Rattle.celf_explicit.specs.Reading.{Local, Typed, has_name, local_from, constant_head, head}
 use Rattle.celf_reading.specs.Bare.{IsBareType, IsBareSignature}
-use Rattle.celf_reading.proofs.Options.{option_map-some, option_and_then-some}
+use Rattle.celf_explicit.proofs.Options.{option_map-some, option_and_then-some}
 use Rattle.celf_lexer.proofs.Signs.{same_bytes-refl}
 use Rattle.celf_reading.proofs.Bare.{bare-get}
 use Rattle.celf_reading.proofs.Variables.{variable-differs, variable-other}

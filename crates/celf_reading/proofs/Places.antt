@@ -2,7 +2,7 @@
 use Rattle.std.proofs.Common.{ℕ, ◌≡◌, suc, Bool, true, false, refl, sym, ◌∙◌, Option, Some, None, option_map, List, [], ◌∷◌, ◌++◌, length}
 use Rattle.clf_syntax.specs.Word.{same_bytes}
 use Rattle.clf_sig.specs.Entry.{PlainEntry, PlainSignature, place_of}
-use Rattle.celf_reading.proofs.Options.{option_map-none}
+use Rattle.celf_explicit.proofs.Options.{option_map-none}
 
 place_of-first : (name : List ℕ) (e : List ℕ × PlainEntry) (es : PlainSignature) → same_bytes e.0 name ≡ true → place_of name (e ∷ es) ≡ Some 0
 place_of-first name e es t = rw t

@@ -17,7 +17,7 @@ use Rattle.clf_printer.specs.declared.place.Place.{Place}
 use Rattle.clf_printer.specs.declared.place.Place.TheVariants.{Whole as whole, Operand as operand, Factor as factor}
 use Rattle.clf_printer.specs.Text.{when, arrow_text, grouped, written_name, place_text, is_persistent, domain_text, type_text, groups_function, groups_pair}
 use Rattle.celf_reading.specs.Bare.{IsBareSignature, IsBareType}
-use Rattle.celf_reading.proofs.Options.{option_map-some}
+use Rattle.celf_explicit.proofs.Options.{option_map-some}
 use Rattle.celf_reading.proofs.Bare.{bare-get, occurs-bare}
 use Rattle.celf_reading.proofs.Printed.{arrow_for}
 use Rattle.celf_reading.proofs.Standing.{MayFollow, Stands, stands-top, stands-name, stands-constant, stands-whole, stands-at, stands-grouped, stands-pair, stands-function}

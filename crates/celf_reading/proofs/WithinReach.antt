@@ -9,7 +9,7 @@ use Rattle.clf_kernel.specs.Reach.{SignatureInReach, without_indices, without_mo
 use Rattle.celf_sugar.specs.PlainTree as plain
 use Rattle.celf_explicit.specs.Reading.{Place, Local, Typed, head, place_of_head, applied, behind, combined, domain, codomain, left_part, right_part, marked, mode_at, stays, read_type, read_object, read_spine, read_act, with_type, read_against, read_check}
 use Rattle.celf_reading.specs.Bare.{IsBareType, IsBareSignature}
-use Rattle.celf_reading.proofs.Options.{option_map-some, option_and_then-some, combined-some}
+use Rattle.celf_explicit.proofs.Options.{option_map-some, option_and_then-some, combined-some, kept-some}
 use Rattle.celf_reading.proofs.Bare.{bare-get, read_type-bare, without_indices-bare}
 use Rattle.celf_reading.proofs.Locals.{constant-at}
 
@@ -60,10 +60,6 @@ applied-without (Some h) es n k e =
     let found = option_map-some (λ fs. atomic (spine_on fs (head_alone h.0))) es n e in
     subst (λ (o : PlainObject). without_monads o ≡ true) found.2 (spine_on-without found.0 (head_alone h.0) refl (k found.0 found.1))
 
-stays-some : (b : Bool) (o : Option PlainObject) (n : PlainObject) → (if b then o else None) ≡ Some n → o ≡ Some n
-stays-some true o n e = e
-stays-some false o n e = absurd (cc)
-
 module _ (sig : PlainSignature) where
   mutual
     pub read_object-without : (ls : List Local) (t : Place) (o : plain.DesugaredObject) (n : PlainObject) → read_object sig ls t o ≡ Some n → without_monads n ≡ true
@@ -78,7 +74,7 @@ module _ (sig : PlainSignature) where
     read_object-without ls t (plain.unit s) n e = let is : unit ≡ n = cc in subst (λ (o : PlainObject). without_monads o ≡ true) is refl
     read_object-without ls t (plain.monadic s ss u) n e = absurd (cc)
     read_object-without ls t (plain.atomic s h es) n e =
-        let whole = stays-some (stays t) (applied (head sig ls h) (read_spine sig ls (place_of_head (head sig ls h)) es)) n e in
+        let whole = kept-some (stays t) (applied (head sig ls h) (read_spine sig ls (place_of_head (head sig ls h)) es)) n e in
         applied-without (head sig ls h) (read_spine sig ls (place_of_head (head sig ls h)) es) n (λ fs f. read_spine-without ls (place_of_head (head sig ls h)) es fs f) whole
     read_object-without ls t (plain.hole s) n e = absurd (cc)
 

@@ -4,3 +4,4 @@ pub use Rattle.clf_syntax.specs.PlainTypes
 pub mod Entry
 pub mod Keys
 pub mod Signature
+pub mod Core

@@ -14,3 +14,4 @@ pub mod PlainSimple
 pub mod Simple
 pub mod Erasure
 pub mod Laws
+pub mod Wide

@@ -16,7 +16,7 @@ mod types;
 mod word;
 
 pub use erasure::erase;
-pub use fault::{Or, OrWide, TooFar, Want, Wide};
+pub use fault::{Or, OrWide, Shortage, TooFar, Want, Wide};
 pub use identity::same;
 pub use laws::renaming;
 pub use modes::Modes;

@@ -1,5 +1,5 @@
 -- Options that have a value, taken apart.
-use Rattle.std.proofs.Common.{◌≡◌, refl, Option, Some, None, option_map, option_and_then}
+use Rattle.std.proofs.Common.{◌≡◌, Bool, true, false, if◌then◌else◌, refl, Option, Some, None, option_map, option_and_then}
 use Rattle.celf_explicit.specs.Reading.{combined}
 
 pub option_map-some : {A B : Type 0} (f : A → B) (o : Option A) (y : B) → option_map f o ≡ Some y → (x : A) × (o ≡ Some x) × (f x ≡ y)
@@ -19,3 +19,7 @@ pub combined-some : {A B C : Type 0} (f : A → B → C) (o : Option A) (p : Opt
 combined-some f None p c h = absurd (cc)
 combined-some f (Some a) None c h = absurd (cc)
 combined-some f (Some a) (Some b) c h = (a, b, refl, refl, cc)
+
+pub kept-some : {A : Type 0} (b : Bool) (o : Option A) (y : A) → (if b then o else None) ≡ Some y → o ≡ Some y
+kept-some true o y e = e
+kept-some false o y e = absurd (cc)
