@@ -1,17 +1,15 @@
-//! Each call of the kernel once; tables of checks stand in `run`, over text.
+//! The call of the kernel that the program does not make. Those that it makes are tried by checks, as files in tests/.
 ghost use Rattle.std.specs.Prelude.{◌≡◌};
 ghost use Rattle.clf_sig.specs.Signature.{plain_entry, plain_signature};
 ghost use Rattle.clf_kernel.specs.Reach.{SignatureInReach, ClassInReach};
 
 use crate::trees::{atom, constant, family, function};
-use clf_kernel::{Cause, Inferred, Refusal, check_entry, check_object, infer};
+use clf_kernel::{Cause, Refusal, check_entry};
 use clf_sig::{Entry, Signature};
-use clf_syntax::{Head, Mode, Neutral, Obj, OrWide, Ty};
-use sqlite_items::Items;
+use clf_syntax::{Head, Mode, OrWide};
 use std::alloc::Global;
 use std::process::Abort;
 use std::test::Fail;
-use use_contexts::{Ctx, Holding, Left};
 
 /// The signature with one entry more.
 #[tactic(auto, using(crate::proofs::SimpleSignatures::simple_more))]
@@ -89,67 +87,4 @@ fn entries_are_checked(rt: HostRuntime) -> Result<(), Fail> {
     assert_accepted(&rt, checked(alloc, &sig, family(alloc)));
     assert_refused(&rt, checked(alloc, &sig, constant(ty)));
     Ok(())
-}
-
-fn assert_slack(rt: &impl Abort, answer: Result<Left, OrWide<Refusal>>) {
-    match answer {
-        Ok(left) => assert!(rt; left.slack),
-        Err(fault) => {
-            drop(fault);
-            panic!(rt; "refused")
-        }
-    }
-}
-
-#[test]
-#[tactic(auto, using(clf_syntax::specs::Plain::plain_laws, clf_syntax::specs::PlainTypes::plain_type_laws, clf_kernel::proofs::InReach::reach_laws))]
-fn objects_are_checked(rt: HostRuntime) {
-    let alloc = rt.alloc();
-    let sig = signature(&rt, alloc);
-    let ctx = Ctx::empty(alloc);
-    let holding = Holding {
-        held: Items::new(alloc),
-    };
-    assert_slack(
-        &rt,
-        check_object(alloc, &sig, &ctx, &holding, &Obj::Unit, &Ty::Top),
-    );
-}
-
-/// Asserts that the constant `z` has its type, and no slack.
-fn assert_found(rt: &impl Abort, found: &Inferred) {
-    assert!(rt; matches!(found.ty, Ty::Fam { family: 0, .. }));
-    assert!(rt; !found.left.slack);
-}
-
-fn assert_inferred(rt: &impl Abort, answer: Result<Inferred, OrWide<Refusal>>) {
-    match answer {
-        Ok(found) => {
-            assert_found(rt, &found);
-            drop(found);
-        }
-        Err(fault) => {
-            drop(fault);
-            panic!(rt; "refused")
-        }
-    }
-}
-
-#[test]
-#[tactic(auto, using(clf_syntax::specs::Plain::plain_laws, clf_syntax::specs::PlainTypes::plain_type_laws, clf_kernel::proofs::InReach::reach_laws))]
-fn types_are_inferred(rt: HostRuntime) {
-    let alloc = rt.alloc();
-    let sig = signature(&rt, alloc);
-    let ctx = Ctx::empty(alloc);
-    let holding = Holding {
-        held: Items::new(alloc),
-    };
-    // `z`
-    let neutral = Neutral {
-        head: Head::Const(2),
-        spine: Items::new(alloc),
-    };
-    let answer = infer(alloc, &sig, &ctx, &holding, &neutral);
-    drop(neutral);
-    assert_inferred(&rt, answer);
 }

@@ -6,8 +6,6 @@ mod contexts;
 #[cfg(test)]
 mod kernel;
 #[cfg(test)]
-mod lexer;
-#[cfg(test)]
 mod printer;
 #[cfg(test)]
 mod run;
