@@ -1,0 +1,4 @@
+pub mod Tupled
+pub mod Passes
+pub mod Function
+pub mod Laws
