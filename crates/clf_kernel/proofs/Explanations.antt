@@ -323,7 +323,7 @@ module _ (sig : PlainSignature) (g : Context) (h : Holding) where
   argument-explained : (m : Mode) (r : PlainNeutral) (n : PlainObject) (a c : PlainType) (x : Leftover) (o : Outcome Leftover)
       → Agrees (modes g) h (Some x) (λ p. Synthesizes sig g p r (function m a c)) → Explained sig g (allowed m (modes g) x.0) n a o
       → NeutralExplained sig g h (app m r n) (and_then (at_part (eliminations r) o) (λ y. passed (c, (outside m (modes g) x.0 y.0, x.1 || slack_outside m y.1))))
-  argument-explained m r n a c x (refused path why) u v = 
+  argument-explained m r n a c x (refused path why) u v =
       (v.0, v.1, v.2, in_argument_part a c x.0 (some-part (modes g) h x (λ p. Synthesizes sig g p r (function m a c)) u) (row-leaves g h x (λ p. Synthesizes sig g p r (function m a c)) u) v.3, v.4)
   argument-explained m r n a c x (passed y) u v = tt
 
