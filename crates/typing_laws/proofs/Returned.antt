@@ -1,6 +1,5 @@
 -- Strengthening: what is typed after a renumbering that can be undone was typed before it.
 use Rattle.std.specs.Prelude.{ℕ, zero, suc, ◌+◌, ◌≡◌, ◌≤◌, ◌&&◌, ◌||◌, not, Bool, true, false, List, [], ◌∷◌, length, None, Some, refl}
-use Rattle.std.specs.List.{slice_get}
 use Rattle.std.proofs.Common.{ap, sym, subst, ◌∙◌, arith, add-one}
 use Rattle.clf_syntax.specs.declared.tree.Mode.{Mode}
 use Rattle.clf_syntax.specs.declared.tree.Mode.TheVariants.{Persistent, Affine, Linear}
@@ -10,9 +9,9 @@ use Rattle.clf_syntax.specs.Tree.{PlainObject, lam, pair, unit, monadic, atomic,
 use Rattle.clf_syntax.specs.TypeTree.{PlainType, family, function, both, top, monad, PlainTelescope, end, binding}
 use Rattle.clf_syntax.specs.Renaming.{Renumbering, lifted, ren, ren_head, ren_neutral, ren_expression, ren_tuple, ren_objects, ren_type, ren_telescope, up, down, raise}
 use Rattle.clf_syntax.proofs.RenamingLaws.{ext, lift_up, lift_comp, lift_id, composed, identity, down_up}
-use Rattle.clf_syntax.proofs.TypeRenaming.{conses, composed_objects, composed_type, composed_telescope, identity_objects, identity_type, identity_telescope}
+use Rattle.clf_syntax.proofs.TypeRenaming.{composed_objects, composed_type, composed_telescope, identity_objects, identity_type, identity_telescope}
 use Rattle.use_contexts.specs.Context.{Context, modes, HasVariable, telescope_modes, with_entries}
-use Rattle.use_contexts.specs.Holding.{Holding, SplitEntry, Split, is_linear, is_persistent, is_weak, is_unrestricted, may_use, without, Uses, all_held}
+use Rattle.use_contexts.specs.Holding.{Holding, SplitEntry, Split, is_linear, is_persistent, is_weak, is_unrestricted, may_use, Uses, all_held}
 use Rattle.hered_subst.proofs.SimpleTyping.{lift_zero, lift_next, lift_under}
 use Rattle.hered_subst.proofs.Renamed.{fits_single}
 use Rattle.hered_subst.proofs.Types.{commutes, is_determined}
@@ -20,7 +19,7 @@ use Rattle.hered_subst.specs.Substitution.{single, SubstitutedType, SubstitutedT
 use Rattle.trace_equal.specs.Exchange.{JoinedEach}
 use Rattle.clf_sig.specs.Entry.{PlainSignature, constant_type}
 use Rattle.clf_kernel.specs.Typing.{HasType, Synthesizes, ExpressionHasType, TupleHasType}
-use Rattle.typing_laws.specs.Contexts.{with_mark, with_entry, AreBroughtBack, ContextStrengthening}
+use Rattle.typing_laws.specs.Contexts.{with_mark, with_entry, ContextStrengthening}
 use Rattle.typing_laws.proofs.Carried.{past, past_all, past_held, same_modes, square_type, square_telescope, raised, joined_each, and_left, and_right, and_both}
 use Rattle.typing_laws.proofs.ContextLaws.{constants_closed, raise_all, raise_next, same_past}
 
@@ -83,7 +82,7 @@ returns_all (binding m a s) r l g k T c =
     subst (λ q. Returns q (lifted (suc (length (telescope_modes s))) l) (with_entries s ((m, a) ∷ g)) (with_entries (ren_telescope (lifted 1 r) s) ((m, ren_type r a) ∷ k)) (past_all (telescope_modes s) (past T)))
     (lift_under (length (telescope_modes s)) r)
     (subst (λ q. Returns (lifted (length (telescope_modes s)) (lifted 1 r)) q (with_entries s ((m, a) ∷ g)) (with_entries (ren_telescope (lifted 1 r) s) ((m, ren_type r a) ∷ k)) (past_all (telescope_modes s) (past T)))
-      (lift_under (length (telescope_modes s)) l) (returns_all s (lifted 1 r) (lifted 1 l) ((m, a) ∷ g) ((m, ren_type r a) ∷ k) (past T) (returns_under m a r l g k T c)))
+    (lift_under (length (telescope_modes s)) l) (returns_all s (lifted 1 r) (lifted 1 l) ((m, a) ∷ g) ((m, ren_type r a) ∷ k) (past T) (returns_under m a r l g k T c)))
 
 returns_entries : (u : PlainTelescope) (ms : List Mode) (r l : Renumbering) (g k : Context) (T : Holding → Holding) → telescope_modes u ≡ ms → Returns r l g k T
     → Returns (lifted (length ms) r) (lifted (length ms) l) (with_entries u g) (with_entries (ren_telescope r u) k) (past_all ms T)
@@ -151,7 +150,7 @@ put_back : (r l : Renumbering) → ((i : ℕ) → l (r i) ≡ i) → ((i : ℕ) 
     → SubstitutedType (single n 0) c (ren_type l t) × (t ≡ ren_type r (ren_type l t))
 put_back r l f g n c t p =
     let q = subst (λ o. SubstitutedType (single o 0) (ren_type (lifted 1 l) (ren_type (lifted 1 r) c)) (ren_type l t)) (undone_object r l f n)
-        ((commutes (lifted 1 l) l (single (ren r n) 0) (single (ren l (ren r n)) 0) (fits_single l (ren r n))).2 (ren_type (lifted 1 r) c) t p) in
+    ((commutes (lifted 1 l) l (single (ren r n) 0) (single (ren l (ren r n)) 0) (fits_single l (ren r n))).2 (ren_type (lifted 1 r) c) t p) in
     let s = subst (λ a. SubstitutedType (single n 0) a (ren_type l t)) (undone_type (lifted 1 r) (lifted 1 l) g c) q in
     (s, (is_determined (single (ren r n) 0)).4 (ren_type (lifted 1 r) c) t (ren_type r (ren_type l t)) p ((commutes (lifted 1 r) r (single n 0) (single (ren r n) 0) (fits_single r n)).2 c (ren_type l t) s))
 
@@ -159,7 +158,7 @@ put_telescope_back : (r l : Renumbering) → ((i : ℕ) → l (r i) ≡ i) → (
     → SubstitutedTelescope (single n 0) c (ren_telescope l t) × (t ≡ ren_telescope r (ren_telescope l t))
 put_telescope_back r l f g n c t p =
     let q = subst (λ o. SubstitutedTelescope (single o 0) (ren_telescope (lifted 1 l) (ren_telescope (lifted 1 r) c)) (ren_telescope l t)) (undone_object r l f n)
-        ((commutes (lifted 1 l) l (single (ren r n) 0) (single (ren l (ren r n)) 0) (fits_single l (ren r n))).3 (ren_telescope (lifted 1 r) c) t p) in
+    ((commutes (lifted 1 l) l (single (ren r n) 0) (single (ren l (ren r n)) 0) (fits_single l (ren r n))).3 (ren_telescope (lifted 1 r) c) t p) in
     let s = subst (λ a. SubstitutedTelescope (single n 0) a (ren_telescope l t)) (undone_telescope (lifted 1 r) (lifted 1 l) g c) q in
     (s, (is_determined (single (ren r n) 0)).5 (ren_telescope (lifted 1 r) c) t (ren_telescope r (ren_telescope l t)) p ((commutes (lifted 1 r) r (single n 0) (single (ren r n) 0) (fits_single r n)).3 c (ren_telescope l t) s))
 
@@ -185,7 +184,7 @@ module _ (sig : PlainSignature) (closed : (r : Renumbering) (c : ℕ) (a : Plain
       range = d;
       type = e;
       body = return_object (lifted 1 r) (lifted 1 l) ((m, a) ∷ g) ((m, ren_type r a) ∷ k) (past T) (returns_under m a r l g k T c) (true ∷ h) b d
-        (subst (λ x. HasType sig ((m, x) ∷ k) (true ∷ T h) (ren (lifted 1 r) b) (ren_type (lifted 1 r) d)) f (subst (λ y. HasType sig ((m, p.domain) ∷ k) (true ∷ T h) (ren (lifted 1 r) b) y) j p.body));
+          (subst (λ x. HasType sig ((m, x) ∷ k) (true ∷ T h) (ren (lifted 1 r) b) (ren_type (lifted 1 r) d)) f (subst (λ y. HasType sig ((m, p.domain) ∷ k) (true ∷ T h) (ren (lifted 1 r) b) y) j p.body));
     }
     return_object r l g k T c h (pair x y) t p = let (a, b, e, f, j) = back_both r t p.left_type p.right_type p.type in record {
       left_type = a;
@@ -197,78 +196,81 @@ module _ (sig : PlainSignature) (closed : (r : Renumbering) (c : ℕ) (a : Plain
     return_object r l g k T c h unit t p = back_top r t p
     return_object r l g k T c h (monadic x) t p = let (u, e, f) = back_monad r t p.0 p.1 in (u, e, return_expression r l g k T c h x u (subst (λ s. ExpressionHasType sig k (T h) (ren_expression r x) s) f p.2))
     return_object r l g k T c h (atomic n) t p =
-      let (ms, e, f) = back_family r t p.number p.wanted p.type in
-      let (a, j, q) = return_neutral r l g k T c h n (family p.number p.found) p.neutral in let (fs, u, v) = back_family r a p.number p.found (sym j) in record {
-      number = p.number;
-      wanted = ms;
-      found = fs;
-      type = e;
-      neutral = subst (λ b. Synthesizes sig g h n b) u q;
-      indices = subst (λ x. JoinedEach x ms) (undone_objects r l c.back fs) (subst (λ y. JoinedEach (ren_objects l (ren_objects r fs)) y) (undone_objects r l c.back ms)
-        (joined_each l (ren_objects r fs) (ren_objects r ms) (subst (λ x. JoinedEach x (ren_objects r ms)) v (subst (λ y. JoinedEach p.found y) f p.indices))));
-    }
+        let (ms, e, f) = back_family r t p.number p.wanted p.type in
+        let (a, j, q) = return_neutral r l g k T c h n (family p.number p.found) p.neutral in let (fs, u, v) = back_family r a p.number p.found (sym j) in record {
+          number = p.number;
+          wanted = ms;
+          found = fs;
+          type = e;
+          neutral = subst (λ b. Synthesizes sig g h n b) u q;
+          indices = subst (λ x. JoinedEach x ms) (undone_objects r l c.back fs) (subst (λ y. JoinedEach (ren_objects l (ren_objects r fs)) y) (undone_objects r l c.back ms)
+              (joined_each l (ren_objects r fs) (ren_objects r ms) (subst (λ x. JoinedEach x (ren_objects r ms)) v (subst (λ y. JoinedEach p.found y) f p.indices))));
+        }
     return_object r l g k T c h hole t p = p
 
     return_neutral : (r l : Renumbering) (g k : Context) (T : Holding → Holding) → Returns r l g k T → (h : Holding) (n : PlainNeutral) (t : PlainType) → Synthesizes sig k (T h) (ren_neutral r n) t → (a : PlainType) × (t ≡ ren_type r a) × Synthesizes sig g h n a
     return_neutral r l g k T c h (head_alone x) t p = return_head r l g k T c h x t p
     return_neutral r l g k T c h (app m x n) t p =
-      let (a, b, ea, eb, s) = c.split h p.for_function p.for_argument p.split in
-      let (w, e, q) = return_neutral r l g k T c a x (function m p.domain p.range) (subst (λ j. Synthesizes sig k j (ren_neutral r x) (function m p.domain p.range)) ea p.applied) in
-      let (d, v, f, u, z) = back_function r w m p.domain p.range (sym e) in
-      let (y, o) = put_back r l c.back (under_back r l c.back) n v t (subst (λ j. SubstitutedType (single (ren r n) 0) j t) z p.type) in
-      (ren_type l t, o, record {
-        domain = d;
-        range = v;
-        for_function = a;
-        for_argument = b;
-        split = s;
-        applied = subst (λ j. Synthesizes sig g a x j) f q;
-        usable = usable m r l g k T c b (subst (λ j. may_use m (modes k) j ≡ true) eb p.usable);
-        argument = return_object r l g k T c b n d (subst (λ j. HasType sig k (T b) (ren r n) j) u (subst (λ j. HasType sig k j (ren r n) p.domain) eb p.argument));
-        type = y;
-      })
+        let (a, b, ea, eb, s) = c.split h p.for_function p.for_argument p.split in
+        let (w, e, q) = return_neutral r l g k T c a x (function m p.domain p.range) (subst (λ j. Synthesizes sig k j (ren_neutral r x) (function m p.domain p.range)) ea p.applied) in
+        let (d, v, f, u, z) = back_function r w m p.domain p.range (sym e) in
+        let (y, o) = put_back r l c.back (under_back r l c.back) n v t (subst (λ j. SubstitutedType (single (ren r n) 0) j t) z p.type) in (
+          ren_type l t,
+          o,
+          record {
+            domain = d;
+            range = v;
+            for_function = a;
+            for_argument = b;
+            split = s;
+            applied = subst (λ j. Synthesizes sig g a x j) f q;
+            usable = usable m r l g k T c b (subst (λ j. may_use m (modes k) j ≡ true) eb p.usable);
+            argument = return_object r l g k T c b n d (subst (λ j. HasType sig k (T b) (ren r n) j) u (subst (λ j. HasType sig k j (ren r n) p.domain) eb p.argument));
+            type = y;
+          },
+        )
     return_neutral r l g k T c h (fst x) t p = let (a, e, q) = return_neutral r l g k T c h x (both t p.0) p.1 in let (b, d, f, u, v) = back_both r a t p.0 (sym e) in (b, u, (d, subst (λ j. Synthesizes sig g h x j) f q))
     return_neutral r l g k T c h (snd x) t p = let (a, e, q) = return_neutral r l g k T c h x (both p.0 t) p.1 in let (b, d, f, u, v) = back_both r a p.0 t (sym e) in (d, v, (b, subst (λ j. Synthesizes sig g h x j) f q))
 
     return_expression : (r l : Renumbering) (g k : Context) (T : Holding → Holding) → Returns r l g k T → (h : Holding) (x : PlainExpression) (s : PlainTelescope) → ExpressionHasType sig k (T h) (ren_expression r x) (ren_telescope r s) → ExpressionHasType sig g h x s
     return_expression r l g k T c h (step ms y x) s p =
-      let (a, b, ea, eb, w) = c.split h p.for_right p.for_rest p.split in
-      let (o, e, q) = return_neutral r l g k T c a y (monad p.entries) (subst (λ j. Synthesizes sig k j (ren_neutral r y) (monad p.entries)) ea p.right) in
-      let (u, f, v) = back_monad r o p.entries (sym e) in
-      let pattern : telescope_modes u ≡ ms = sym (same_modes r u) ∙ ap telescope_modes (sym v) ∙ p.pattern in record {
-        entries = u;
-        for_right = a;
-        for_rest = b;
-        split = w;
-        right = subst (λ j. Synthesizes sig g a y j) f q;
-        pattern = pattern;
-        rest = return_expression (lifted (length ms) r) (lifted (length ms) l) (with_entries u g) (with_entries (ren_telescope r u) k) (past_all ms T) (returns_entries u ms r l g k T pattern c) (all_held ms b) x (ren_telescope (up (length ms)) s)
-          (subst (λ j. ExpressionHasType sig (with_entries (ren_telescope r u) k) j (ren_expression (lifted (length ms) r) x) (ren_telescope (lifted (length ms) r) (ren_telescope (up (length ms)) s))) (sym (past_held ms T b))
-          (subst (λ j. ExpressionHasType sig (with_entries (ren_telescope r u) k) (all_held ms (T b)) (ren_expression (lifted (length ms) r) x) j)
-            (sym (square_telescope (lifted (length ms) r) (up (length ms)) (up (length ms)) r (lift_up (length ms) r) s))
-          (subst (λ j. ExpressionHasType sig (with_entries (ren_telescope r u) k) (all_held ms j) (ren_expression (lifted (length ms) r) x) (ren_telescope (up (length ms)) (ren_telescope r s))) eb
-          (subst (λ j. ExpressionHasType sig (with_entries j k) (all_held ms p.for_rest) (ren_expression (lifted (length ms) r) x) (ren_telescope (up (length ms)) (ren_telescope r s))) v p.rest))));
-      }
+        let (a, b, ea, eb, w) = c.split h p.for_right p.for_rest p.split in
+        let (o, e, q) = return_neutral r l g k T c a y (monad p.entries) (subst (λ j. Synthesizes sig k j (ren_neutral r y) (monad p.entries)) ea p.right) in
+        let (u, f, v) = back_monad r o p.entries (sym e) in
+        let pattern : telescope_modes u ≡ ms = sym (same_modes r u) ∙ ap telescope_modes (sym v) ∙ p.pattern in record {
+          entries = u;
+          for_right = a;
+          for_rest = b;
+          split = w;
+          right = subst (λ j. Synthesizes sig g a y j) f q;
+          pattern = pattern;
+          rest = return_expression (lifted (length ms) r) (lifted (length ms) l) (with_entries u g) (with_entries (ren_telescope r u) k) (past_all ms T) (returns_entries u ms r l g k T pattern c) (all_held ms b) x (ren_telescope (up (length ms)) s)
+              (subst (λ j. ExpressionHasType sig (with_entries (ren_telescope r u) k) j (ren_expression (lifted (length ms) r) x) (ren_telescope (lifted (length ms) r) (ren_telescope (up (length ms)) s))) (sym (past_held ms T b))
+              (subst (λ j. ExpressionHasType sig (with_entries (ren_telescope r u) k) (all_held ms (T b)) (ren_expression (lifted (length ms) r) x) j)
+              (sym (square_telescope (lifted (length ms) r) (up (length ms)) (up (length ms)) r (lift_up (length ms) r) s))
+              (subst (λ j. ExpressionHasType sig (with_entries (ren_telescope r u) k) (all_held ms j) (ren_expression (lifted (length ms) r) x) (ren_telescope (up (length ms)) (ren_telescope r s))) eb
+              (subst (λ j. ExpressionHasType sig (with_entries j k) (all_held ms p.for_rest) (ren_expression (lifted (length ms) r) x) (ren_telescope (up (length ms)) (ren_telescope r s))) v p.rest))));
+        }
     return_expression r l g k T c h (done t) s p = return_tuple r l g k T c h t s p
 
     return_tuple : (r l : Renumbering) (g k : Context) (T : Holding → Holding) → Returns r l g k T → (h : Holding) (t : PlainTuple) (s : PlainTelescope) → TupleHasType sig k (T h) (ren_tuple r t) (ren_telescope r s) → TupleHasType sig g h t s
     return_tuple r l g k T c h empty s p = (back_end r s p.0, c.weak h p.1)
     return_tuple r l g k T c h (entry m n t) s p =
-      let (a, b, ea, eb, w) = c.split h p.for_first p.for_later p.split in
-      let (d, v, e, f, z) = back_binding r s m p.first_type p.later_types p.type in
-      let (y, o) = put_telescope_back r l c.back (under_back r l c.back) n v p.after_put (subst (λ j. SubstitutedTelescope (single (ren r n) 0) j p.after_put) z p.put) in record {
-        first_type = d;
-        later_types = v;
-        after_put = ren_telescope l p.after_put;
-        for_first = a;
-        for_later = b;
-        type = e;
-        split = w;
-        usable = usable m r l g k T c a (subst (λ j. may_use m (modes k) j ≡ true) ea p.usable);
-        first = return_object r l g k T c a n d (subst (λ j. HasType sig k (T a) (ren r n) j) f (subst (λ j. HasType sig k j (ren r n) p.first_type) ea p.first));
-        put = y;
-        later = return_tuple r l g k T c b t (ren_telescope l p.after_put) (subst (λ j. TupleHasType sig k (T b) (ren_tuple r t) j) o (subst (λ j. TupleHasType sig k j (ren_tuple r t) p.after_put) eb p.later));
-      }
+        let (a, b, ea, eb, w) = c.split h p.for_first p.for_later p.split in
+        let (d, v, e, f, z) = back_binding r s m p.first_type p.later_types p.type in
+        let (y, o) = put_telescope_back r l c.back (under_back r l c.back) n v p.after_put (subst (λ j. SubstitutedTelescope (single (ren r n) 0) j p.after_put) z p.put) in record {
+          first_type = d;
+          later_types = v;
+          after_put = ren_telescope l p.after_put;
+          for_first = a;
+          for_later = b;
+          type = e;
+          split = w;
+          usable = usable m r l g k T c a (subst (λ j. may_use m (modes k) j ≡ true) ea p.usable);
+          first = return_object r l g k T c a n d (subst (λ j. HasType sig k (T a) (ren r n) j) f (subst (λ j. HasType sig k j (ren r n) p.first_type) ea p.first));
+          put = y;
+          later = return_tuple r l g k T c b t (ren_telescope l p.after_put) (subst (λ j. TupleHasType sig k (T b) (ren_tuple r t) j) o (subst (λ j. TupleHasType sig k j (ren_tuple r t) p.after_put) eb p.later));
+        }
 
 -- ---- an entry that nothing mentions
 neither : (u v : Bool) → false ≡ u || v → (u ≡ false) × (v ≡ false)
@@ -303,10 +305,12 @@ narrowest m b g = record {
 
 narrowed : (k : ℕ) (m : Mode) (b : PlainType) (g : Context) → k ≤ length g → (l : Renumbering) × Returns (raise 1 k) l g (with_entry k (m, b) g) (with_mark k (is_persistent m))
 narrowed zero m b g e = (down 1, subst (λ r. Returns r (down 1) g ((m, b) ∷ g) (λ h. is_persistent m ∷ h)) (sym (raise_all 1)) (narrowest m b g))
-narrowed (suc k) m b (d ∷ g) e = let (l, c) = narrowed k m b g (omega arith) in
-    (lifted 1 l, subst (λ r. Returns r (lifted 1 l) (d ∷ g) (with_entry (suc k) (m, b) (d ∷ g)) (with_mark (suc k) (is_persistent m))) (raise_next k)
+narrowed (suc k) m b (d ∷ g) e = let (l, c) = narrowed k m b g (omega arith) in (
+  lifted 1 l,
+  subst (λ r. Returns r (lifted 1 l) (d ∷ g) (with_entry (suc k) (m, b) (d ∷ g)) (with_mark (suc k) (is_persistent m))) (raise_next k)
       (subst (λ T. Returns (lifted 1 (raise 1 k)) (lifted 1 l) (d ∷ g) (with_entry (suc k) (m, b) (d ∷ g)) T) (same_past k (is_persistent m))
-      (returns_under d.0 d.1 (raise 1 k) l g (with_entry k (m, b) g) (with_mark k (is_persistent m)) c)))
+      (returns_under d.0 d.1 (raise 1 k) l g (with_entry k (m, b) g) (with_mark k (is_persistent m)) c)),
+)
 narrowed (suc k) m b [] e = absurd (omega arith)
 
 pub context_strengthening : ContextStrengthening

@@ -1,16 +1,16 @@
 -- Two neighbouring entries of a context change places.
-use Rattle.std.specs.Prelude.{ℕ, zero, suc, ◌+◌, ◌-◌, ◌≡◌, ◌<◌, ◌≤◌, ◌&&◌, not, Bool, true, false, List, [], ◌∷◌, length, None, Some, refl}
+use Rattle.std.specs.Prelude.{ℕ, zero, suc, ◌+◌, ◌-◌, ◌≡◌, ◌<◌, ◌≤◌, ◌&&◌, not, Bool, true, false, [], ◌∷◌, length, Some, refl}
 use Rattle.std.proofs.Common.{ap, sym, subst, ◌∙◌, arith, ⊎_elim}
 use Rattle.clf_syntax.specs.declared.tree.Mode.{Mode}
 use Rattle.clf_syntax.specs.TypeTree.{PlainType}
 use Rattle.clf_syntax.specs.Renaming.{Renumbering, lifted, ren_type, up, raise, crossed}
 use Rattle.clf_syntax.proofs.RenamingLaws.{ext, cut, lift_in, lift_out, cross_out}
-use Rattle.clf_syntax.proofs.TypeRenaming.{composed_type, conses}
+use Rattle.clf_syntax.proofs.TypeRenaming.{composed_type}
 use Rattle.hered_subst.proofs.SimpleTyping.{lift_zero, lift_next}
 use Rattle.use_contexts.specs.Context.{Context, modes, HasVariable}
 use Rattle.use_contexts.specs.Holding.{Holding, Split, is_linear, is_persistent, is_weak, is_unrestricted, without, Uses}
 use Rattle.typing_laws.specs.Contexts.{with_entry, past_one, with_exchange, ContextExchange}
-use Rattle.typing_laws.proofs.Carried.{Carries, carries_under, carry, past, square_type}
+use Rattle.typing_laws.proofs.Carried.{Carries, carries_under, carry, past}
 use Rattle.typing_laws.proofs.ContextLaws.{constants_closed}
 
 swap_true : (a b c : Bool) → a && (b && c) ≡ true → b && (a && c) ≡ true
@@ -160,8 +160,8 @@ exchanged (suc k) e f (d ∷ g) l =
     let old = with_entry k (past_one e) (with_entry k f g) in let new = with_entry k (past_one f) (with_entry k e g) in
     let t = ren_type (raise 1 k) (ren_type (raise 1 k) d.1) in
     let same : ren_type (lifted k (crossed 1 1)) (ren_type (raise 1 k) (ren_type (raise 1 k) d.1)) ≡ ren_type (raise 1 k) (ren_type (raise 1 k) d.1) =
-        ap (ren_type (lifted k (crossed 1 1))) (composed_type (raise 1 k) (raise 1 k) d.1) ∙ composed_type (lifted k (crossed 1 1)) (λ i. raise 1 k (raise 1 k i)) d.1
-        ∙ ap (λ r. ren_type r d.1) (ext (past_both k)) ∙ sym (composed_type (raise 1 k) (raise 1 k) d.1) in
+    ap (ren_type (lifted k (crossed 1 1))) (composed_type (raise 1 k) (raise 1 k) d.1) ∙ composed_type (lifted k (crossed 1 1)) (λ i. raise 1 k (raise 1 k i)) d.1
+    ∙ ap (λ r. ren_type r d.1) (ext (past_both k)) ∙ sym (composed_type (raise 1 k) (raise 1 k) d.1) in
     subst (λ r. Carries r (with_entry (suc k) (past_one e) (with_entry (suc k) f (d ∷ g))) (with_entry (suc k) (past_one f) (with_entry (suc k) e (d ∷ g))) (with_exchange (suc k))) (lift_next_one k (crossed 1 1))
     (subst (λ T. Carries (lifted 1 (lifted k (crossed 1 1))) (with_entry (suc k) (past_one e) (with_entry (suc k) f (d ∷ g))) (with_entry (suc k) (past_one f) (with_entry (suc k) e (d ∷ g))) T) (same_past k)
     (subst (λ a. Carries (lifted 1 (lifted k (crossed 1 1))) (with_entry (suc k) (past_one e) (with_entry (suc k) f (d ∷ g))) ((d.0, a) ∷ with_entry k (past_one f) (with_entry k e g)) (past (with_exchange k))) same

@@ -4,5 +4,6 @@
 mod laws;
 
 pub use laws::{
-    congruence, decided, exchange, lost_types, mentions, one_type, simple_typing, splits, strengthening, used, weakening,
+    congruence, decided, exchange, lost_types, mentions, one_type, simple_typing, splits,
+    strengthening, used, weakening,
 };
