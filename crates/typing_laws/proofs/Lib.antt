@@ -7,6 +7,7 @@ pub mod MoreAffine
 pub mod JoinedChains
 pub mod Decisions
 pub mod Lost
+pub mod TreeExamples
 pub mod Fixed
 pub mod Carried
 pub mod ContextLaws

@@ -6,3 +6,4 @@ pub mod Splits
 pub mod Congruence
 pub mod Contexts
 pub mod LostTypes
+pub mod WorkedTrees

@@ -7,6 +7,7 @@ ghost use Rattle.typing_laws.specs.SimpleTyping.{SynthesizedIsSimplyFormed, Type
 ghost use Rattle.typing_laws.specs.Splits.{SplitAssociates, SplitCommutes, SplitHasNeutral};
 ghost use Rattle.typing_laws.specs.Types.{IsDecided, TypeIsOne};
 ghost use Rattle.typing_laws.specs.Uses.{LinearOccurs, UsedAtMostOnce};
+ghost use Rattle.typing_laws.specs.WorkedTrees.{ExchangeExamples, SubstitutionExamples};
 
 /// What is typed is simply typed and eta-long, what is well formed is simply formed, and so is the type of a neutral.
 pub fn simple_typing()
@@ -68,4 +69,10 @@ pub fn decided()
 /// An exchange of steps need not keep the type.
 pub fn lost_types()
     ensures { ExchangeLosesTypes }
+{}
+
+/// What substitution and exchange make of small trees, and what they do not.
+pub fn worked_trees()
+    ensures substitution { SubstitutionExamples }
+    ensures exchange { ExchangeExamples }
 {}

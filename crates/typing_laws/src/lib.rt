@@ -5,5 +5,5 @@ mod laws;
 
 pub use laws::{
     congruence, decided, exchange, lost_types, mentions, one_type, simple_typing, splits,
-    strengthening, used, weakening,
+    strengthening, used, weakening, worked_trees,
 };
