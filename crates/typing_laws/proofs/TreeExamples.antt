@@ -1,14 +1,13 @@
 -- The worked substitutions and exchanges.
-use Rattle.std.specs.Prelude.{ℕ, ◌≡◌, true, false, [], ◌∷◌, refl}
-use Rattle.std.proofs.Common.{sym, arith, ◌∙◌}
+use Rattle.std.specs.Prelude.{◌≡◌, true, false, [], ◌∷◌, refl}
+use Rattle.std.proofs.Common.{arith}
 use Rattle.clf_syntax.specs.declared.tree.Mode.TheVariants.{Linear}
-use Rattle.clf_syntax.specs.declared.tree.Head.TheVariants.{Const, Var}
-use Rattle.clf_syntax.specs.Tree.{PlainObject, lam, pair, monadic, atomic, PlainNeutral, head_alone, app, fst, PlainExpression, step, done, PlainTuple, entry, empty}
+use Rattle.clf_syntax.specs.Tree.{PlainObject, lam, pair, atomic, app, fst, PlainExpression, step}
 use Rattle.hered_subst.specs.Substitution.{single, Substituted, through_lam, through_kept, through_value, through_monadic, kept_bare, kept_fst, value_bare, value_app, value_fst, value_snd, step_value, through_done, through_entry, through_empty, flat_step, flat_done, in_family, each_next, each_none}
 use Rattle.hered_subst.proofs.Types.{is_determined}
-use Rattle.trace_equal.specs.Exchange.{Exchanged, in_atomic, ExchangedNeutral, in_function, in_argument, ExchangedExpression, in_right_side, in_later_steps, in_done, exchange, ExchangedTuple, in_entry, in_later_entry, stop, next, JoinedExpression, in_monadic}
+use Rattle.trace_equal.specs.Exchange.{ExchangedExpression, in_right_side, in_later_steps, exchange, stop, next, JoinedExpression, in_monadic}
 use Rattle.trace_equal.proofs.Joined.{independence_in_words, stays_neutral, stays_expression}
-use Rattle.clf_kernel.specs.Examples.{constant, local, variable, z, gold, minting, alone, together}
+use Rattle.clf_kernel.specs.Examples.{constant, local, variable, z, gold, alone, together}
 use Rattle.typing_laws.specs.WorkedTrees.{identity, SubstitutionExamples, dependent, ExchangeExamples}
 
 number_falls : variable 0 ≡ variable 1 → ⊥
@@ -40,7 +39,7 @@ substitution_examples = record {
   other_part = λ p. not_gold ((is_determined (single (pair z gold) 0)).0 (atomic (fst (local 0))) z gold (through_value (value_fst (value_bare refl))) p);
   no_pair = nothing;
   in_a_step = through_monadic (step_value (value_bare refl) (through_done (through_entry (through_kept (kept_bare refl)) (through_entry (through_kept (kept_bare refl)) through_empty)))
-    (flat_step (flat_step (flat_done refl (through_done (through_entry (through_value (value_bare refl)) (through_entry (through_value (value_bare refl)) through_empty)))))));
+      (flat_step (flat_step (flat_done refl (through_done (through_entry (through_value (value_bare refl)) (through_entry (through_value (value_bare refl)) through_empty)))))));
   in_an_index = in_family (each_next (through_value (value_bare refl)) each_none);
 }
 
