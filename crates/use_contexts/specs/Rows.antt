@@ -4,7 +4,7 @@ use Rattle.std.specs.Prelude.{ℕ, zero, suc, ◌≡◌, Bool, true, false, not,
 use Rattle.std.specs.Option.{option_map}
 use Rattle.clf_syntax.specs.declared.tree.Mode.{Mode}
 use Rattle.clf_syntax.specs.declared.tree.Mode.TheVariants.{Persistent, Affine, Linear}
-use Rattle.use_contexts.specs.Holding.{Holding, is_persistent, is_linear, persistent_alone, Split}
+use Rattle.use_contexts.specs.Holding.{Holding, is_persistent, is_linear, Split}
 
 -- the holding after variable i is used: it is held no longer, unless it is persistent
 abbrev pub taken : List Mode → ℕ → Holding → Holding
