@@ -4,3 +4,4 @@ pub mod Sign
 pub mod Tokens
 pub mod SignAt
 pub mod Spelling
+pub mod Worked

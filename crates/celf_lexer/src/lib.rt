@@ -8,6 +8,6 @@ mod sign;
 mod token;
 mod word;
 
-pub use laws::longest_spelling_begins;
+pub use laws::{longest_spelling_begins, worked_tokens};
 pub use scan::next;
 pub use token::{LexFault, Token, TokenKind};

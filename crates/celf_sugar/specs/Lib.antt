@@ -9,3 +9,4 @@ pub mod FaultLists
 pub mod SugarLists
 pub mod ClassLeading
 pub mod Answers
+pub mod Worked

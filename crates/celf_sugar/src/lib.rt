@@ -7,6 +7,7 @@ mod first;
 mod item;
 mod item_fault;
 mod kind_place;
+mod laws;
 mod leading;
 mod limits;
 mod not_async;
@@ -18,6 +19,7 @@ mod types;
 
 pub use fault::SugarFault;
 pub use item::desugar;
+pub use laws::worked_sugar;
 pub use plain::{
     PBinder, PClass, PElim, PEntry, PExpr, PMarked, PName, PObj, PObjForm, PStep, PTele, PTy,
     PTyForm, Plain, PlainBody,

@@ -3,3 +3,4 @@ pub mod Spine
 pub mod Metas
 pub mod Entry
 pub mod Depth
+pub mod Worked

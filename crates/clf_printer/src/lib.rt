@@ -2,6 +2,7 @@
 #![tactic(auto)]
 
 mod entries;
+mod laws;
 mod metas;
 mod objects;
 mod place;
@@ -9,5 +10,6 @@ mod text;
 mod types;
 mod words;
 
+pub use laws::worked_texts;
 pub use text::{declaration_text, entry_text, object_text, type_text};
 pub use words::{push_number, push_place, push_variable};
