@@ -1,7 +1,7 @@
 -- Renaming under binders is the lifted renaming, and goes along spines, tuples and steps part by part.
-use Rattle.std.specs.Prelude.{ℕ, ◌+◌, ◌-◌, ◌≡◌, ◌&&◌, ◌∷◌, ◌++◌, [], List, Bool, true, false, refl, map, length, suc}
+use Rattle.std.specs.Prelude.{ℕ, ◌+◌, ◌≡◌, ◌&&◌, ◌∷◌, ◌++◌, [], List, Bool, true, false, refl, map, length}
 use Rattle.std.specs.List.{list_all}
-use Rattle.std.proofs.Common.{ap, sym, ◌∙◌, arith, ◌<◌, ◌≤◌, drop, get_or, zero}
+use Rattle.std.proofs.Common.{ap, sym, ◌∙◌, arith, ◌<◌, ◌≤◌, drop, get_or}
 use Rattle.std.proofs.lemmas.List.{map-append}
 use Rattle.std.proofs.lemmas.Grind.{common_steps}
 use Rattle.clf_syntax.specs.declared.tree.Mode.{Mode}
@@ -13,10 +13,10 @@ use Rattle.clf_syntax.specs.Tree.{PlainObject, lam, pair, unit, monadic, atomic,
 use Rattle.clf_syntax.specs.TypeTree.{PlainType, family, function, both, top, monad, PlainTelescope, end, binding, PlainKind, telescope_of}
 use Rattle.clf_syntax.specs.Plain.{plain_step, plain_entry}
 use Rattle.clf_syntax.specs.PlainTypes.{plain_ty, plain_tele_entry, plain-Tele}
-use Rattle.clf_syntax.specs.Renaming.{Renumbering, lifted, ren_head, ren, ren_neutral, ren_expression, ren_tuple, ren_type, ren_telescope, ren_kind, up, raise, renumbering}
-use Rattle.clf_syntax.specs.Written.{fits, fits_neutral, fits_expression, fits_tuple, fits_type, fits_telescope, fits_kind}
+use Rattle.clf_syntax.specs.Renaming.{Renumbering, lifted, ren, ren_neutral, ren_expression, ren_tuple, ren_type, ren_telescope, ren_kind, raise, renumbering}
+use Rattle.clf_syntax.specs.Written.{fits, fits_neutral, fits_tuple}
 use Rattle.clf_syntax.specs.Shift.{shift, shift_neutral, shift_expression, shift_type, shift_telescope, shift_kind}
-use Rattle.clf_syntax.specs.Renumbered.{entries_on, renumber, renumber_neutral, renumber_expression, renumber_tuple, renumber_type, renumber_telescope, renumber_kind, renumber_elimination, renumber_entry, renumber_step, renumber_tele_entry, fits_elimination, fits_entry, fits_step, fits_tele_entry}
+use Rattle.clf_syntax.specs.Renumbered.{entries_on, renumber, renumber_neutral, renumber_expression, renumber_tuple, renumber_type, renumber_telescope, renumber_kind, renumber_elimination, renumber_entry, renumber_step, renumber_tele_entry, fits_elimination, fits_entry}
 use Rattle.clf_syntax.proofs.RenamingLaws.{ext, pairs, apps, binds, entries}
 use Rattle.clf_syntax.proofs.TypeRenaming.{conses, functions, boths, bindings}
 use Rattle.clf_syntax.proofs.ShiftLaws.{shift-ren, shift-ren_neutral, shift-ren_expression, shift-ren_type, shift-ren_telescope}

@@ -1,5 +1,5 @@
 -- Which trees can be written: no variable's number passes 4,294,967,295. And what a call answers that writes a tree.
-use Rattle.std.specs.Prelude.{ℕ, ◌≡◌, nat_lt, Bool, true, false, ◌&&◌, List, [], ◌∷◌, Ok, Err, Result}
+use Rattle.std.specs.Prelude.{◌≡◌, nat_lt, Bool, true, false, ◌&&◌, Ok, Err, Result}
 use Rattle.std.specs.List.{list_all}
 use Rattle.clf_syntax.specs.declared.tree.Head.{Head}
 use Rattle.clf_syntax.specs.declared.tree.Head.TheVariants.{Const, Var, Meta}
