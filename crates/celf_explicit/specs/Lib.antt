@@ -10,3 +10,4 @@ pub mod ReadingLists
 pub mod Locals
 pub mod Entries
 pub mod Explicit
+pub mod Worked
