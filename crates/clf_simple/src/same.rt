@@ -1,0 +1,110 @@
+//! Whether modes and simple types are the same.
+ghost use Rattle.std.specs.Prelude.{◌≡◌, map};
+ghost use Rattle.clf_syntax.specs.PlainSimple.{plain_simple, plain_simple_entry, simple_telescope_of};
+ghost use Rattle.clf_simple.specs.Decision as spec;
+
+use clf_syntax::{Mode, Simple, SimpleEntry};
+
+pub fn same_mode(mode: Mode, other: Mode) -> bool
+    ensures { result ≡ spec.same_mode mode other }
+{
+    match (mode, other) {
+        (Mode::Persistent, Mode::Persistent)
+        | (Mode::Affine, Mode::Affine)
+        | (Mode::Linear, Mode::Linear) => true,
+        (Mode::Persistent, Mode::Affine | Mode::Linear)
+        | (Mode::Affine, Mode::Persistent | Mode::Linear)
+        | (Mode::Linear, Mode::Persistent | Mode::Affine) => false,
+    }
+}
+
+/// Whether two simple types are the same.
+#[cycle(same)]
+#[tactic(auto, using(clf_syntax::specs::PlainSimple::plain_simple_laws))]
+pub fn same_type(ty: &Simple, other: &Simple) -> bool
+    ensures { result ≡ spec.same_type (plain_simple ty.now) (plain_simple other.now) }
+{
+    match ty {
+        Simple::Atom(family) => match other {
+            Simple::Atom(second) => *family == *second,
+            Simple::Fun { .. } | Simple::With { .. } | Simple::Top | Simple::Monad { .. } => false,
+        },
+        Simple::Fun { mode, dom, cod } => match other {
+            Simple::Fun {
+                mode: second,
+                dom: from,
+                cod: to,
+            } => {
+                same_mode(*mode, *second)
+                    && same_type(dom.get(), from.get())
+                    && same_type(cod.get(), to.get())
+            }
+            Simple::Atom(_) | Simple::With { .. } | Simple::Top | Simple::Monad { .. } => false,
+        },
+        Simple::With { left, right } => match other {
+            Simple::With {
+                left: first,
+                right: second,
+            } => same_type(left.get(), first.get()) && same_type(right.get(), second.get()),
+            Simple::Atom(_) | Simple::Fun { .. } | Simple::Top | Simple::Monad { .. } => false,
+        },
+        Simple::Top => match other {
+            Simple::Top => true,
+            Simple::Atom(_) | Simple::Fun { .. } | Simple::With { .. } | Simple::Monad { .. } => {
+                false
+            }
+        },
+        Simple::Monad { entries } => match other {
+            Simple::Monad { entries: second } => {
+                same_entries(entries.as_slice(), second.as_slice())
+            }
+            Simple::Atom(_) | Simple::Fun { .. } | Simple::With { .. } | Simple::Top => false,
+        },
+    }
+}
+
+#[cycle(same)]
+#[tactic(auto, using(crate::proofs::Lists::from_place))]
+fn same_entries(entries: &[SimpleEntry], others: &[SimpleEntry]) -> bool
+    ensures { result ≡ spec.same_telescope (simple_telescope_of (map plain_simple_entry entries.now)) (simple_telescope_of (map plain_simple_entry others.now)) }
+{
+    if entries.len() != others.len() {
+        return false;
+    }
+    for place in 0..entries.len() {
+        if !same_entry(&entries[place], &others[place]) {
+            return false;
+        }
+    }
+    true
+}
+
+#[cycle(same)]
+#[tactic(auto, using(clf_syntax::specs::PlainSimple::plain_simple_laws))]
+fn same_entry(entry: &SimpleEntry, other: &SimpleEntry) -> bool
+    ensures { result ≡ spec.same_entry (plain_simple_entry entry.now) (plain_simple_entry other.now) }
+{
+    same_mode(entry.mode, other.mode) && same_type(&entry.ty, &other.ty)
+}
+
+fn has_mode(entry: &SimpleEntry, mode: &Mode) -> bool
+    ensures { result ≡ spec.same_mode mode.now entry.now.mode }
+{
+    same_mode(*mode, entry.mode)
+}
+
+/// Whether these are the modes of the entries.
+#[tactic(auto, using(crate::proofs::Lists::from_entry, crate::proofs::Lists::from_mode))]
+pub fn has_modes(entries: &[SimpleEntry], modes: &[Mode]) -> bool
+    ensures { result ≡ spec.has_modes (simple_telescope_of (map plain_simple_entry entries.now)) modes.now }
+{
+    if entries.len() != modes.len() {
+        return false;
+    }
+    for place in 0..entries.len() {
+        if !has_mode(&entries[place], &modes[place]) {
+            return false;
+        }
+    }
+    true
+}
