@@ -1,5 +1,5 @@
 -- The spellings of the tokens of a text, as callers read them.
-use Rattle.std.proofs.Common.{◌≡◌, ◌∙◌, ℕ, ◌+◌, ◌-◌, ◌≤◌, nat_le, ◌<◌, Bool, true, false, not, List, [], ◌∷◌, ◌++◌, length, take, drop, codes, Ok, IsTrue, refl, ap, sym, subst, arith}
+use Rattle.std.proofs.Common.{◌≡◌, ◌∙◌, ℕ, ◌+◌, ◌-◌, ◌≤◌, nat_le, Bool, true, false, not, List, [], ◌∷◌, ◌++◌, length, take, drop, codes, Ok, IsTrue, refl, ap, sym, subst, arith}
 use Rattle.std.proofs.lemmas.Bool.{le-leb, cond_both, and_from, and_parts, both_ways, not-true}
 use Rattle.std.proofs.lemmas.List.{drop-drop}
 use Rattle.std.proofs.Math.Seq.{take-append_seam}
@@ -15,7 +15,7 @@ use Rattle.celf_lexer.specs.Spelling.{Spelled, a_word, a_constant, behind_hash, 
 use Rattle.celf_lexer.specs.Tokens.{placed, first_of, next_token, lexeme_of}
 use Rattle.celf_lexer.proofs.Ascii.{IsUtf8-word}
 use Rattle.celf_lexer.proofs.Bounds.{is_word_kind, word_kind-is_word_kind}
-use Rattle.celf_lexer.proofs.Longest.{front-is_front, word_has_byte}
+use Rattle.celf_lexer.proofs.Longest.{front-is_front}
 use Rattle.celf_lexer.proofs.Signs.{member_passes}
 use Rattle.celf_lexer.proofs.Splits.{is_name-word, word_in-word}
 use Rattle.celf_lexer.proofs.Words.{is_name_kind, is_name-word_kind}

@@ -1,12 +1,12 @@
 -- Spelled texts have the tokens that they spell: blanks, words, names behind a $, signs, and the end.
-use Rattle.std.proofs.Common.{IsTrue, ℕ, ◌≡◌, ◌+◌, ◌-◌, ◌<◌, ◌≤◌, ◌==◌, suc, zero, nat_le, Bool, true, false, not, ◌&&◌, ◌||◌, refl, ap, sym, ◌∙◌, List, [], ◌∷◌, ◌++◌, length, take, drop, codes, arith, ⊎_elim}
-use Rattle.std.proofs.lemmas.Bool.{and_parts, or_parts, or_cases, or_left, and_left, and_right, cond_both, ne_eqb, leb-true, le-ltb, not-true}
+use Rattle.std.proofs.Common.{IsTrue, ℕ, ◌≡◌, ◌+◌, ◌-◌, ◌<◌, ◌≤◌, ◌==◌, suc, zero, nat_le, Bool, true, false, not, ◌&&◌, ◌||◌, refl, ap, sym, ◌∙◌, List, [], ◌∷◌, ◌++◌, length, take, drop, codes, arith}
+use Rattle.std.proofs.lemmas.Bool.{and_parts, or_parts, and_left, and_right, ne_eqb, leb-true, le-ltb, not-true}
 use Rattle.std.proofs.lemmas.List.{take_at, drop_at, length-append}
-use Rattle.clf_syntax.specs.Word.{begins_word, goes_on, is_name_byte, name_byte_first, is_word_rest, is_word, is_name, is_declarable, is_keyword, is_hole_word, all_digits, is_capital, same_bytes}
+use Rattle.clf_syntax.specs.Word.{begins_word, is_name_byte, is_word_rest, is_word, is_name, is_declarable, is_keyword, is_hole_word, all_digits, is_capital, same_bytes}
 use Rattle.celf_lexer.specs.declared.token.TokenKind.{TokenKind}
 use Rattle.celf_lexer.specs.declared.token.TokenKind.TheVariants as kind
 use Rattle.celf_lexer.specs.Gap.{is_blank, gap}
-use Rattle.celf_lexer.specs.Sign.{Front, token, long, bad, rest_length, word_length, word_kind, is_back_lolli, of_word, word_front, front}
+use Rattle.celf_lexer.specs.Sign.{Front, token, long, bad, word_length, word_kind, is_back_lolli, of_word, word_front, front}
 use Rattle.celf_lexer.specs.Tokens.{placed, first_of, Lexeme, is_end, token_first, tokens_within, tokens_of}
 use Rattle.celf_lexer.specs.Spelling.{stops_word}
 use Rattle.celf_lexer.proofs.Bounds.{word_kind-no_end}
