@@ -92,4 +92,3 @@ flattened_is_typed z ts us g f p q = weaker (flattened (nested (ranks ts + 1)) 0
     (flattened-fine true (ranks ts + 1) (nested (ranks ts + 1)) (nested-fine true (ranks ts + 1)) z z (to_expression true z g ts p) (omega arith) 0 (length (simple_modes ts)) refl
     (none true (ranks ts + 1) (nested (ranks ts + 1)) (nested-fine true (ranks ts + 1)) z) f us (to_expression true (extended_by ts z) f us q))
     (λ x a. of_expression a)
-
