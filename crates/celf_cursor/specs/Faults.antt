@@ -1,4 +1,4 @@
--- Faults of a reading, as what the machine of the grammar comes to.
+-- Inner: faults of a reading, as what the machine of the grammar comes to.
 use Rattle.std.specs.Prelude.{ℕ, ◌+◌, ◌≡◌, List, [], ◌∷◌, length, Err}
 use Rattle.celf_lexer.specs.declared.token.LexFault.{LexFault}
 use Rattle.celf_lexer.specs.Tokens.{Lexeme, next_token}

@@ -1,4 +1,4 @@
--- What contracts see of local binders: the name and the simple type of each; and their plain forms.
+-- Inner: what contracts see of local binders: the name and the simple type of each; and their plain forms.
 use Rattle.std.specs.Prelude.{ℕ, List, map, Option, option_map}
 use Rattle.clf_syntax.specs.declared.tree.Simple.{Simple}
 use Rattle.clf_syntax.specs.PlainSimple.{plain_simple}

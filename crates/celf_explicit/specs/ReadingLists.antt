@@ -1,4 +1,4 @@
--- The reading of a spine, as one of a list.
+-- Inner: the reading of a spine, as one of a list.
 use Rattle.std.specs.Prelude.{◌≡◌, List, [], ◌∷◌, ◌++◌, Option, Some, option_map, refl}
 use Rattle.std.proofs.Common.{ap}
 use Rattle.clf_syntax.specs.Tree.{PlainElimination}

@@ -1,4 +1,4 @@
--- The names without a meaning in the parts of a list, as one list.
+-- Inner: the names without a meaning in the parts of a list, as one list.
 use Rattle.std.specs.Prelude.{ℕ, ◌≡◌, List, [], ◌∷◌, ◌++◌, refl}
 use Rattle.std.specs.List.{flat_map}
 use Rattle.std.proofs.Common.{ap}

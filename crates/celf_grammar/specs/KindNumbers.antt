@@ -1,4 +1,4 @@
--- A number for each kind of token, by which kinds are told apart.
+-- Inner: a number for each kind of token, by which kinds are told apart.
 use Rattle.std.specs.Prelude.{ℕ, Bool, false, true, ◌==◌}
 use Rattle.celf_lexer.specs.declared.token.TokenKind.{TokenKind}
 use Rattle.celf_lexer.specs.declared.token.TokenKind.TheVariants.{KwType, KwPi, KwExists, KwLet, KwIn, Hole, Number, Name, ConstName, Proj1, Proj2, Directive, Arrow, BackArrow, Lolli, BackLolli, Affine, TopSign, UnitSign, Less, Greater, LeftBrace, RightBrace, LeftParen, RightParen, LeftBracket, RightBracket, Comma, Stop, Colon, Equals, Backslash, Bang, AtSign, Star, Amp, End}

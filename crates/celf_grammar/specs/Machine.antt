@@ -1,4 +1,4 @@
--- A machine that reads tokens one after another and keeps, as a list of symbols, what must still be read. It answers at the first
+-- Inner: a machine that reads tokens one after another and keeps, as a list of symbols, what must still be read. It answers at the first
 -- token with which the reading cannot go on.
 use Rattle.std.specs.Prelude.{ℕ, zero, suc, ◌+◌, Bool, true, false, ◌&&◌, if◌then◌else◌, List, [], ◌∷◌, length, codes}
 use Rattle.std.specs.Str.{bytes_eq}

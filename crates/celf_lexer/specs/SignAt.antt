@@ -1,4 +1,4 @@
--- What a search for a sign answers.
+-- Inner: what a search for a sign answers.
 use Rattle.std.specs.Prelude.{Option, Some, None}
 use Rattle.celf_lexer.specs.declared.sign.Sign.{Sign}
 use Rattle.celf_lexer.specs.Sign.{Front, token, bad}

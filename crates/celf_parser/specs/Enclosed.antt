@@ -1,4 +1,4 @@
--- What types have in common with one another.
+-- Inner: what types have in common with one another.
 use Rattle.std.specs.Prelude.{ℕ, ◌≡◌, List}
 use Rattle.clf_syntax.specs.declared.tree.Mode.{Mode}
 use Rattle.celf_lexer.specs.declared.token.TokenKind.{TokenKind}

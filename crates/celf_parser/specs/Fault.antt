@@ -1,4 +1,4 @@
--- Faults of an item that come from those of a reading.
+-- Inner: faults of an item that come from those of a reading.
 use Rattle.std.specs.Prelude.{ℕ, ◌≡◌, ◌≢◌, List, ◌∷◌, codes, Result, Ok, Err}
 use Rattle.celf_lexer.specs.declared.token.TokenKind.TheVariants.{Directive as DirectiveWord}
 use Rattle.celf_lexer.specs.declared.token.Token.{Token}

@@ -1,4 +1,4 @@
--- Products, factor by factor.
+-- Inner: products, factor by factor.
 use Rattle.std.specs.Prelude.{ℕ, List, [], ◌∷◌, ◌++◌}
 use Rattle.celf_lexer.specs.declared.token.TokenKind.TheVariants.{Star}
 use Rattle.celf_surface.specs.Surface.{WrittenType, tensor, surface}

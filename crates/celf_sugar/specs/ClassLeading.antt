@@ -1,4 +1,4 @@
--- The persistent functions or arguments that a declaration's class begins with.
+-- Inner: the persistent functions or arguments that a declaration's class begins with.
 use Rattle.std.specs.Prelude.{ℕ, ◌+◌}
 use Rattle.celf_sugar.specs.PlainTree.{DesugaredTelescope, end, binding, DesugaredClass, of_family, of_constant}
 use Rattle.celf_sugar.specs.Faults.{leading}

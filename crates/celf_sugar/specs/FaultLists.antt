@@ -1,4 +1,4 @@
--- The redexes of the parts of a list, as one list.
+-- Inner: the redexes of the parts of a list, as one list.
 use Rattle.std.specs.Prelude.{◌≡◌, List, [], ◌∷◌, ◌++◌, refl}
 use Rattle.std.specs.List.{flat_map}
 use Rattle.std.proofs.Common.{ap}

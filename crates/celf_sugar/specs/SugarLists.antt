@@ -1,4 +1,4 @@
--- The plain forms of the parts of a list, as one list.
+-- Inner: the plain forms of the parts of a list, as one list.
 use Rattle.std.specs.Prelude.{◌≡◌, List, [], ◌∷◌, ◌++◌, map, refl}
 use Rattle.std.specs.List.{flat_map}
 use Rattle.std.proofs.Common.{ap}

@@ -1,4 +1,4 @@
--- A neutral's text as it is written along its spine: what stands in front of the head, the head, and what stands behind it.
+-- Inner: a neutral's text as it is written along its spine: what stands in front of the head, the head, and what stands behind it.
 use Rattle.std.specs.Prelude.{ℕ, Bool, true, false, List, [], ◌++◌, codes}
 use Rattle.clf_syntax.specs.Tree.{PlainNeutral, head_alone, app, fst, snd, PlainElimination, arg, first, second}
 use Rattle.clf_sig.specs.Entry.{PlainSignature}
