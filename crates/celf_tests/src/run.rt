@@ -11,7 +11,9 @@ const WORDS: [&str; 2] = ["celf", "file"];
 
 /// The numbers of the statuses.
 const REFUSED: u8 = 3;
+
 const READ_FAULT: u8 = 4;
+
 const WRITE_FAULT: u8 = 5;
 
 fn words_of(alloc: Global, words: &[&str]) -> Result<Vec<Name>, Fail> {
@@ -79,12 +81,7 @@ fn each_call_of_shelf_and_sink_fails_in_turn(rt: HostRuntime) -> Result<(), Fail
         (9, 1, WRITE_FAULT, ""),
         (9, 2, WRITE_FAULT, "a : type.\n"),
         (9, 3, WRITE_FAULT, "a : type.\nb : type.\n"),
-        (
-            9,
-            4,
-            WRITE_FAULT,
-            "a : type.\nb : type.\nc : a -o b.\n",
-        ),
+        (9, 4, WRITE_FAULT, "a : type.\nb : type.\nc : a -o b.\n"),
         (
             9,
             9,
