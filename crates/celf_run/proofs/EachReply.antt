@@ -8,7 +8,7 @@ use Rattle.clf_kernel.specs.Typing.{HasType}
 use Rattle.clf_kernel.specs.Explained.{ExplainedAt}
 use Rattle.clf_kernel.specs.Refusal.{Cause}
 use Rattle.clf_kernel.specs.Outcome.{Outcome, passed, refused as refused_outcome, answer_of}
-use Rattle.clf_kernel.specs.Checking.{checked as checked_outcome}
+use Rattle.clf_kernel.specs.Checking.{staying, checked as checked_outcome}
 use Rattle.clf_kernel.proofs.InReach.{object_in_reach}
 use Rattle.clf_kernel.proofs.Agreement.{checks_exactly}
 use Rattle.clf_kernel.proofs.OneAnswer.{refused_is_explained}
@@ -74,7 +74,7 @@ core-reply : (options : Options) (sig : PlainSignature) (at : ℕ) (core : Plain
 core-reply options sig at (declares n e) b reach =
     (entry (length sig), sig ++ (n, e) ∷ [], accepts options sig (sig ++ (n, e) ∷ []) at n e (entry (length sig)) reach refl refl)
 core-reply options sig at (checks n a) b reach =
-    check-reply options sig at n a b reach (checked_outcome sig [] [] n a) (checks_exactly sig [] [] n a (object_in_reach sig [] [] n a refl refl (simple-signature sig b) reach.0 (without_indices-bare sig a reach.1)))
+    check-reply options sig at n a b reach (checked_outcome staying sig [] [] n a) (checks_exactly sig [] [] n a (object_in_reach sig [] [] n a refl refl (simple-signature sig b) reach.0 (without_indices-bare sig a reach.1)))
 core-reply options sig at (queries a) b reach = absurd reach
 core-reply options sig at (traces t) b reach = absurd reach
 core-reply options sig at (equates n o a) b reach = absurd reach
