@@ -21,7 +21,7 @@ use std::rt::{Env, Runtime};
 /// Ends with the status's number. Where the words are faulty, it tells the usage on standard error.
 fn main(rt: HostRuntime) -> ExitCode {
     let status = answer(&rt);
-    if status == Status::BadWords {
+    if matches!(&status, Status::BadWords) {
         // Where standard error takes nothing, the status tells all the same.
         let _ = eprintln!(rt; "usage: celf FILE");
     }

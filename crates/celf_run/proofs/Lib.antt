@@ -1,3 +1,11 @@
+pub mod Cores
+pub mod Lines
+pub mod Replies
 pub mod Answering
-pub mod Causes
 pub mod Turns
+pub mod Runs
+pub mod Decisions
+pub mod EachReply
+pub mod OneReply
+pub mod OneTask
+pub mod OneTranscript

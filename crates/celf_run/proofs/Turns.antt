@@ -1,46 +1,28 @@
 -- How a turn ends, and how a run goes on from it.
-use Rattle.std.proofs.Common.{ℕ, ◌≡◌, ◌≤◌, Bool, true, false, refl, ap, sym, ◌∙◌, subst, Option, Some, None, List, [], ◌∷◌, ◌++◌, length, take, append_assoc, append-nil}
-use Rattle.celf_surface.specs.Surface.{WrittenItem as Written}
+use Rattle.std.proofs.Common.{ℕ, ◌≡◌, true, false, refl, ap, sym, ◌∙◌, subst, Option, Some, None, List, [], ◌∷◌, ◌++◌, take, append_assoc, append-nil, ◌⊎◌, inl, inr}
+use Rattle.clf_syntax.specs.declared.fault.Want.{Want}
+use Rattle.clf_syntax.specs.declared.fault.Want.TheVariants.{NoMemory as no_memory, TooFar as too_far}
 use Rattle.clf_sig.specs.Entry.{PlainSignature}
-use Rattle.celf_source.specs.Sink.{Appends}
-use Rattle.celf_source.specs.Shelf.{Told, untold, lacking, holding, StandsBehind}
-use Rattle.celf_parser.specs.declared.fault.SyntaxFault.{SyntaxFault}
+use Rattle.celf_source.specs.Sink.{Appends, AppendsPrefix}
 use Rattle.celf_reading.specs.Bare.{IsBareSignature}
 use Rattle.celf_reading.proofs.WellFormed.{bare-signature}
+use Rattle.celf_replies.specs.Reply.{PlainReply, entry, checked, refused, is_refusal}
+use Rattle.celf_replies.specs.Text.{reply_text, IsNumbered}
+use Rattle.celf_run.specs.declared.options.Options.{Options}
 use Rattle.celf_run.specs.declared.status.Status.{Status}
-use Rattle.celf_run.specs.declared.status.Status.TheVariants.{Done, Refused, BadWords, ReadFault, WriteFault, NoMemory, TooLarge}
-use Rattle.celf_run.specs.Transcript.{SourceItem, written, faulty, Answer, Allowed, syntax_fault, byte_of, why, refusal_line, line_of, is_refusal, signature_after, Items, no_more, goes_on, refuses, OnlyBlanks, FirstItem, Begun, nothing, front, beyond}
-use Rattle.celf_run.specs.Answering.{AnswersBy}
-use Rattle.celf_run.specs.Outcome.{Outcome, Run}
-use Rattle.celf_run.specs.Turning.{TakesOn, Reached}
+use Rattle.celf_run.specs.declared.status.Status.TheVariants.{Done, Refused, BadWords, ReadFault, WriteFault, NoMemory, TooLarge, TooFar}
+use Rattle.celf_run.specs.declared.turn.Turn.{Turn as Ended}
+use Rattle.celf_run.specs.declared.turn.Turn.TheVariants.{Next as GoesOn, Ended as Ends}
+use Rattle.celf_run.specs.Source.{Source, IsOver}
+use Rattle.celf_run.specs.Allowed.{Held, holding}
+use Rattle.celf_run.specs.Transcript.{told, Turn, Transcribes, over, goes_on, stops, Begun, nothing, front, beyond}
+use Rattle.celf_run.specs.Run.{Way, whole, cut, silent, way, start, nothing_held}
+use Rattle.celf_run.specs.Turning.{place_in, Answers, WritesFront, WritesWhole, Writes, TakesOn, TextEnds, TextOutcome, Finishes, Turns, Reached, turn_behind, status_of}
+use Rattle.celf_run.proofs.Replies.{allowed-reads_back}
 
-pub outcome-done : (text : List ℕ) (at : ℕ) (sig : PlainSignature) → IsBareSignature sig → OnlyBlanks text at → Outcome text at sig Done []
-outcome-done text at sig b h = (sig, ([], at, refl, (λ _. h), no_more), bare-signature sig b)
-
-items-one : (text : List ℕ) (at : ℕ) (item : SourceItem) → FirstItem text at item → (end : ℕ) × Items text at (item ∷ []) end
-items-one text at (written item) h = (item.span.end, (h, refl))
-items-one text at (faulty fault) h = (length text, (h, refl, refl))
-
-pub outcome-refused : (text : List ℕ) (at : ℕ) (sig : PlainSignature) (item : SourceItem) (answer : Answer) (line : List ℕ) → IsBareSignature sig → FirstItem text at item
-    → Allowed sig text item answer → is_refusal answer ≡ true → line ≡ line_of sig answer → Outcome text at sig Refused line
-outcome-refused text at sig item answer line b h a r e =
-    let items = items-one text at item h in
-    let P : List ℕ → Type 0 = λ l. Outcome text at sig Refused l in
-    subst P (sym e) (sig, (item ∷ [], items.0, items.1, (λ r. absurd (cc r)), refuses a r), bare-signature sig b)
-
--- An answer that is no refusal goes on with what ends the run behind it.
-pub outcome-onward : (text : List ℕ) (at : ℕ) (sig : PlainSignature) (item : Written) (answer : Answer) (rest : List ℕ) (status : Status)
-    → FirstItem text at (written item) → Allowed sig text (written item) answer → is_refusal answer ≡ false
-    → Outcome text item.span.end (signature_after sig answer) status rest → Outcome text at sig status (line_of sig answer ++ rest)
-outcome-onward text at sig item answer rest Done h a r (last, (items, end, all, complete, answers), formed) =
-    (last, (written item ∷ items, end, (h, all), complete, goes_on a r answers), formed)
-outcome-onward text at sig item answer rest Refused h a r (last, (items, end, all, complete, answers), formed) =
-    (last, (written item ∷ items, end, (h, all), complete, goes_on a r answers), formed)
-outcome-onward text at sig item answer rest WriteFault h a r o = beyond h a r o
-outcome-onward text at sig item answer rest NoMemory h a r o = beyond h a r o
-outcome-onward text at sig item answer rest BadWords h a r o = o
-outcome-onward text at sig item answer rest ReadFault h a r o = o
-outcome-onward text at sig item answer rest TooLarge h a r o = o
+pub appends-nothing : (x y : Option (List ℕ)) → y ≡ x → Appends [] x y
+appends-nothing None y e = tt
+appends-nothing (Some x) y e = e ∙ ap Some (sym (append-nil x))
 
 -- What is appended in two parts.
 appends-twice : (a b : List ℕ) (x y z : Option (List ℕ)) → Appends a x y → Appends b y z → Appends (a ++ b) x z
@@ -50,59 +32,94 @@ appends-twice a b (Some x) (Some y) z p q =
     let y_is : y ≡ x ++ a = cc in
     q ∙ ap (λ l. Some (l ++ b)) y_is ∙ ap Some (append_assoc x a b)
 
-pub appends-nothing : (x y : Option (List ℕ)) → y ≡ x → Appends [] x y
-appends-nothing None y e = tt
-appends-nothing (Some x) y e = e ∙ ap Some (sym (append-nil x))
+-- ---- what is written of a reply
 
--- The turn is over: what was written is the front of the item's line, or nothing.
-pub AnswersBy-begun : (text : List ℕ) (at n : ℕ) (sig new : PlainSignature) (item : SourceItem) (was_refused : Bool) (line : List ℕ) → FirstItem text at item
-    → AnswersBy (Allowed sig text item) sig was_refused line new → Begun text at sig (take n line)
-AnswersBy-begun text at n sig new item was_refused line h (answer, a, l, r, s) =
-    let P : List ℕ → Type 0 = λ w. Begun text at sig (take n w) in subst P (sym l) (front n h a)
+pub writes-given_up : (sig : PlainSignature) (reply : PlainReply) (end : ℕ) (w : Option (List ℕ)) (want : Want) → Writes sig reply end w w (Ends (status_of want))
+writes-given_up sig reply end w no_memory = record { written = []; appends = appends-nothing w w refl; is_front = inl refl }
+writes-given_up sig reply end w (too_far x) = record { written = []; appends = appends-nothing w w refl; is_front = inl refl }
 
-pub AnswersBy-refused : (text : List ℕ) (at : ℕ) (sig new : PlainSignature) (item : SourceItem) (line : List ℕ) → IsBareSignature sig → FirstItem text at item
-    → AnswersBy (Allowed sig text item) sig true line new → Outcome text at sig Refused line
-AnswersBy-refused text at sig new item line b h (answer, a, l, r, s) = outcome-refused text at sig item answer line b h a (sym r) l
+pub writes-whole : (sig : PlainSignature) (reply : PlainReply) (end : ℕ) (before after : Option (List ℕ)) → IsNumbered reply → Appends (reply_text sig reply) before after
+    → Writes sig reply end before after (turn_behind reply end)
+writes-whole sig (entry k) end before after n a = (refl, refl, record { numbered = n; appends = a })
+writes-whole sig (checked o t) end before after n a = (refl, refl, record { numbered = n; appends = a })
+writes-whole sig (refused r) end before after n a = (refl, record { numbered = n; appends = a })
 
-pub AnswersBy-onward : (text : List ℕ) (at : ℕ) (sig new : PlainSignature) (item : Written) (line : List ℕ) (before after : Option (List ℕ)) → FirstItem text at (written item)
-    → AnswersBy (Allowed sig text (written item)) sig false line new → Appends line before after → TakesOn text at sig new item.span.end before after
-AnswersBy-onward text at sig new item line before after h (answer, a, l, r, s) w =
-    let told : Appends (line_of sig answer) before after = subst (λ (x : List ℕ). Appends x before after) l w in
-    record { item = item; answer = answer; first = h; behind = refl; allowed = a; taken = sym r; signature = s; told = told }
+pub writes-front : (sig : PlainSignature) (reply : PlainReply) (text : List ℕ) (before after : Option (List ℕ)) → IsNumbered reply → text ≡ reply_text sig reply
+    → AppendsPrefix text before after → WritesFront sig reply before after
+writes-front sig reply text before after n e (count, within, a) =
+    record { written = take count text; appends = a; is_front = inr (n, count, ap (take count) e) }
 
--- A fault of words or grammar is refused at its byte.
-pub fault-refused : (text : List ℕ) (at : ℕ) (sig : PlainSignature) (fault : SyntaxFault) (line : List ℕ) → IsBareSignature sig → FirstItem text at (faulty fault)
-    → line ≡ refusal_line (byte_of fault) (why text fault) → Outcome text at sig Refused line
-fault-refused text at sig fault line b h l = outcome-refused text at sig (faulty fault) _ line b h syntax_fault refl l
+-- Nothing is left.
+pub finishes-over : (options : Options) (source : Source) (sig : PlainSignature) (before : Option (List ℕ)) → IsBareSignature sig → IsOver source
+    → Finishes options source (holding sig) before before Done
+finishes-over options source sig before b h = ([], appends-nothing before before refl, (holding sig, over h, bare-signature sig b))
 
-pub fault-begun : (text : List ℕ) (at n : ℕ) (sig : PlainSignature) (fault : SyntaxFault) (line : List ℕ) → FirstItem text at (faulty fault)
-    → line ≡ refusal_line (byte_of fault) (why text fault) → Begun text at sig (take n line)
-fault-begun text at n sig fault line h l =
-    let P : List ℕ → Type 0 = λ w. Begun text at sig (take n w) in
-    subst P (sym l) (front {sig = sig} {item = faulty fault} n h syntax_fault)
+-- Nothing was written before the run was given up.
+pub finishes-given_up : (options : Options) (source : Source) (held : Held) (before : Option (List ℕ)) (want : Want)
+    → Finishes options source held before before (status_of want)
+finishes-given_up options source held before no_memory = ([], appends-nothing before before refl, nothing)
+finishes-given_up options source held before (too_far w) = ([], appends-nothing before before refl, nothing)
 
-pub reached-start : (text : List ℕ) (w : Option (List ℕ)) → Reached text 0 [] w w
-reached-start text w = ([], appends-nothing w w refl, (λ status rest o. o))
+module _ (options : Options) (source : Source) (old : PlainSignature) (reply : PlainReply) (behind : Source) (new : PlainSignature) (formed : IsBareSignature old) (formed_behind : IsBareSignature new) (a : Answers options source (holding old) reply behind (holding new)) where
+  -- A reply that is printed makes a turn.
+  turn-of : IsNumbered reply → Turn options source (holding old) reply behind (holding new)
+  turn-of n = record { task = a.task; next = a.next; allowed = a.allowed; reads_back = allowed-reads_back options (holding old) (holding new) a.task reply formed a.allowed n }
 
-pub reached-onward : (text : List ℕ) (at end : ℕ) (sig new : PlainSignature) (before now after : Option (List ℕ)) → Reached text at sig before now → TakesOn text at sig new end now after
-    → Reached text end new before after
-reached-onward text at end sig new before now after (so_far, appended, goes) t =
-    let line : List ℕ = line_of sig t.answer in
-    let on : (status : Status) (rest : List ℕ) → Outcome text end new status rest → Outcome text 0 [] status ((so_far ++ line) ++ rest) =
+  -- The front of a reply is written.
+  front-begun : (before after : Option (List ℕ)) → WritesFront new reply before after
+      → (written : List ℕ) × Appends written before after × Begun options source (holding old) written
+  front-begun before after w = (w.written, w.appends, go w.is_front)
+    where
+      go : (w.written ≡ []) ⊎ (IsNumbered reply × (n : ℕ) × (w.written ≡ take n (reply_text new reply))) → Begun options source (holding old) w.written
+      go (inl e) = subst (Begun options source (holding old)) (sym e) nothing
+      go (inr (n, k, e)) = subst (Begun options source (holding old)) (sym e) (front k (turn-of n))
+
+  written-turns : (before after : Option (List ℕ)) (text : List ℕ) (at end : ℕ) → source ≡ place_in text at → behind ≡ place_in text end → (r : Ended)
+      → Writes new reply end before after r → Turns options text at (holding old) (holding new) before after r
+  written-turns before after text at end s_is b_is (GoesOn e) (e_is, on, w) =
+      let P : Source → Source → Type 0 = λ s b. Turn options s (holding old) reply b (holding new) in
+      let behind_is : behind ≡ place_in text e = b_is ∙ ap (place_in text) (sym e_is) in
+      record { reply = reply; turn = subst (λ b. P (place_in text at) b) behind_is (subst (λ s. P s behind) s_is (turn-of w.numbered)); taken = on; told = w.appends }
+  written-turns before after text at end s_is b_is (Ends Refused) (over_is, w) =
+      subst (λ s. Finishes options s (holding old) before after Refused) s_is
+      (told options (holding new) reply, w.appends, (holding new, stops (turn-of w.numbered) over_is, bare-signature new formed_behind))
+  written-turns before after text at end s_is b_is (Ends WriteFault) w = subst (λ s. Finishes options s (holding old) before after WriteFault) s_is (front-begun before after w)
+  written-turns before after text at end s_is b_is (Ends NoMemory) w = subst (λ s. Finishes options s (holding old) before after NoMemory) s_is (front-begun before after w)
+  written-turns before after text at end s_is b_is (Ends (TooFar x)) w = subst (λ s. Finishes options s (holding old) before after (TooFar x)) s_is (front-begun before after w)
+  written-turns before after text at end s_is b_is (Ends Done) w = absurd w
+  written-turns before after text at end s_is b_is (Ends BadWords) w = absurd w
+  written-turns before after text at end s_is b_is (Ends ReadFault) w = absurd w
+  written-turns before after text at end s_is b_is (Ends TooLarge) w = absurd w
+
+-- What was told of a reply comes to a turn.
+pub turns : (options : Options) (text : List ℕ) (at end : ℕ) (old new : PlainSignature) (reply : PlainReply) (before after : Option (List ℕ)) (r : Ended)
+    → IsBareSignature old → IsBareSignature new → Answers options (place_in text at) (holding old) reply (place_in text end) (holding new)
+    → Writes new reply end before after r → Turns options text at (holding old) (holding new) before after r
+turns options text at end old new reply before after r b c a w =
+    written-turns options (place_in text at) old reply (place_in text end) new b c a before after text at end refl refl r w
+
+-- A turn that takes on goes on with what ends the run behind it.
+onward : (w : Way) (options : Options) (source behind : Source) (old new : Held) (reply : PlainReply) (rest : List ℕ) (status : Status)
+    → Turn options source old reply behind new → is_refusal reply ≡ false → TextEnds w options behind new status rest
+    → TextEnds w options source old status (told options new reply ++ rest)
+onward whole options source behind old new reply rest status t r (last, goes, formed) = (last, goes_on t r goes, formed)
+onward cut options source behind old new reply rest status t r begun = beyond t r begun
+onward silent options source behind old new reply rest status t r none = none
+
+pub reached-start : (options : Options) (text : List ℕ) (w : Option (List ℕ)) → Reached options text 0 nothing_held w w
+reached-start options text w = record { so_far = []; appends = appends-nothing w w refl; goes = λ status rest o. o }
+
+pub reached-onward : (options : Options) (text : List ℕ) (at end : ℕ) (old new : Held) (before now after : Option (List ℕ)) → Reached options text at old before now
+    → TakesOn options (place_in text at) old (place_in text end) new now after → Reached options text end new before after
+reached-onward options text at end old new before now after r t =
+    let line : List ℕ = told options new t.reply in
+    let on : (status : Status) (rest : List ℕ) → TextOutcome options (place_in text end) new status rest → TextOutcome options (start text) nothing_held status ((r.so_far ++ line) ++ rest) =
     λ status rest o.
-    let P : PlainSignature → Type 0 = λ s. Outcome text t.item.span.end s status rest in
-    let here = subst P t.signature (subst (λ (k : ℕ). Outcome text k new status rest) (sym t.behind) o) in
-    let whole = goes status (line ++ rest) (outcome-onward text at sig t.item t.answer rest status t.first t.allowed t.taken here) in
-    subst (λ (l : List ℕ). Outcome text 0 [] status l) (sym (append_assoc so_far line rest)) whole in
-    (so_far ++ line, appends-twice so_far line before now after appended t.told, on)
+    subst (λ (l : List ℕ). TextOutcome options (start text) nothing_held status l) (sym (append_assoc r.so_far line rest))
+    (r.goes status (line ++ rest) (onward (way status) options (place_in text at) (place_in text end) old new t.reply rest status t.turn t.taken o)) in
+    record { so_far = r.so_far ++ line; appends = appends-twice r.so_far line before now after r.appends t.told; goes = on }
 
-pub reached-ended : (text : List ℕ) (at : ℕ) (sig : PlainSignature) (before now after : Option (List ℕ)) (status : Status) (rest : List ℕ) → Reached text at sig before now
-    → Appends rest now after → Outcome text at sig status rest → (all : List ℕ) × Appends all before after × Outcome text 0 [] status all
-reached-ended text at sig before now after status rest (so_far, appended, goes) w o =
-    (so_far ++ rest, appends-twice so_far rest before now after appended w, goes status rest o)
-
--- Where memory runs out before the file is read, nothing is written.
-pub run-no_memory : (told : Told) (limit : ℕ) (left w : Option (List ℕ)) → (taken : ℕ) × (taken ≤ limit) × StandsBehind told taken left → Run told NoMemory w w
-run-no_memory untold limit left w h = tt
-run-no_memory lacking limit left w h = absurd h.2
-run-no_memory (holding text) limit left w h = ([], appends-nothing w w refl, nothing)
+pub reached-finishes : (options : Options) (text : List ℕ) (at : ℕ) (held : Held) (before now after : Option (List ℕ)) (status : Status) → Reached options text at held before now
+    → Finishes options (place_in text at) held now after status → Finishes options (start text) nothing_held before after status
+reached-finishes options text at held before now after status r (rest, appended, o) =
+    (r.so_far ++ rest, appends-twice r.so_far rest before now after r.appends appended, r.goes status rest o)

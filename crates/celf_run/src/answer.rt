@@ -1,123 +1,113 @@
 //! Answers to items.
-ghost use Rattle.std.specs.Prelude.{ℕ, List, ◌≡◌, ◌≢◌, ◌++◌, IfOk, OnOk, OnErr, true, codes};
+ghost use Rattle.std.specs.Prelude.{◌≡◌, IfOk, IfErr, OnErr};
 ghost use Rattle.clf_sig.specs.Signature.{plain_signature};
 ghost use Rattle.celf_surface.specs.Surface.{written_item};
-ghost use Rattle.celf_sugar.specs.Sugar.{desugared};
+ghost use Rattle.celf_parser.specs.Place.{HasDeclarableName};
 ghost use Rattle.celf_sugar.specs.Plain.{desugared_item};
-ghost use Rattle.celf_sugar.specs.Faults.{fault_start};
 ghost use Rattle.celf_reading.specs.Bare.{IsBareSignature};
-ghost use Rattle.celf_run.specs.Transcript.{written, sugar_why, is_later, Allowed, PlainAllowed};
-ghost use Rattle.celf_run.specs.Answering.{AnswersBy, IsDeclarable, RefusedSo};
+ghost use Rattle.celf_replies.specs.Reply.{plain_reply, refused};
+ghost use Rattle.celf_run.specs.Allowed.{Allowed, PlainAllowed, NamePasses, holding};
+ghost use Rattle.celf_run.specs.Answering.{MayBeDeclared, unknown_refusal};
+ghost use Rattle.celf_run.specs.Source.{written};
+ghost use Rattle.clf_syntax.specs.Wide.{IsWant};
 
-use crate::check::check;
-use crate::declare::declare;
-use crate::refusal::refusal_line;
-use celf_explicit::first_unknown;
-use celf_sugar::{PName, Plain, PlainBody, SugarFault, desugar};
+use crate::fault::sugar_refusal;
+use crate::judged::answer_core;
+use crate::name::barred_name;
+use crate::options::Options;
+use celf_explicit::{UnknownName, explicit};
+use celf_replies::{Reply, Why};
+use celf_sugar::{Plain, desugar};
 use celf_surface::Item;
 use clf_sig::Signature;
-use std::alloc::{AllocError, Global};
+use clf_syntax::{OrWide, Want};
+use std::alloc::Global;
 
-/// The line of an answer, and whether the item is refused.
-#[derive(Drop)]
-pub struct Answered {
-    pub line: Vec<u8>,
-    pub refused: bool,
-}
-
-/// Answers an item; only an accepted declaration changes the signature.
-pub fn answer(alloc: Global, sig: &mut Signature, item: &Item) -> Result<Answered, AllocError>
+/// Answers one item. Only an accepted declaration changes the signature.
+///
+/// The signature is bare: all that is answered so far is over such a one. The name of a declaration is one that may be declared, as in
+/// every item of a text.
+pub fn answer_item(
+    alloc: Global,
+    sig: &mut Signature,
+    options: &Options,
+    item: &Item,
+) -> Result<Reply, Want>
     requires bare { IsBareSignature (plain_signature sig.old) }
-    requires name { IsDeclarable (desugared (written_item item.now)).body }
-    ensures answered { IfOk result (λ a. (text : List ℕ)
-        → AnswersBy (Allowed (plain_signature sig.old) text (written (written_item item.now))) (plain_signature sig.old) a.refused a.line.items (plain_signature sig.new)) }
+    requires name { HasDeclarableName (written_item item.now).body }
+    ensures allowed { IfOk result (λ reply. Allowed options.now (holding (plain_signature sig.old)) (written (written_item item.now)) (plain_reply reply) (holding (plain_signature sig.new))) }
     ensures bare { IsBareSignature (plain_signature sig.new) }
-    ensures err { OnErr result (sig.new ≡ sig.old) }
+    ensures unchanged { OnErr result (sig.new ≡ sig.old) }
+    ensures wide { IfErr result IsWant }
 {
     match desugar(alloc, item) {
         Ok(plain) => {
-            let answered = answer_plain(alloc, sig, &plain);
+            let reply = answer_plain(alloc, sig, options, &plain);
             // By a call: dropped at the end, each form of its trees would be a case of this function.
             drop(plain);
-            answered
+            reply
         }
-        Err(fault) => sugar_refusal(alloc, fault),
+        Err(fault) => sugar_refusal(fault),
     }
 }
 
 /// Answers an item without sugar.
-fn answer_plain(alloc: Global, sig: &mut Signature, plain: &Plain) -> Result<Answered, AllocError>
+fn answer_plain(
+    alloc: Global,
+    sig: &mut Signature,
+    options: &Options,
+    plain: &Plain,
+) -> Result<Reply, Want>
     requires bare { IsBareSignature (plain_signature sig.old) }
-    requires name { IsDeclarable (desugared_item plain.now).body }
-    ensures answered { IfOk result (λ a. AnswersBy (PlainAllowed (plain_signature sig.old) (desugared_item plain.now)) (plain_signature sig.old) a.refused a.line.items (plain_signature sig.new)) }
+    requires name { MayBeDeclared (desugared_item plain.now) }
+    ensures allowed { IfOk result (λ reply. PlainAllowed options.now (holding (plain_signature sig.old)) (desugared_item plain.now) (plain_reply reply) (holding (plain_signature sig.new))) }
     ensures bare { IsBareSignature (plain_signature sig.new) }
-    ensures err { OnErr result (sig.new ≡ sig.old) }
+    ensures unchanged { OnErr result (sig.new ≡ sig.old) }
+    ensures wide { IfErr result IsWant }
 {
-    match &plain.body {
-        PlainBody::Declare {
-            name,
-            implicit,
-            class,
-        } => declare(alloc, sig, plain, name.as_str(), *implicit, class),
-        PlainBody::Check { obj, ty } => check(alloc, sig, plain, obj, ty),
-        PlainBody::Query { .. } | PlainBody::Trace { .. } | PlainBody::Equal { .. } => later(
-            alloc, sig, plain,
-        ),
+    let at = plain.span.start;
+    match barred_name(alloc, sig, plain) {
+        Ok(None) => answer_named(alloc, sig, options, plain),
+        Ok(Some(why)) => Ok(Reply::Refused { at, why }),
+        Err(_) => Err(Want::NoMemory),
     }
 }
 
-/// Answers what is not answered yet: where all its names have a meaning, that says so.
-fn later(alloc: Global, sig: &Signature, plain: &Plain) -> Result<Answered, AllocError>
-    requires later { is_later (desugared_item plain.now).body ≡ true }
-    ensures answered { IfOk result (λ a. AnswersBy (PlainAllowed (plain_signature sig.now) (desugared_item plain.now)) (plain_signature sig.now) a.refused a.line.items (plain_signature sig.now)) }
+/// Answers an item against whose name nothing stands.
+fn answer_named(
+    alloc: Global,
+    sig: &mut Signature,
+    options: &Options,
+    plain: &Plain,
+) -> Result<Reply, Want>
+    requires bare { IsBareSignature (plain_signature sig.old) }
+    requires name { MayBeDeclared (desugared_item plain.now) }
+    requires passes { NamePasses (plain_signature sig.old) (desugared_item plain.now) }
+    ensures allowed { IfOk result (λ reply. PlainAllowed options.now (holding (plain_signature sig.old)) (desugared_item plain.now) (plain_reply reply) (holding (plain_signature sig.new))) }
+    ensures bare { IsBareSignature (plain_signature sig.new) }
+    ensures unchanged { OnErr result (sig.new ≡ sig.old) }
+    ensures wide { IfErr result IsWant }
 {
-    match first_unknown(alloc, sig, plain)? {
-        Some(name) => unknown_name(alloc, name),
-        None => not_yet(alloc, plain),
+    let at = plain.span.start;
+    match explicit(alloc, sig, plain) {
+        Ok(Some(core)) => answer_core(alloc, sig, options, at, core),
+        Ok(None) => Ok(Reply::Refused {
+            at,
+            why: Why::NotYet,
+        }),
+        Err(OrWide::Fault(unknown)) => Ok(unknown_name(unknown)),
+        Err(OrWide::NoMemory) => Err(Want::NoMemory),
+        Err(OrWide::TooFar(wide)) => Err(Want::TooFar(wide)),
     }
 }
 
-/// The refusal of a line.
-pub fn refused(alloc: Global, at: u32, why: &[u8], name: &[u8]) -> Result<Answered, AllocError>
-    ensures { IfOk result (λ a. RefusedSo at (why.now ++ name.now) a.refused a.line.items) }
+/// The refusal of an item that has a name without a meaning.
+fn unknown_name(unknown: UnknownName) -> Reply
+    ensures { plain_reply result ≡ refused (unknown_refusal unknown.span.start unknown.name) }
 {
-    let line = refusal_line(alloc, at, why, name)?;
-    Ok(Answered {
-        line,
-        refused: true,
-    })
-}
-
-/// The refusal of a name that has no meaning.
-pub fn unknown_name(alloc: Global, name: &PName) -> Result<Answered, AllocError>
-    ensures { IfOk result (λ a. RefusedSo name.now.span.start (codes "unknown name " ++ name.now.name) a.refused a.line.items) }
-{
-    refused(
-        alloc,
-        name.span.start,
-        b"unknown name ",
-        name.name.as_str().as_bytes(),
-    )
-}
-
-/// The refusal of an item that is not answered yet.
-pub fn not_yet(alloc: Global, plain: &Plain) -> Result<Answered, AllocError>
-    ensures { IfOk result (λ a. RefusedSo plain.now.span.start (codes "not yet") a.refused a.line.items) }
-{
-    refused(alloc, plain.span.start, b"not yet", b"")
-}
-
-/// The refusal of a fault beyond the grammar.
-fn sugar_refusal(alloc: Global, fault: SugarFault) -> Result<Answered, AllocError>
-    ensures refused { IfOk result (λ a. RefusedSo (fault_start fault) (sugar_why fault) a.refused a.line.items) }
-    ensures memory { OnOk result (fault ≢ SugarFault.NoMemory) }
-{
-    match fault {
-        SugarFault::KindPlace(span) => refused(alloc, span.start, b"misplaced type", b""),
-        SugarFault::NotAsync(span) => refused(alloc, span.start, b"synchronous type", b""),
-        SugarFault::Redex(span) => refused(alloc, span.start, b"redex", b""),
-        SugarFault::OutOfRange(span) => refused(alloc, span.start, b"number out of range", b""),
-        SugarFault::BadImplicit(span) => refused(alloc, span.start, b"implicit count", b""),
-        SugarFault::NoMemory => Err(AllocError),
+    let UnknownName { name, span } = unknown;
+    Reply::Refused {
+        at: span.start,
+        why: Why::UnknownName(name),
     }
 }

@@ -2,8 +2,10 @@
 ghost use Rattle.std.specs.Prelude.{◌≡◌};
 ghost use Rattle.celf_run.specs.Number.{number_of};
 
+use clf_syntax::Wide;
+
 /// How a run ended; `number` is the program's exit status.
-#[derive(Clone, Copy, Debug, PartialEq, Eq)]
+#[derive(Drop)]
 pub enum Status {
     /// Every item was answered.
     Done,
@@ -19,12 +21,14 @@ pub enum Status {
     NoMemory,
     /// The file has more than 16,777,216 bytes; nothing was written.
     TooLarge,
+    /// A number that counts binders or parts would pass its range; written is what is written at `NoMemory`.
+    TooFar(Wide),
 }
 
 impl Status {
     /// The exit status of the program.
-    pub fn number(self) -> u8
-        ensures { result ≡ number_of self }
+    pub fn number(&self) -> u8
+        ensures { result ≡ number_of self.now }
     {
         match self {
             Status::Done => 0,
@@ -34,6 +38,7 @@ impl Status {
             Status::WriteFault => 5,
             Status::NoMemory => 6,
             Status::TooLarge => 7,
+            Status::TooFar(_) => 8,
         }
     }
 }

@@ -1,6 +1,6 @@
 //! Runs over files that are held in memory, whose calls fail in turn. What is answered to which text stands in tests/, as files,
 //! and tools/check-limits tries the words of the command.
-use celf_run::{Status, run};
+use celf_run::run;
 use celf_source::{MemShelf, MemSink, Shelf, ShelfFile, Sink, SureSink};
 use clf_syntax::Name;
 use std::alloc::Global;
@@ -8,6 +8,13 @@ use std::process::Abort;
 use std::test::Fail;
 
 const WORDS: [&str; 2] = ["celf", "file"];
+
+/// The numbers of the statuses.
+const REFUSED: u8 = 3;
+
+const READ_FAULT: u8 = 4;
+
+const WRITE_FAULT: u8 = 5;
 
 fn words_of(alloc: Global, words: &[&str]) -> Result<Vec<Name>, Fail> {
     let mut names = Vec::new(alloc);
@@ -17,12 +24,13 @@ fn words_of(alloc: Global, words: &[&str]) -> Result<Vec<Name>, Fail> {
     Ok(names)
 }
 
-fn answer<F: Shelf, W: Sink>(alloc: Global, shelf: &mut F, out: &mut W) -> Result<Status, Fail> {
+/// The number of the status with which a run ends.
+fn answer<F: Shelf, W: Sink>(alloc: Global, shelf: &mut F, out: &mut W) -> Result<u8, Fail> {
     let words = words_of(alloc, &WORDS)?;
-    Ok(run(alloc, words.as_slice(), shelf, out))
+    Ok(run(alloc, words.as_slice(), shelf, out).number())
 }
 
-fn assert_same(rt: &impl Abort, ended: Status, status: Status, written: &[u8], wanted: &[u8]) {
+fn assert_same(rt: &impl Abort, ended: u8, status: u8, written: &[u8], wanted: &[u8]) {
     assert_eq!(rt; ended, status);
     assert_eq!(rt; written, wanted);
 }
@@ -42,7 +50,7 @@ fn assert_failing(
     alloc: Global,
     reading: u64,
     writing: u64,
-    status: Status,
+    status: u8,
     written: &str,
 ) -> Result<(), Fail> {
     let mut shelf = shelf_with(alloc, reading)?;
@@ -58,7 +66,7 @@ fn a_run_needs_its_file(rt: HostRuntime) -> Result<(), Fail> {
     let mut empty = MemShelf::new(alloc, Vec::new(alloc), Vec::new(alloc))?;
     let mut out = SureSink::new(alloc)?;
     let ended = answer(alloc, &mut empty, &mut out)?;
-    assert_same(&rt, ended, Status::ReadFault, out.written(), b"");
+    assert_same(&rt, ended, READ_FAULT, out.written(), b"");
     Ok(())
 }
 
@@ -67,22 +75,17 @@ fn each_call_of_shelf_and_sink_fails_in_turn(rt: HostRuntime) -> Result<(), Fail
     let alloc = rt.alloc();
     // One call opens the file and two read it; a call is made for each line. No call has the number 9.
     for (reading, writing, status, written) in [
-        (1, 9, Status::ReadFault, ""),
-        (2, 9, Status::ReadFault, ""),
-        (3, 9, Status::ReadFault, ""),
-        (9, 1, Status::WriteFault, ""),
-        (9, 2, Status::WriteFault, "a : type.\n"),
-        (9, 3, Status::WriteFault, "a : type.\nb : type.\n"),
-        (
-            9,
-            4,
-            Status::WriteFault,
-            "a : type.\nb : type.\nc : a -o b.\n",
-        ),
+        (1, 9, READ_FAULT, ""),
+        (2, 9, READ_FAULT, ""),
+        (3, 9, READ_FAULT, ""),
+        (9, 1, WRITE_FAULT, ""),
+        (9, 2, WRITE_FAULT, "a : type.\n"),
+        (9, 3, WRITE_FAULT, "a : type.\nb : type.\n"),
+        (9, 4, WRITE_FAULT, "a : type.\nb : type.\nc : a -o b.\n"),
         (
             9,
             9,
-            Status::Refused,
+            REFUSED,
             "a : type.\nb : type.\nc : a -o b.\nrefused at 36: unknown name e.\n",
         ),
     ] {

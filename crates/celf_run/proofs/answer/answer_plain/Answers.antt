@@ -1,25 +1,17 @@
-use Rattle.std.proofs.Common.{ap, subst, List, ℕ}
-use Rattle.std.specs.Prelude.{IfOk}
+use Rattle.std.proofs.Common.{subst, Option, option_map}
 use Rattle.clf_sig.specs.Signature.{plain_signature}
-use Rattle.celf_sugar.specs.Plain.{desugared_item, body_of, class_of, desugared_object, desugared_type}
-use Rattle.celf_run.specs.declared.answer.Answered.{Answered}
-use Rattle.celf_run.specs.Answering.{AnswersBy}
-use Rattle.celf_run.specs.Transcript.{Declared, Checked, PlainAllowed, declares, checks}
-use Rattle.celf_run.proofs.Answering.{answers-as}
+use Rattle.celf_sugar.specs.Plain.{desugared_item}
+use Rattle.celf_replies.specs.declared.reply.Why.{Why}
+use Rattle.celf_replies.specs.Reply.{plain_why}
+use Rattle.celf_run.specs.Allowed.{by_name, barred}
+use Rattle.celf_run.specs.Answering.{NameVerdict}
 use Rattle.celf_run.proofs.answer.answer_plain.Goals as goal
 
-pub returns-in-Declare-clause-answered : goal.returns-in-Declare-clause-answered
-returns-in-Declare-clause-answered c =
-    let sig = plain_signature c.args.sig.now in
-    let new = plain_signature c.declare.new.sig in
-    let item = desugared_item c.args.plain.now in
-    let class = class_of c.in-Declare.class in
-    let P : List ℕ → Type 0 = λ n. IfOk c.declare.result (λ (a : Answered). AnswersBy (Declared sig item n c.in-Declare.implicit class) sig a.refused a.line.items new) in
-    answers-as (Declared sig item c.in-Declare.name c.in-Declare.implicit class) (PlainAllowed sig item) sig new c.declare.result (λ a d. declares (ap body_of c.in-Declare.is) d)
-    (subst P c.as_str.ensures c.declare.ensures.answered)
+pub answer_named-requires-clause-passes : goal.answer_named-requires-clause-passes
+answer_named-requires-clause-passes c =
+    subst (λ (o : Option Why). NameVerdict (plain_signature c.args.sig.now) (desugared_item c.args.plain.now) (option_map plain_why o)) c.in-Ok-None.field-0-is c.in-Ok-None.ensures
 
-pub returns-in-Check-clause-answered : goal.returns-in-Check-clause-answered
-returns-in-Check-clause-answered c =
-    let sig = plain_signature c.args.sig.now in
-    let item = desugared_item c.args.plain.now in
-    answers-as (Checked sig item (desugared_object c.in-Check.obj) (desugared_type c.in-Check.ty)) (PlainAllowed sig item) sig sig c.check.result (λ a d. checks (ap body_of c.in-Check.is) d) c.check.ensures.answered
+pub returns-in-Ok-Some-clause-allowed : goal.returns-in-Ok-Some-clause-allowed
+returns-in-Ok-Some-clause-allowed c =
+    let verdict = subst (λ (o : Option Why). NameVerdict (plain_signature c.args.sig.now) (desugared_item c.args.plain.now) (option_map plain_why o)) c.in-Ok-Some.field-0-is c.in-Ok-Some.ensures in
+    barred (by_name verdict)

@@ -1,20 +1,28 @@
-use Rattle.std.proofs.Common.{arith}
-use Rattle.celf_run.proofs.Turns.{reached-onward, reached-ended}
+use Rattle.std.proofs.Common.{arith, subst}
+use Rattle.clf_sig.specs.Signature.{plain_signature}
+use Rattle.celf_run.specs.declared.turn.Turn.{Turn}
+use Rattle.celf_run.specs.Allowed.{holding}
+use Rattle.celf_run.specs.Turning.{Turns}
+use Rattle.celf_run.proofs.Turns.{reached-onward, reached-finishes}
 use Rattle.celf_run.proofs.top.answer_all.Goals as goal
 
 pub items-preserved : goal.items-preserved
 items-preserved g c =
     let onward = c.next_turn.ensures.onward c.in-Next.end c.in-Next.is in
-    let taken = c.next_turn.ensures.next c.in-Next.end c.in-Next.is in
+    let old = holding (plain_signature c.items.sig) in
+    let new = holding (plain_signature c.next_turn.new.sig) in
+    let taken = subst (λ (t : Turn). Turns c.args.options.now c.args.bytes.now c.items.at old new (g.W.Sink.written c.items.out) (g.W.Sink.written c.next_turn.new.out) t) c.in-Next.is c.next_turn.ensures.turned in
     let faults = c.next_turn.ensures.faults in
     record {
       place = onward.1;
       bare = c.next_turn.ensures.bare;
       faults = omega arith;
-      reached = reached-onward _ _ _ _ _ _ _ _ c.items.invariant.reached taken;
+      reached = reached-onward c.args.options.now c.args.bytes.now c.items.at c.in-Next.end old new _ _ _ c.items.invariant.reached taken;
     }
 
 pub returns-in-Ended-clause-ended : goal.returns-in-Ended-clause-ended
 returns-in-Ended-clause-ended g c =
-    let t = c.next_turn.ensures.ended c.in-Ended.status c.in-Ended.is in
-    reached-ended _ _ _ _ _ _ _ t.0 c.items.invariant.reached t.1 t.2
+    let old = holding (plain_signature c.items.sig) in
+    let new = holding (plain_signature c.next_turn.new.sig) in
+    let ended = subst (λ (t : Turn). Turns c.args.options.now c.args.bytes.now c.items.at old new (g.W.Sink.written c.items.out) (g.W.Sink.written c.next_turn.new.out) t) c.in-Ended.is c.next_turn.ensures.turned in
+    reached-finishes c.args.options.now c.args.bytes.now c.items.at old _ _ _ c.in-Ended.status c.items.invariant.reached ended

@@ -2,6 +2,7 @@
 use Rattle.std.proofs.Common.{◌≤◌, ◌-◌, length}
 use Rattle.clf_sig.specs.Signature.{plain_signature}
 use Rattle.celf_reading.specs.Bare.{IsBareSignature}
+use Rattle.celf_run.specs.Allowed.{holding}
 use Rattle.celf_run.specs.Turning.{Reached}
 use Rattle.celf_run.proofs.top.answer_all.Given as goal
 
@@ -10,7 +11,7 @@ invariant-items g l = record {
   place : l.at ≤ length l.bytes;
   bare : IsBareSignature (plain_signature l.sig);
   faults : g.W.Sink.faults l.fn.out ≤ g.W.Sink.faults l.out;
-  reached : Reached l.bytes l.at (plain_signature l.sig) (g.W.Sink.written l.fn.out) (g.W.Sink.written l.out);
+  reached : Reached l.options l.bytes l.at (holding (plain_signature l.sig)) (g.W.Sink.written l.fn.out) (g.W.Sink.written l.out);
 }
 
 abbrev pub decreases-items : goal.decreases-items

@@ -1,0 +1,72 @@
+-- Replies to items, and why an item is refused, as plain data.
+use Rattle.std.specs.Prelude.{ℕ, Bool, true, false, List}
+use Rattle.clf_syntax.specs.Plain.{plain_obj}
+use Rattle.clf_syntax.specs.PlainTypes.{plain_ty}
+use Rattle.clf_syntax.specs.Tree.{PlainObject}
+use Rattle.clf_syntax.specs.TypeTree.{PlainType}
+use Rattle.clf_kernel.specs.Refusal.{Cause}
+use Rattle.clf_kernel.specs.Answers.{plain_cause}
+use Rattle.celf_replies.specs.declared.reply.Why.{Why}
+use Rattle.celf_replies.specs.declared.reply.Why.TheVariants.{BadByte, LongName, Unexpected, Directive, TooDeep, KindPlace, NotAsync, Redex, OutOfRange, BadImplicit, Duplicate, Full, UnknownName, Kernel, NotYet}
+use Rattle.celf_replies.specs.declared.reply.Reply.{Reply}
+use Rattle.celf_replies.specs.declared.reply.Reply.TheVariants.{Entry, Checked, Refused}
+
+pub data PlainWhy : Type 0 where
+  bad_byte : PlainWhy
+  long_name : PlainWhy
+  -- no item goes on with the token there; true where it is the end of the file
+  unexpected : Bool → PlainWhy
+  directive : PlainWhy
+  too_deep : PlainWhy
+  kind_place : PlainWhy
+  not_async : PlainWhy
+  redex : PlainWhy
+  out_of_range : PlainWhy
+  bad_implicit : PlainWhy
+  -- the declared name
+  duplicate : List ℕ → PlainWhy
+  full : PlainWhy
+  -- the name without a meaning
+  unknown_name : List ℕ → PlainWhy
+  -- the numbers of the parts from the item to the one that the rules refuse, and the cause
+  kernel : List ℕ → Cause → PlainWhy
+  not_yet : PlainWhy
+
+-- a refusal: the byte of the file, and why
+pub record PlainRefusal : Type 0 where
+  pub at : ℕ
+  pub why : PlainWhy
+
+pub data PlainReply : Type 0 where
+  -- the place of the new entry
+  entry : ℕ → PlainReply
+  -- an object and its type
+  checked : PlainObject → PlainType → PlainReply
+  refused : PlainRefusal → PlainReply
+
+abbrev pub is_refusal : PlainReply → Bool
+is_refusal (entry k) = false
+is_refusal (checked n a) = false
+is_refusal (refused r) = true
+
+abbrev pub plain_why : Why → PlainWhy
+plain_why BadByte = bad_byte
+plain_why LongName = long_name
+plain_why (Unexpected end) = unexpected end
+plain_why Directive = directive
+plain_why TooDeep = too_deep
+plain_why KindPlace = kind_place
+plain_why NotAsync = not_async
+plain_why Redex = redex
+plain_why OutOfRange = out_of_range
+plain_why BadImplicit = bad_implicit
+plain_why (Duplicate name) = duplicate name
+plain_why Full = full
+plain_why (UnknownName name) = unknown_name name
+plain_why (Kernel r) = kernel r.path.items (plain_cause r.cause)
+plain_why NotYet = not_yet
+
+abbrev pub plain_reply : Reply → PlainReply
+plain_reply (Entry k) = entry k
+plain_reply (Checked obj ty) = checked (plain_obj obj) (plain_ty ty)
+plain_reply (Refused at why) = refused (record { at = at; why = plain_why why })

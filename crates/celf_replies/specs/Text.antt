@@ -1,0 +1,50 @@
+-- The lines of a reply, over the signature that is held behind it.
+use Rattle.std.specs.Prelude.{ℕ, ◌<◌, ◌^◌, true, false, List, [], ◌++◌, codes}
+use Rattle.std.specs.Fmt.{decimal}
+use Rattle.clf_syntax.specs.Tree.{PlainObject}
+use Rattle.clf_syntax.specs.TypeTree.{PlainType}
+use Rattle.clf_sig.specs.Entry.{PlainSignature}
+use Rattle.clf_printer.specs.declared.place.Place.TheVariants.{Whole}
+use Rattle.clf_printer.specs.Text.{object_text, type_text}
+use Rattle.clf_printer.specs.Metas.{appearing, appearing_type}
+use Rattle.clf_printer.specs.Depth.{scope_depth}
+use Rattle.clf_printer.specs.Entry.{entry_text}
+use Rattle.celf_replies.specs.Causes.{cause_text, path_text}
+use Rattle.celf_replies.specs.Reply.{PlainWhy, bad_byte, long_name, unexpected, directive, too_deep, kind_place, not_async, redex, out_of_range, bad_implicit, duplicate, full, unknown_name, kernel, not_yet, PlainReply, entry, checked, refused}
+
+-- what is said of a refusal behind its byte
+abbrev pub why_text : PlainSignature → PlainWhy → List ℕ
+why_text sig bad_byte = codes "bad byte"
+why_text sig long_name = codes "long name"
+why_text sig (unexpected true) = codes "unexpected end"
+why_text sig (unexpected false) = codes "unexpected"
+why_text sig directive = codes "unknown directive"
+why_text sig too_deep = codes "too deep"
+why_text sig kind_place = codes "misplaced type"
+why_text sig not_async = codes "synchronous type"
+why_text sig redex = codes "redex"
+why_text sig out_of_range = codes "number out of range"
+why_text sig bad_implicit = codes "implicit count"
+why_text sig (duplicate name) = codes "duplicate " ++ name
+why_text sig full = codes "signature full"
+why_text sig (unknown_name name) = codes "unknown name " ++ name
+why_text sig (kernel path cause) = cause_text sig cause ++ codes " at " ++ path_text path
+why_text sig not_yet = codes "not yet"
+
+-- an object and its type, with a colon between
+abbrev pub judgment_text : PlainSignature → PlainObject → PlainType → List ℕ
+judgment_text sig n a = object_text sig (appearing [] n) 0 n ++ codes " : " ++ type_text sig (appearing_type [] a) 0 Whole a ++ codes ".\n"
+
+abbrev pub refusal_text : PlainSignature → ℕ → PlainWhy → List ℕ
+refusal_text sig at why = codes "refused at " ++ decimal at ++ codes ": " ++ why_text sig why ++ codes ".\n"
+
+abbrev pub reply_text : PlainSignature → PlainReply → List ℕ
+reply_text sig (entry k) = entry_text sig k ++ codes "\n"
+reply_text sig (checked n a) = codes "check: " ++ judgment_text sig n a
+reply_text sig (refused r) = refusal_text sig r.at r.why
+
+-- The numbers of the variables in a reply are less than 2 ^ 64: so far are they written whole.
+abbrev pub IsNumbered : PlainReply → Type 0
+IsNumbered (entry k) = Unit {0}
+IsNumbered (checked n a) = scope_depth n < 2 ^ 64
+IsNumbered (refused r) = Unit {0}

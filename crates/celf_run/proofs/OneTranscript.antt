@@ -1,0 +1,90 @@
+-- A source has one transcript.
+use Rattle.std.proofs.Common.{ℕ, ◌≡◌, true, false, refl, sym, ap, ◌∙◌, subst, Bool, Option, Some, None, is_some, List, [], ◌∷◌, ◌++◌, length}
+use Rattle.clf_sig.specs.Entry.{PlainEntry, PlainSignature, place_of, IsNamed}
+use Rattle.clf_sig.proofs.Names.{is_named}
+use Rattle.clf_sig.specs.Core.{PlainCore, declares, queries, traces, equates, checks}
+use Rattle.celf_explicit.specs.Explicit.{explicit}
+use Rattle.celf_sugar.specs.PlainTree.{DesugaredItem}
+use Rattle.celf_reading.specs.Bare.{IsBareSignature}
+use Rattle.celf_reading.proofs.Bare.{bare-append}
+use Rattle.celf_replies.specs.Reply.{PlainReply, is_refusal}
+use Rattle.celf_run.specs.declared.options.Options.{Options}
+use Rattle.celf_run.specs.declared.status.Status.{Status}
+use Rattle.celf_run.specs.Source.{Source, Task}
+use Rattle.celf_run.specs.Allowed.{Held, Fits, accepted, typed, is_explicit, PlainAllowed, barred, declined, answered, Allowed, at_fault, sugar_fault, plainly}
+use Rattle.celf_run.specs.Transcript.{Turn, finished, Transcribes, over, goes_on, stops}
+use Rattle.celf_run.specs.Laws.{TranscriptIsOne}
+use Rattle.celf_run.proofs.Cores.{explicit-read}
+use Rattle.celf_run.proofs.OneReply.{reply_is_one}
+use Rattle.celf_run.proofs.OneTask.{next_is_one, nothing_is_next}
+
+-- A name that is not declared has no place.
+unplaced : (sig : PlainSignature) (name : List ℕ) (r : Option ℕ) → r ≡ place_of name sig → (IsNamed name sig → ⊥) → r ≡ None
+unplaced sig name None e absent = refl
+unplaced sig name (Some k) e absent = absurd (absent ((is_named name sig (Some k) e).0 refl))
+
+fits-bare : (options : Options) (held new : Held) (item : DesugaredItem) (core : PlainCore) (reply : PlainReply) → IsBareSignature held.signature
+    → explicit held.signature item ≡ Some core → Fits options held core reply new → IsBareSignature new.signature
+fits-bare options held new item (declares name e) reply b h (accepted may) =
+    bare-append held.signature name e b (unplaced held.signature name (place_of name held.signature) refl may.1) may.0
+    (explicit-read held.signature item.body (declares name e) b h).1
+fits-bare options held new item (checks n a) reply b h (typed f x) = b
+fits-bare options held new item (queries a) reply b h x = elim x [ ]
+fits-bare options held new item (traces t) reply b h x = elim x [ ]
+fits-bare options held new item (equates n o a) reply b h x = elim x [ ]
+
+plain-bare : (options : Options) (held new : Held) (item : DesugaredItem) (reply : PlainReply) → IsBareSignature held.signature
+    → PlainAllowed options held item reply new → IsBareSignature new.signature
+plain-bare options held new item reply b (barred x) = b
+plain-bare options held new item reply b (declined p x) = b
+plain-bare options held new item reply b (answered {core = core} p (is_explicit h) f) = fits-bare options held new item core reply b h f
+
+-- What is held behind an allowed reply is bare where what was held before it is.
+allowed-bare : (options : Options) (held new : Held) (task : Task) (reply : PlainReply) → IsBareSignature held.signature
+    → Allowed options held task reply new → IsBareSignature new.signature
+allowed-bare options held new task reply b at_fault = b
+allowed-bare options held new task reply b (sugar_fault x) = b
+allowed-bare options held new task reply b (plainly {item = item} clean p) = plain-bare options held new _ reply b p
+
+-- a turn is one
+record SameTurn (behind other : Source) (new further : Held) (reply because : PlainReply) : Type 0 where
+  source : behind ≡ other
+  held : new ≡ further
+  told : reply ≡ because
+
+turn-one : (options : Options) (source behind other : Source) (held new further : Held) (reply because : PlainReply) → IsBareSignature held.signature
+    → Turn options source held reply behind new → Turn options source held because other further → SameTurn behind other new further reply because
+turn-one options source behind other held new further reply because b t u =
+    let next = next_is_one source behind other t.task u.task t.next u.next in
+    let one = reply_is_one options held new further t.task reply because b t.allowed (subst (λ (k : Task). Allowed options held k because further) (sym next.0) u.allowed) in
+    record { source = next.1; held = one.1; told = one.0 }
+
+different : (b : Bool) → b ≡ false → b ≡ true → ⊥
+different b e f = cc
+
+pub transcript_is_one : TranscriptIsOne
+transcript_is_one options source held last end bytes others status because b (over x) (over y) = (refl, refl, refl)
+transcript_is_one options source held last end bytes others status because b (over x) (goes_on {behind = behind} t r g) = absurd (nothing_is_next source behind t.task x t.next)
+transcript_is_one options source held last end bytes others status because b (over x) (stops {behind = behind} t r) = absurd (nothing_is_next source behind t.task x t.next)
+transcript_is_one options source held last end bytes others status because b (goes_on {behind = behind} t r g) (over x) = absurd (nothing_is_next source behind t.task x t.next)
+transcript_is_one options source held last end bytes others status because b (stops {behind = behind} t r) (over x) = absurd (nothing_is_next source behind t.task x t.next)
+transcript_is_one options source held last end bytes others status because b (goes_on {behind = behind} {new = new} {reply = reply} t r g) (stops {behind = behind'} {new = new'} {reply = reply'} u s) =
+    let same = turn-one options source behind behind' held new new' reply reply' b t u in
+    absurd (different (is_refusal reply) r (ap is_refusal same.told ∙ s))
+transcript_is_one options source held last end bytes others status because b (stops {behind = behind} {new = new} {reply = reply} t r) (goes_on {behind = behind'} {new = new'} {reply = reply'} u s g) =
+    let same = turn-one options source behind behind' held new new' reply reply' b t u in
+    absurd (different (is_refusal reply) (ap is_refusal same.told ∙ s) r)
+transcript_is_one options source held last end bytes others status because b (stops {behind = behind} {new = new} {reply = reply} t r) (stops {behind = behind'} {new = new'} {reply = reply'} u s) =
+    let same = turn-one options source behind behind' held new new' reply reply' b t u in
+    let held_is = same.held in
+    let reply_is = same.told in
+    rw (held_is, reply_is) (refl, refl, refl)
+transcript_is_one options source held last end bytes others status because b (goes_on {behind = behind} {new = new} {reply = reply} {rest = rest} t r g) (goes_on {behind = behind'} {new = new'} {reply = reply'} {rest = rest'} u s h) =
+    let same = turn-one options source behind behind' held new new' reply reply' b t u in
+    let there = subst (λ (x : Source). Transcribes options x new' rest' because end) (sym same.source) h in
+    let here = subst (λ (x : Held). Transcribes options behind x rest' because end) (sym same.held) there in
+    let more = transcript_is_one options behind new last end rest rest' status because (allowed-bare options held new t.task reply b t.allowed) g here in
+    let held_is = same.held in
+    let reply_is = same.told in
+    let rest_is = more.0 in
+    (rw (held_is, reply_is, rest_is) refl, more.1, more.2)

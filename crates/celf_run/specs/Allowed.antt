@@ -1,0 +1,116 @@
+-- Which replies a task may have over what is held, and what is held behind it.
+use Rattle.std.specs.Prelude.{ℕ, ◌≡◌, List, [], ◌∷◌, ◌++◌, length, Option, Some, None}
+use Rattle.clf_syntax.specs.Tree.{PlainObject}
+use Rattle.clf_syntax.specs.TypeTree.{PlainType}
+use Rattle.clf_sig.specs.Entry.{PlainEntry, PlainSignature, place_of}
+use Rattle.clf_kernel.specs.Typing.{HasType}
+use Rattle.clf_kernel.specs.WellFormed.{WellFormedType, MayFollow}
+use Rattle.clf_kernel.specs.Refusal.{Cause}
+use Rattle.clf_kernel.specs.Explained.{ExplainedAt}
+use Rattle.celf_surface.specs.Surface.{WrittenItem}
+use Rattle.celf_sugar.specs.declared.plain.PName.{PName}
+use Rattle.celf_sugar.specs.declared.fault.SugarFault.{SugarFault}
+use Rattle.celf_sugar.specs.declared.fault.SugarFault.TheVariants.{KindPlace, NotAsync, Redex, OutOfRange, BadImplicit, NoMemory}
+use Rattle.celf_sugar.specs.Faults.{first_fault, fault_start}
+use Rattle.celf_sugar.specs.Sugar.{desugared}
+use Rattle.celf_sugar.specs.PlainTree.{DesugaredBody, declare, query, trace, equal, check, DesugaredItem}
+use Rattle.celf_explicit.specs.Unknown.{first_unknown}
+use Rattle.celf_reading.specs.Bare.{IsBareSignature}
+use Rattle.celf_replies.specs.Reply.{PlainWhy, kind_place, not_async, redex, out_of_range, bad_implicit, duplicate, full, unknown_name, kernel, not_yet, PlainRefusal, PlainReply, entry, checked, refused}
+use Rattle.celf_run.specs.declared.options.Options.{Options}
+use Rattle.clf_sig.specs.Core.{PlainCore, declares, checks}
+use Rattle.celf_explicit.specs.Explicit.{explicit}
+use Rattle.celf_run.specs.Source.{Task, written, faulty}
+
+-- what a run holds between two tasks
+pub record Held : Type 0 where
+  pub signature : PlainSignature
+
+-- nothing but these entries
+abbrev pub holding : PlainSignature → Held
+holding sig = record { signature = sig }
+
+-- the entries that a signature has room for
+abbrev pub room : ℕ
+room = 65535
+
+-- the name that an item declares
+abbrev pub declared_name : DesugaredBody → Option (List ℕ)
+declared_name (declare n i c) = Some n
+declared_name (query d e l a t) = None
+declared_name (trace n t) = None
+declared_name (equal l r t) = None
+declared_name (check o t) = None
+
+-- ---- one order of refusals for every item: its name, an unknown name, what its core comes to
+
+-- The declared name is there already, or there is no room for its entry.
+pub data NameBarred (sig : PlainSignature) (item : DesugaredItem) : PlainWhy → Type 0 where
+  is_duplicate : {name : List ℕ} {k : ℕ} → declared_name item.body ≡ Some name → place_of name sig ≡ Some k → NameBarred sig item (duplicate name)
+  is_full : {name : List ℕ} → declared_name item.body ≡ Some name → place_of name sig ≡ None → length sig ≡ room → NameBarred sig item full
+
+-- Nothing stands against the name.
+abbrev pub NamePasses : PlainSignature → DesugaredItem → Type 0
+NamePasses sig item = (why : PlainWhy) → NameBarred sig item why → ⊥
+
+-- What stands against an item before it is read.
+pub data Barred (sig : PlainSignature) (item : DesugaredItem) : PlainRefusal → Type 0 where
+  by_name : {why : PlainWhy} → NameBarred sig item why → Barred sig item (record { at = item.span.start; why = why })
+  by_unknown : {name : PName} → NamePasses sig item → first_unknown sig item ≡ Some name → Barred sig item (record { at = name.span.start; why = unknown_name name.name })
+
+-- Nothing does.
+pub record Passes (sig : PlainSignature) (item : DesugaredItem) : Type 0 where
+  pub name : NamePasses sig item
+  pub known : first_unknown sig item ≡ None
+
+-- The item has this core.
+pub data HasCore (sig : PlainSignature) (item : DesugaredItem) : PlainCore → Type 0 where
+  is_explicit : {core : PlainCore} → explicit sig item ≡ Some core → HasCore sig item core
+
+-- The rules refuse the core for this cause, at the part to which the path leads. The type of a check has number 0 and the object number 1,
+-- and the object is judged only at a type that is well formed.
+pub data IsExplained (sig : PlainSignature) : PlainCore → List ℕ → Cause → Type 0 where
+  in_object : {n : PlainObject} {a : PlainType} {path : List ℕ} {cause : Cause} → WellFormedType sig [] a → (HasType sig [] [] n a → ⊥)
+      → ExplainedAt sig [] [] n a path cause → IsExplained sig (checks n a) (1 ∷ path) cause
+
+-- Why an item that passes is declined. Out of reach are so far items that are not explicit or have parts out of reach, and every item over a
+-- signature that is not bare.
+pub data Declined (sig : PlainSignature) (item : DesugaredItem) : PlainWhy → Type 0 where
+  by_rules : {core : PlainCore} {path : List ℕ} {cause : Cause} → HasCore sig item core → IsExplained sig core path cause → Declined sig item (kernel path cause)
+  not_explicit : explicit sig item ≡ None → Declined sig item not_yet
+  not_bare : (IsBareSignature sig → ⊥) → Declined sig item not_yet
+
+-- The reply fits the core, and this is held behind it.
+pub data Fits (options : Options) (held : Held) : PlainCore → PlainReply → Held → Type 0 where
+  -- A declaration that may follow the signature is its next entry.
+  accepted : {name : List ℕ} {e : PlainEntry} → MayFollow held.signature (name, e)
+      → Fits options held (declares name e) (entry (length held.signature)) (holding (held.signature ++ (name, e) ∷ []))
+  -- The rules form the type and give it to the object.
+  typed : {n : PlainObject} {a : PlainType} → WellFormedType held.signature [] a → HasType held.signature [] [] n a → Fits options held (checks n a) (checked n a) held
+
+-- The replies of an item without sugar.
+pub data PlainAllowed (options : Options) (held : Held) (item : DesugaredItem) : PlainReply → Held → Type 0 where
+  barred : {refusal : PlainRefusal} → Barred held.signature item refusal → PlainAllowed options held item (refused refusal) held
+  declined : {why : PlainWhy} → Passes held.signature item → Declined held.signature item why
+      → PlainAllowed options held item (refused (record { at = item.span.start; why = why })) held
+  answered : {core : PlainCore} {reply : PlainReply} {new : Held} → Passes held.signature item → HasCore held.signature item core → Fits options held core reply new
+      → PlainAllowed options held item reply new
+
+-- What is said of a fault beyond the grammar. No item has want of memory as its fault.
+abbrev pub sugar_why : SugarFault → PlainWhy
+sugar_why (KindPlace s) = kind_place
+sugar_why (NotAsync s) = not_async
+sugar_why (Redex s) = redex
+sugar_why (OutOfRange s) = out_of_range
+sugar_why (BadImplicit s) = bad_implicit
+sugar_why NoMemory = not_yet
+
+abbrev pub sugar_refusal : SugarFault → PlainRefusal
+sugar_refusal fault = record { at = fault_start fault; why = sugar_why fault }
+
+-- The replies of a task.
+pub data Allowed (options : Options) (held : Held) : Task → PlainReply → Held → Type 0 where
+  at_fault : {refusal : PlainRefusal} → Allowed options held (faulty refusal) (refused refusal) held
+  sugar_fault : {item : WrittenItem} {fault : SugarFault} → first_fault item ≡ Some fault → Allowed options held (written item) (refused (sugar_refusal fault)) held
+  plainly : {item : WrittenItem} {reply : PlainReply} {new : Held} → first_fault item ≡ None → PlainAllowed options held (desugared item) reply new
+      → Allowed options held (written item) reply new
