@@ -10,9 +10,9 @@ ghost use Rattle.celf_explicit.specs.Entries as spec;
 use crate::read::read_type;
 use celf_sugar::{PClass, PEntry};
 use clf_sig::{Class, Entry, Signature};
-use clf_syntax::{Kind, Ty};
+use clf_syntax::{Kind, Shortage, Ty};
 use sqlite_items::Items;
-use std::alloc::{AllocError, Global};
+use std::alloc::Global;
 
 /// The entry of what is declared, with so many implicit arguments; none where a name in it has no meaning, or where it is out of reach: so far with implicit arguments, indices or monads. It fails only where memory runs out.
 pub fn read_entry(
@@ -20,7 +20,7 @@ pub fn read_entry(
     sig: &Signature,
     implicit: u32,
     class: &PClass,
-) -> Result<Option<Entry>, AllocError>
+) -> Result<Option<Entry>, Shortage>
     ensures { IfOk result (λ e. option_map plain_entry e ≡ spec.read_entry (plain_signature sig.now) implicit (class_of class.now)) }
 {
     if implicit > 0 {
@@ -40,7 +40,7 @@ fn fresh(class: Option<Class>) -> Option<Entry>
 
 /// The kind `type`, or a type.
 #[tactic(auto, using(celf_sugar::specs::Plain::plain_laws))]
-fn read_class(alloc: Global, sig: &Signature, class: &PClass) -> Result<Option<Class>, AllocError>
+fn read_class(alloc: Global, sig: &Signature, class: &PClass) -> Result<Option<Class>, Shortage>
     ensures { IfOk result (λ c. option_map plain_class c ≡ spec.read_class (plain_signature sig.now) (class_of class.now)) }
 {
     match class {

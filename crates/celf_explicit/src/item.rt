@@ -13,8 +13,8 @@ use crate::unknown::first_unknown;
 use celf_sugar::{PClass, PName, PObj, PTy, Plain, PlainBody};
 use celf_surface::Span;
 use clf_sig::{Core, Entry, Signature};
-use clf_syntax::{Name, Obj, OrWide, Ty};
-use std::alloc::{AllocError, Global};
+use clf_syntax::{Name, Obj, OrWide, Shortage, Ty};
+use std::alloc::Global;
 
 /// A name without a meaning, and the bytes at which it stands, its `$` among them.
 #[derive(Drop)]
@@ -34,7 +34,10 @@ pub fn explicit(
 {
     match first_unknown(alloc, sig, plain)? {
         Some(name) => Err(unknown(alloc, name)),
-        None => Ok(read_body(alloc, sig, &plain.body)?),
+        None => match read_body(alloc, sig, &plain.body) {
+            Ok(core) => Ok(core),
+            Err(short) => Err(OrWide::from(short.want(alloc))),
+        },
     }
 }
 
@@ -52,7 +55,7 @@ fn unknown(alloc: Global, name: &PName) -> OrWide<UnknownName>
 }
 
 /// The core of what an item says.
-fn read_body(alloc: Global, sig: &Signature, body: &PlainBody) -> Result<Option<Core>, AllocError>
+fn read_body(alloc: Global, sig: &Signature, body: &PlainBody) -> Result<Option<Core>, Shortage>
     ensures { IfOk result (λ core. option_map plain_core core ≡ core_of_body (plain_signature sig.now) (body_of body.now)) }
 {
     match body {
@@ -76,7 +79,7 @@ fn read_declaration(
     name: &Name,
     implicit: u32,
     class: &PClass,
-) -> Result<Option<Core>, AllocError>
+) -> Result<Option<Core>, Shortage>
     ensures { IfOk result (λ core. option_map plain_core core ≡ option_map (declares name.now) (read_entry_of (plain_signature sig.now) implicit (class_of class.now))) }
 {
     let name = name.copy(alloc)?;

@@ -12,8 +12,5 @@ mod read;
 mod scope;
 mod unknown;
 
-pub use entry::read_entry;
 pub use item::{UnknownName, explicit};
 pub use laws::{known_where_read, worked_readings};
-pub use read::{read_check, read_type};
-pub use unknown::first_unknown;

@@ -4,7 +4,7 @@ ghost use Rattle.celf_explicit.specs.Locals.{plain_place, plain_locals};
 ghost use Rattle.celf_explicit.specs.Reading as spec;
 
 use crate::scope::same_name;
-use clf_syntax::{Head, Name, Simple};
+use clf_syntax::{Head, Name, Shortage, Simple};
 use sqlite_items::Items;
 use std::alloc::{AllocError, Global};
 use std::marker::Model;
@@ -82,8 +82,8 @@ impl<'a> Locals<'a> {
         self.locals.pop();
     }
 
-    /// The newest binder of a name, as a head. It fails only where its number is past the greatest one.
-    pub fn find(&self, name: &Name) -> Result<Option<Found<'a>>, AllocError>
+    /// The newest binder of a name, as a head. It fails only where its number would pass the greatest one.
+    pub fn find(&self, name: &Name) -> Result<Option<Found<'a>>, Shortage>
         ensures { IfOk result (λ f. option_map (λ h. (h.head, plain_place (option_copied h.place))) f ≡ spec.local_from 0 name.now (plain_locals self.now)) }
     {
         let mut left = self.locals.len();
@@ -98,7 +98,7 @@ impl<'a> Locals<'a> {
                 }));
             }
             if number == u32::MAX {
-                return Err(AllocError);
+                return Err(Shortage::Numbers);
             }
             number += 1;
         }

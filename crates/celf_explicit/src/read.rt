@@ -15,13 +15,13 @@ use crate::meaning::{constant_named, family_named};
 use crate::place::{behind, codomain, domain, left_part, marked, mode_at, right_part, stays};
 use celf_sugar::{PElim, PName, PObj, PObjForm, PTy, PTyForm};
 use clf_sig::Signature;
-use clf_syntax::{Elim, Head, Mode, Neutral, Obj, Simple, Ty, erase};
+use clf_syntax::{Elim, Head, Mode, Neutral, Obj, Shortage, Simple, Ty, erase};
 use sqlite_items::{Boxed, Items};
-use std::alloc::{AllocError, Global};
+use std::alloc::Global;
 
 /// The core of a type; none where a name in it has no meaning, or where it has indices or a monad. It fails only where memory runs out.
 #[tactic(auto, using(crate::proofs::Forms::type_laws, crate::proofs::Forms::core_type_laws))]
-pub fn read_type(alloc: Global, sig: &Signature, ty: &PTy) -> Result<Option<Ty>, AllocError>
+pub fn read_type(alloc: Global, sig: &Signature, ty: &PTy) -> Result<Option<Ty>, Shortage>
     ensures { IfOk result (λ t. option_map plain_ty t ≡ spec.read_type (plain_signature sig.now) (desugared_type ty.now)) }
 {
     match &ty.form {
@@ -77,8 +77,8 @@ fn family(alloc: Global, family: Option<u32>) -> Option<Ty>
 /// What has been read, in a box. In its box a tree is dropped by a call: dropped in place, each of its forms would be a case of the function that reads on.
 fn boxed<T: Drop>(
     alloc: Global,
-    read: Result<Option<T>, AllocError>,
-) -> Result<Option<Boxed<T>>, AllocError>
+    read: Result<Option<T>, Shortage>,
+) -> Result<Option<Boxed<T>>, Shortage>
     ensures { IfOk result (λ b. read ≡ Ok b) }
 {
     match read? {
@@ -114,7 +114,7 @@ fn read_object<'a>(
     sig: &'a Signature,
     place: Option<&'a Simple>,
     locals: &mut Locals<'a>,
-) -> Result<Option<Obj>, AllocError>
+) -> Result<Option<Obj>, Shortage>
     ensures read { IfOk result (λ o. option_map plain_obj o ≡ spec.read_object (plain_signature sig.now) (plain_locals locals.old) (plain_place (option_copied place.entry)) (desugared_object obj.now)) }
     ensures kept { OnOk result (locals.new ≡ locals.old) }
 {
@@ -188,7 +188,7 @@ fn head_of<'a>(
     sig: &'a Signature,
     locals: &Locals<'a>,
     name: &PName,
-) -> Result<Option<Found<'a>>, AllocError>
+) -> Result<Option<Found<'a>>, Shortage>
     ensures { IfOk result (λ f. option_map (λ h. (h.head, plain_place (option_copied h.place))) f ≡ spec.head (plain_signature sig.now) (plain_locals locals.now) name.now) }
 {
     if !name.dollar {
@@ -219,7 +219,7 @@ fn read_spine<'a>(
     sig: &'a Signature,
     place: Option<&'a Simple>,
     locals: &mut Locals<'a>,
-) -> Result<Option<Items<Elim>>, AllocError>
+) -> Result<Option<Items<Elim>>, Shortage>
     ensures read { IfOk result (λ es. option_map (map plain_elim) es ≡ read_acts (plain_signature sig.now) (plain_locals locals.old) (plain_place (option_copied place.entry)) (map written_elim spine.now)) }
     ensures kept { OnOk result (locals.new ≡ locals.old) }
 {
@@ -243,7 +243,7 @@ fn read_act<'a>(
     sig: &'a Signature,
     place: Option<&'a Simple>,
     locals: &mut Locals<'a>,
-) -> Result<Option<Elim>, AllocError>
+) -> Result<Option<Elim>, Shortage>
     ensures read { IfOk result (λ e. option_map plain_elim e ≡ spec.read_act (plain_signature sig.now) (plain_locals locals.old) (plain_place (option_copied place.entry)) (written_elim act.now)) }
     ensures kept { OnOk result (locals.new ≡ locals.old) }
 {
@@ -271,7 +271,7 @@ pub fn read_check(
     sig: &Signature,
     obj: &PObj,
     ty: &PTy,
-) -> Result<Option<(Obj, Ty)>, AllocError>
+) -> Result<Option<(Obj, Ty)>, Shortage>
     ensures { IfOk result (λ r. option_map plain_check r ≡ spec.read_check (plain_signature sig.now) (desugared_object obj.now) (desugared_type ty.now)) }
 {
     match read_type(alloc, sig, ty)? {
@@ -290,7 +290,7 @@ fn read_against(
     sig: &Signature,
     obj: &PObj,
     ty: &Ty,
-) -> Result<Option<Obj>, AllocError>
+) -> Result<Option<Obj>, Shortage>
     ensures { IfOk result (λ o. option_map (spec.with_type (plain_ty ty.now)) (option_map plain_obj o) ≡ spec.read_against (plain_signature sig.now) (desugared_object obj.now) (plain_ty ty.now)) }
 {
     let simple = Boxed::new(alloc, erase(alloc, ty)?)?;
