@@ -9,6 +9,8 @@ use Rattle.clf_syntax.specs.declared.tree.Step.{Step}
 use Rattle.clf_syntax.specs.Plain.{plain_step, plain-step-modes}
 use Rattle.clf_syntax.proofs.Next.{dropped}
 use Rattle.trace_equal.specs.declared.tables.Tables.{Tables}
+use Rattle.trace_equal.proofs.Bijections.{sucs}
+use Rattle.trace_equal.proofs.Fronts.{halves}
 use Rattle.trace_equal.specs.declared.tables.Run.{Run}
 use Rattle.trace_equal.specs.Places.{from_on}
 use Rattle.trace_equal.specs.Comparing.{count_from, place_in, run_of, runs_from, compared, compared_elimination, compared_entry, compared_head, compared_neutral, compared_spine, compared_tuple}
@@ -49,13 +51,6 @@ not_true_is_false : (b : Bool) → (b ≡ true → ⊥) → b ≡ false
 not_true_is_false true h = absurd (h refl)
 not_true_is_false false h = refl
 
-true_both : (a b : Bool) → a && b ≡ true → (a ≡ true) × (b ≡ true)
-true_both true b e = (refl, e)
-true_both false b e = absurd (cc)
-
-sucs : (a b : ℕ) → suc a ≡ suc b → a ≡ b
-sucs a b e = omega arith
-
 -- ---- spines
 compared-eliminated : (s : Tables) (e f : PlainElimination) (r q : PlainNeutral) → compared_neutral s (eliminated e r) (eliminated f q) ≡ compared_neutral s r q && compared_elimination s e f
 compared-eliminated s (arg m o) (arg k u) r q = and_inner (same_mode m k) (compared_neutral s r q) (compared s o u)
@@ -73,7 +68,7 @@ spines_of_one_length s [] [] r q h = sym (and_true (compared_neutral s r q))
 spines_of_one_length s [] (f ∷ fs) r q h = absurd (omega arith)
 spines_of_one_length s (e ∷ es) [] r q h = absurd (omega arith)
 spines_of_one_length s (e ∷ es) (f ∷ fs) r q h =
-    spines_of_one_length s es fs (eliminated e r) (eliminated f q) (sucs (length es) (length fs) h)
+    spines_of_one_length s es fs (eliminated e r) (eliminated f q) (sucs h)
     ∙ ap (λ b. b && compared_spine s es fs) (compared-eliminated s e f r q)
     ∙ and_same (compared_neutral s r q) (compared_elimination s e f) (compared_spine s es fs)
 
@@ -95,7 +90,7 @@ eliminations-spine (e ∷ es) r = eliminations-spine es (eliminated e r) ∙ ap 
 
 same_eliminations : (s : Tables) (r q : PlainNeutral) → compared_neutral s r q ≡ true → eliminations r ≡ eliminations q
 same_eliminations s (head_alone h) (head_alone j) e = refl
-same_eliminations s (app m r o) (app k q u) e = ap suc (same_eliminations s r q (true_both (compared_neutral s r q) (compared s o u) (true_both (same_mode m k) (compared_neutral s r q && compared s o u) e).1).0)
+same_eliminations s (app m r o) (app k q u) e = ap suc (same_eliminations s r q (halves (compared_neutral s r q) (compared s o u) (halves (same_mode m k) (compared_neutral s r q && compared s o u) e).1).0)
 same_eliminations s (fst r) (fst q) e = ap suc (same_eliminations s r q e)
 same_eliminations s (snd r) (snd q) e = ap suc (same_eliminations s r q e)
 same_eliminations s _ _ e = absurd (cc)

@@ -5,6 +5,7 @@ use Rattle.std.proofs.lemmas.List.{length-reverse, length-set, map-append, rever
 use Rattle.std.proofs.Math.Nat.{mul-le-mul_right, suc-mul}
 use Rattle.clf_syntax.specs.Tree.{PlainNeutral, done, step, steps_on}
 use Rattle.clf_syntax.specs.declared.tree.Mode.{Mode}
+use Rattle.trace_equal.proofs.Bijections.{map_length}
 use Rattle.trace_equal.specs.declared.tables.Run.{Run}
 use Rattle.trace_equal.specs.declared.tables.Tables.{Tables}
 use Rattle.trace_equal.specs.declared.choice.Choice.{Choice}
@@ -99,10 +100,6 @@ pub record Stands (p : Problem) (b : Tables) (s : Tables) (choice : Choice) (a :
   pub marks : Marks used choice.used
   pub room : length p.rights ≤ length choice.used
   pub answer : sought_at p 0 b [] ≡ resumed p frames (open_at p (length choice.taken) s used a)
-
-map_length : {A B : Type 0} (f : A → B) (xs : List A) → length (map f xs) ≡ length xs
-map_length f [] = refl
-map_length f (x ∷ xs) = ap suc (map_length f xs)
 
 count_frames : (fs : List Frame) (ts : List Taken) → map (λ (f : Frame). f.took) fs ≡ reverse ts → length fs ≡ length ts
 count_frames fs ts e = sym (map_length (λ (f : Frame). f.took) fs) ∙ ap length e ∙ length-reverse ts
