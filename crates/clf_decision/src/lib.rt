@@ -1,0 +1,2 @@
+//! What the check of an object leaves of a holding, and which refusal comes first, as functions on plain trees; that they agree with the rules.
+#![tactic(auto)]
