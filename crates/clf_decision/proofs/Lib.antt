@@ -1,1 +1,2 @@
 pub mod AgreesWith
+pub mod Starting
