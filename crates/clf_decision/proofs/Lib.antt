@@ -1,2 +1,5 @@
 pub mod AgreesWith
 pub mod Starting
+pub mod Differences
+pub mod FirstPlaces
+pub mod IdleEntries
