@@ -6,3 +6,5 @@ pub mod IdleEntries
 pub mod EntryRows
 pub mod ExplanationForms
 pub mod ExplanationsOfObjects
+pub mod ExplanationsOfNeutrals
+pub mod ExplanationsOfSteps
