@@ -8,3 +8,4 @@ pub mod ExplanationForms
 pub mod ExplanationsOfObjects
 pub mod ExplanationsOfNeutrals
 pub mod ExplanationsOfSteps
+pub mod Explanations
