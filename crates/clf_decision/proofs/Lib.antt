@@ -9,3 +9,6 @@ pub mod ExplanationsOfObjects
 pub mod ExplanationsOfNeutrals
 pub mod ExplanationsOfSteps
 pub mod Explanations
+pub mod RefusedForms
+pub mod FirstRefusalsOfObjects
+pub mod FirstRefusalsOfSteps
