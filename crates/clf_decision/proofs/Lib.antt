@@ -12,3 +12,4 @@ pub mod Explanations
 pub mod RefusedForms
 pub mod FirstRefusalsOfObjects
 pub mod FirstRefusalsOfSteps
+pub mod FirstRefusals
