@@ -1,5 +1,5 @@
 -- The check of heads, applications and projections agrees with the rules, where that of their parts does.
-use Rattle.std.proofs.Common.{◌≡◌, ℕ, zero, suc, ◌+◌, Bool, true, false, not, ◌&&◌, ◌||◌, if◌then◌else◌, List, [], ◌∷◌, Option, None, Some, slice_get, refl, sym, ap, subst, ◌∙◌}
+use Rattle.std.proofs.Common.{◌≡◌, ℕ, ◌+◌, Bool, true, false, ◌||◌, if◌then◌else◌, [], ◌∷◌, Option, None, Some, slice_get, refl, sym, ap, subst, ◌∙◌}
 use Rattle.std.proofs.lemmas.Option.{none-some, same_Some}
 use Rattle.clf_syntax.specs.declared.tree.Mode.{Mode}
 use Rattle.clf_syntax.specs.declared.tree.Head.{Head}
@@ -9,7 +9,7 @@ use Rattle.clf_syntax.specs.TypeTree.{PlainType, family, function, both, top, mo
 use Rattle.clf_syntax.specs.Renaming.{ren_type, up}
 use Rattle.use_contexts.specs.Context.{Context, modes}
 use Rattle.use_contexts.specs.Holding.{Holding, WellMarked, Uses, is_weak, may_use, allowed}
-use Rattle.use_contexts.specs.Rows.{IsSubholding, Agrees, Shared, Leftover, taken, outside, slack_outside}
+use Rattle.use_contexts.specs.Rows.{Agrees, Shared, Leftover, taken, outside, slack_outside}
 use Rattle.use_contexts.proofs.RowLaws.{agrees-same, IsSubholding-first}
 use Rattle.use_contexts.proofs.UseLaws.{IsSubholding-self, WellMarked-part, idle-agrees, take-refused, take-agrees}
 use Rattle.use_contexts.proofs.ArgumentLaws.{argument-agrees}

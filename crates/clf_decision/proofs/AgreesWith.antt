@@ -1,5 +1,5 @@
 -- What it means that the check agrees with the rules: of objects, neutrals, expressions and tuples.
-use Rattle.std.proofs.Common.{◌≡◌, ℕ, List, Some}
+use Rattle.std.proofs.Common.{◌≡◌, ℕ, Some}
 use Rattle.clf_syntax.specs.Tree.{PlainObject, PlainNeutral, PlainExpression, PlainTuple}
 use Rattle.clf_syntax.specs.TypeTree.{PlainType, PlainTelescope}
 use Rattle.clf_syntax.specs.Simple.{SimplyFormed, SimplyFormedTelescope}

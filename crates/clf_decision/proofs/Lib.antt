@@ -3,3 +3,6 @@ pub mod SimpleForms
 pub mod AgreementOfObjects
 pub mod AgreementOfAtoms
 pub mod AgreementOfNeutrals
+pub mod Decided
+pub mod AgreementOfMonads
+pub mod Agreement

@@ -1,14 +1,14 @@
 -- What checks meet on the way stays simply formed: what follows a variable that an object is put for, and what comes under the entries
 -- of a monad.
-use Rattle.std.specs.Prelude.{ℕ, zero, suc, ◌≡◌, true, List, [], ◌∷◌, length, Some, refl}
+use Rattle.std.specs.Prelude.{ℕ, zero, suc, ◌≡◌, true, List, [], ◌∷◌, length, Some}
 use Rattle.std.proofs.Common.{ap, sym, subst, ◌∙◌}
 use Rattle.clf_syntax.specs.declared.tree.Mode.{Mode}
 use Rattle.clf_syntax.specs.declared.tree.Head.{Head}
 use Rattle.clf_syntax.specs.declared.tree.Head.TheVariants.{Const, Var, Meta}
 use Rattle.clf_syntax.specs.Tree.{PlainObject}
 use Rattle.clf_syntax.specs.TypeTree.{PlainType, PlainTelescope, end, binding, PlainKind, SimpleType}
-use Rattle.clf_syntax.specs.Simple.{Assignment, Families, erase, erase_telescope, extended, extended_by, extended_over, simple_modes, SimplyTyped, SimplyFormed, SimplyFormedTelescope, SimplyFormedKind, SimplyFormedContext}
-use Rattle.clf_syntax.specs.Renaming.{ren_head, ren_type, ren_telescope, up}
+use Rattle.clf_syntax.specs.Simple.{Assignment, Families, erase, erase_telescope, extended, extended_by, extended_over, SimplyTyped, SimplyFormed, SimplyFormedTelescope, SimplyFormedKind, SimplyFormedContext}
+use Rattle.clf_syntax.specs.Renaming.{ren_head, ren_telescope, up}
 use Rattle.clf_syntax.proofs.TypeRenaming.{identity_type}
 use Rattle.use_contexts.specs.Context.{Context, telescope_modes, with_entries}
 use Rattle.hered_subst.specs.Substitution.{single, SubstitutedType, SubstitutedTelescope, SubstitutedKind}
@@ -19,7 +19,7 @@ use Rattle.hered_subst.proofs.Types.{renaming_substitutes}
 use Rattle.hered_subst.proofs.TypedEnvironments.{keeps_single}
 use Rattle.hered_subst.proofs.TypedResults.{result_is_typed}
 use Rattle.clf_sig.specs.Entry.{PlainSignature, family_kind}
-use Rattle.clf_rules.specs.WellFormed.{WellFormedSignature, WellFormedKind}
+use Rattle.clf_rules.specs.WellFormed.{WellFormedSignature}
 use Rattle.clf_rules.proofs.Signatures.{entries_well_formed}
 use Rattle.typing_laws.specs.SimpleTyping.{constants_of, simple_of, families_of}
 use Rattle.typing_laws.proofs.Erased.{entered, erased_modes, of_constant}
