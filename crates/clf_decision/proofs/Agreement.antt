@@ -3,49 +3,27 @@ use Rattle.std.proofs.Common.{◌≡◌, ℕ, suc, true, List, [], ◌∷◌, le
 use Rattle.std.proofs.lemmas.Option.{same_Some}
 use Rattle.clf_syntax.specs.declared.tree.Mode.{Mode}
 use Rattle.clf_syntax.specs.Tree.{PlainObject, lam, pair, unit, monadic, atomic, hole, PlainNeutral, head_alone, app, fst, snd, PlainExpression, step, done, PlainTuple, empty, entry}
-use Rattle.clf_syntax.specs.TypeTree.{PlainType, family, function, monad, PlainTelescope, end, binding, SimpleType}
+use Rattle.clf_syntax.specs.TypeTree.{PlainType, family, function, monad, PlainTelescope, SimpleType}
 use Rattle.clf_syntax.specs.Renaming.{ren_telescope, up}
 use Rattle.clf_syntax.specs.Simple.{Assignment, erase, SimplyTyped, SimplyTypedEach, SimplyFormed, SimplyFormedTelescope}
-use Rattle.use_contexts.specs.Context.{Context, modes, telescope_modes, with_entries}
-use Rattle.use_contexts.specs.Holding.{Holding, WellMarked, allowed, all_held}
+use Rattle.use_contexts.specs.Context.{Context, modes, with_entries}
+use Rattle.use_contexts.specs.Holding.{Holding, allowed, all_held}
 use Rattle.use_contexts.specs.Rows.{Agrees, Leftover, outside}
-use Rattle.use_contexts.proofs.UseLaws.{WellMarked-part}
 use Rattle.clf_sig.specs.Entry.{PlainSignature}
 use Rattle.clf_rules.specs.Typing.{HasType, Synthesizes, ExpressionHasType, TupleHasType}
 use Rattle.clf_rules.specs.Refusal.{eliminations}
-use Rattle.typing_laws.specs.SimpleTyping.{constants_of, simple_of, families_of}
+use Rattle.typing_laws.specs.SimpleTyping.{simple_of, families_of}
 use Rattle.typing_laws.proofs.Erased.{typed_is_simply_typed}
-use Rattle.typing_laws.proofs.FormedTypes.{synthesized_is_simply_formed}
-use Rattle.clf_check.proofs.Agreement.{allowed-marked}
 use Rattle.clf_check.proofs.UsedParts.{some-part}
 use Rattle.clf_decision.specs.Outcome.{Outcome, passed, answer_of}
 use Rattle.clf_decision.specs.Checking.{Puts, checked, inferred, checked_expression, checked_tuple}
 use Rattle.clf_decision.specs.Puts.{ArePuts, Starts}
 use Rattle.clf_decision.proofs.AgreesWith.{AgreesWithType, ChecksAgree}
-use Rattle.clf_decision.proofs.SimpleForms.{put-telescope-formed, raised-telescope-formed, entries-formed}
+use Rattle.clf_decision.proofs.Starting.{starts-under, starts-from, starts-part, starts-allowed, starts-entered, formed-entered, telescope-put, formed-synthesized}
 use Rattle.clf_decision.proofs.AgreementOfObjects.{lambda-agrees, pair-left-agrees, unit-left-agrees}
 use Rattle.clf_decision.proofs.AgreementOfAtoms.{atomic-agrees}
 use Rattle.clf_decision.proofs.AgreementOfNeutrals.{head-agrees, application-agrees, first-agrees, second-agrees}
 use Rattle.clf_decision.proofs.AgreementOfMonads.{monadic-left-agrees, step-agrees, end-agrees, outside-marked, entry-left-agrees}
-
--- ---- starts of parts
-pub starts-under : (sig : PlainSignature) (g : Context) (h : Holding) → Starts sig g h → (m : Mode) (a : PlainType) → SimplyFormed (families_of sig) (simple_of sig g) a → Starts sig ((m, a) ∷ g) (true ∷ h)
-starts-under sig g h s m a f = record { signature = s.signature; context = (f, s.context); marked = ((λ q. refl), s.marked) }
-
-pub starts-within : (sig : PlainSignature) (g : Context) (h l : Holding) → Starts sig g h → WellMarked (modes g) l → Starts sig g l
-starts-within sig g h l s w = record { signature = s.signature; context = s.context; marked = w }
-
-all_marked : (u : PlainTelescope) (g : Context) (h : Holding) → WellMarked (modes g) h → WellMarked (modes (with_entries u g)) (all_held (telescope_modes u) h)
-all_marked end g h w = w
-all_marked (binding m a s) g h w = all_marked s ((m, a) ∷ g) (true ∷ h) ((λ q. refl), w)
-
-pub starts-behind : (sig : PlainSignature) (g : Context) (h : Holding) → Starts sig g h → (u : PlainTelescope) (ms : List Mode) → telescope_modes u ≡ ms → SimplyFormedTelescope (families_of sig) (simple_of sig g) u
-    → Starts sig (with_entries u g) (all_held ms h)
-starts-behind sig g h s u ms e f = record {
-  signature = s.signature;
-  context = entries-formed (families_of sig) (constants_of sig) u g f s.context;
-  marked = subst (λ (ns : List Mode). WellMarked (modes (with_entries u g)) (all_held ns h)) e (all_marked u g h s.marked);
-}
 
 -- ---- types of one family
 as_many : (z : Assignment) (ns : List PlainObject) (ts : List SimpleType) → SimplyTypedEach z ns ts → length ns ≡ length ts
@@ -63,13 +41,12 @@ module _ (sig : PlainSignature) (g : Context) (h : Holding) (s : Starts sig g h)
   pub found-formed : (f : PlainType) (x : Leftover) → o ≡ passed (f, x) → SimplyFormed (families_of sig) (simple_of sig g) f
   found-formed f x e =
       let found = subst (λ (y : Outcome (PlainType × Leftover)). AgreesWithType g h y (λ p a. Synthesizes sig g p r a)) e u in
-      let part = some-part (modes g) h x (λ p. Synthesizes sig g p r f) found.0 in
-      synthesized_is_simply_formed sig g s.signature s.context part.0 r f part.2
+      formed-synthesized sig g h r f s (some-part (modes g) h x (λ p. Synthesizes sig g p r f) found.0)
 
-  pub found-marked : (f : PlainType) (x : Leftover) → o ≡ passed (f, x) → WellMarked (modes g) x.0
-  found-marked f x e =
+  pub found-starts : (f : PlainType) (x : Leftover) → o ≡ passed (f, x) → Starts sig g x.0
+  found-starts f x e =
       let found = subst (λ (y : Outcome (PlainType × Leftover)). AgreesWithType g h y (λ p a. Synthesizes sig g p r a)) e u in
-      WellMarked-part (modes g) h x.0 found.0.0
+      starts-part sig g h x.0 s found.0.0
 
 -- ---- all objects and neutrals
 module _ (puts : Puts) (are : ArePuts puts) (sig : PlainSignature) where
@@ -83,7 +60,7 @@ module _ (puts : Puts) (are : ArePuts puts) (sig : PlainSignature) where
         lambda-agrees m g h t (λ a c. checked puts sig ((m, a) ∷ g) (true ∷ h) b c) (λ a c p. HasType sig ((m, a) ∷ g) p b c)
         (λ a c e.
             let q = subst (λ y. SimplyFormed (families_of sig) (simple_of sig g) y) e f in
-            object-agrees b ((m, a) ∷ g) (true ∷ h) c (starts-under sig g h s m a q.0) q.1)
+            object-agrees b ((m, a) ∷ g) (true ∷ h) c (starts-under sig g h m a s q.0) q.1)
     object-agrees (pair l r) g h t s f =
         pair-left-agrees g h t (λ a. checked puts sig g h l a) (λ c. checked puts sig g h r c) (λ a p. HasType sig g p l a) (λ c p. HasType sig g p r c)
         (λ a c e. let q = subst (λ y. SimplyFormed (families_of sig) (simple_of sig g) y) e f in (object-agrees l g h a s q.0, object-agrees r g h c s q.1))
@@ -104,7 +81,7 @@ module _ (puts : Puts) (are : ArePuts puts) (sig : PlainSignature) where
         application-agrees m g h (eliminations r) o (λ p a. Synthesizes sig g p r a) (λ a p. HasType sig g p o a) puts (inferred puts sig g h r) (λ row a. checked puts sig g row o a) u
         (λ k a c x e.
             object-agrees o g (allowed m (modes g) x.0) a
-            (starts-within sig g h (allowed m (modes g) x.0) s (allowed-marked m (modes g) x.0 (found-marked sig g h s r (inferred puts sig g h r) u (function k a c) x e)))
+            (starts-allowed sig g x.0 m (found-starts sig g h s r (inferred puts sig g h r) u (function k a c) x e))
             (found-formed sig g h s r (inferred puts sig g h r) u (function k a c) x e).0)
         (λ k a c x e p y. are.types (families_of sig) (simple_of sig g) o a c (simply g p o a y) (found-formed sig g h s r (inferred puts sig g h r) u (function k a c) x e).1)
     neutral-agrees (fst r) g h s = first-agrees g h (eliminations r) (inferred puts sig g h r) (λ p a. Synthesizes sig g p r a) (neutral-agrees r g h s)
@@ -118,9 +95,9 @@ module _ (puts : Puts) (are : ArePuts puts) (sig : PlainSignature) where
         (λ v row. checked_expression puts sig (with_entries v g) row (suc place) e (ren_telescope (up (length ms)) t)) u
         (λ v x q same.
             expression-agrees e (with_entries v g) (all_held ms x.0) (suc place) (ren_telescope (up (length ms)) t)
-            (starts-behind sig g x.0 (starts-within sig g h x.0 s (found-marked sig g h s r (inferred puts sig g h r) u (monad v) x q)) v ms same
-            (found-formed sig g h s r (inferred puts sig g h r) u (monad v) x q))
-            (raised-telescope-formed (families_of sig) v ms g (constants_of sig) same t f))
+            (subst (λ (ns : List Mode). Starts sig (with_entries v g) (all_held ns x.0)) same
+            (starts-entered sig v g x.0 (found-starts sig g h s r (inferred puts sig g h r) u (monad v) x q) (found-formed sig g h s r (inferred puts sig g h r) u (monad v) x q)))
+            (formed-entered sig v g ms t same f))
     expression-agrees (done t) g h place u s f = tuple-agrees t g h place 0 u s f
 
     tuple-agrees : (t : PlainTuple) (g : Context) (h : Holding) (steps before : ℕ) (u : PlainTelescope) → Starts sig g h → SimplyFormedTelescope (families_of sig) (simple_of sig g) u
@@ -128,7 +105,7 @@ module _ (puts : Puts) (are : ArePuts puts) (sig : PlainSignature) where
     tuple-agrees empty g h steps before u s f = end-agrees before g h u s.marked
     tuple-agrees (entry m n t) g h steps before u s f =
         let row = allowed m (modes g) h in
-        let start = starts-within sig g h row s (allowed-marked m (modes g) h s.marked) in
+        let start = starts-allowed sig g h m s in
         entry-left-agrees puts steps before m g h s.marked n t u (λ l a. checked puts sig g l n a) (λ l v. checked_tuple puts sig g l steps (suc before) t v)
         (λ a p. HasType sig g p n a) (λ v p. TupleHasType sig g p t v)
         (λ k a v e p y. are.telescopes (families_of sig) (simple_of sig g) n a v (simply g p n a y) (subst (λ z. SimplyFormedTelescope (families_of sig) (simple_of sig g) z) e f).1)
@@ -136,12 +113,9 @@ module _ (puts : Puts) (are : ArePuts puts) (sig : PlainSignature) where
         (λ k a v e y q.
             let whole = subst (λ z. SimplyFormedTelescope (families_of sig) (simple_of sig g) z) e f in
             let found = subst (λ (o : Outcome Leftover). Agrees (modes g) row (answer_of o) (λ p. HasType sig g p n a)) q (object-agrees n g row a start whole.0) in
-            let part = some-part (modes g) row y (λ p. HasType sig g p n a) found in
-            let typed = simply g part.0 n a part.2 in
+            let put = telescope-put puts are sig g row n a v (some-part (modes g) row y (λ p. HasType sig g p n a) found) whole.1 in
             tuple-agrees t g (outside m (modes g) h y.0) steps (suc before) (puts.into_telescope n a v)
-            (starts-within sig g h (outside m (modes g) h y.0) s (outside-marked m g h s.marked y (λ p. HasType sig g p n a) found))
-            (put-telescope-formed (families_of sig) (simple_of sig g) n (erase a) typed v (puts.into_telescope n a v) whole.1
-            (are.telescopes (families_of sig) (simple_of sig g) n a v typed whole.1)))
+            (starts-from sig g h (outside m (modes g) h y.0) s (outside-marked m g h s.marked y (λ p. HasType sig g p n a) found)) put.1)
 
   pub checks_agree : ChecksAgree puts sig
   checks_agree = record { objects = object-agrees; neutrals = neutral-agrees; expressions = expression-agrees; tuples = tuple-agrees }

@@ -97,7 +97,7 @@ module _ (arguments : Families) where
       (renamed (extended_over g z) (extended_over (x ∷ g) z) (up 1) (past_one (erase x.1) (extended_over g z)) (ren_type (up (k + 1)) b) (variable z g k m b p.1 e))
 
 -- the constants have the same simple types in every context
-closed_within : (sig : PlainSignature) (g : Context) (h : Head) (t : SimpleType) → constants_of sig h ≡ Some t → simple_of sig g (ren_head (λ i. i) h) ≡ Some t
+pub closed_within : (sig : PlainSignature) (g : Context) (h : Head) (t : SimpleType) → constants_of sig h ≡ Some t → simple_of sig g (ren_head (λ i. i) h) ≡ Some t
 closed_within sig [] (Const c) t e = e
 closed_within sig [] (Var i) t e = e
 closed_within sig [] (Meta k) t e = e
