@@ -1,5 +1,6 @@
 -- The check of steps and tuples agrees with the rules, where that of their parts does.
-use Rattle.std.proofs.Common.{◌≡◌, ℕ, ◌+◌, ◌==◌, Bool, true, false, if◌then◌else◌, List, [], ◌∷◌, length, Option, None, Some, refl, sym, ap, subst, ◌∙◌, arith}
+use Rattle.std.proofs.Common.{◌≡◌, ℕ, ◌+◌, ◌==◌, Bool, true, false, if◌then◌else◌, List, [], ◌∷◌, length, Option, None, Some, refl, sym, ap, subst, ◌∙◌}
+use Rattle.std.proofs.lemmas.Option.{none-some}
 use Rattle.clf_syntax.specs.declared.tree.Mode.{Mode}
 use Rattle.clf_syntax.specs.Tree.{PlainObject, PlainTuple}
 use Rattle.clf_syntax.specs.TypeTree.{PlainType, family, function, both, top, monad, PlainTelescope, end, binding}
@@ -24,6 +25,7 @@ use Rattle.clf_decision.specs.Checking.{Puts, monadic_left, with_slack, first_ot
 use Rattle.clf_decision.proofs.AgreesWith.{AgreesWithType}
 use Rattle.clf_decision.proofs.AgreementOfObjects.{closed-answer, part-answer}
 use Rattle.clf_decision.proofs.Decided.{Decided}
+use Rattle.clf_decision.proofs.FirstPlaces.{same-modes, no-other-mode}
 
 -- ---- monadic objects
 monad-entries : {s u : PlainTelescope} → monad s ≡ monad u → s ≡ u
@@ -41,15 +43,11 @@ monadic-left-agrees g h top expression P f = λ p w y. let e = y.1 in absurd (cc
 
 -- ---- patterns
 other-modes : (ks ms : List Mode) → length ks ≡ length ms → Decided (same_modes_left (first_other_mode ks ms)) (ks ≡ ms)
-other-modes [] [] e = refl
-other-modes [] (m ∷ ms) e = absurd (omega arith)
-other-modes (k ∷ ks) [] e = absurd (omega arith)
-other-modes (k ∷ ks) (m ∷ ms) e = by (same_mode m k) refl (first_other_mode ks ms) (other-modes ks ms (omega arith))
+other-modes ks ms e = by (first_other_mode ks ms) refl
   where
-    by : (b : Bool) → same_mode m k ≡ b → (o : Option (Mode × Mode)) → Decided (same_modes_left o) (ks ≡ ms) → Decided (same_modes_left (if b then o else Some (k, m))) (k ∷ ks ≡ m ∷ ms)
-    by true e None p = let q = same-mode m k e in cc
-    by true e (Some d) p = λ q. p cc
-    by false e o p = λ q. other-mode m k e cc
+    by : (o : Option (Mode × Mode)) → first_other_mode ks ms ≡ o → Decided (same_modes_left o) (ks ≡ ms)
+    by None q = same-modes ks ms (sym e) q
+    by (Some d) q = λ p. none-some d (sym (no-other-mode ks) ∙ ap (first_other_mode ks) p ∙ q)
 
 pub pattern-decided : (ms : List Mode) (u : PlainTelescope) → Decided (pattern_left ms u) (telescope_modes u ≡ ms)
 pattern-decided ms u = by (length ms == telescope_width u) refl

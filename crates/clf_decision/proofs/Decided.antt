@@ -11,12 +11,12 @@ pub decided_as : {A P Q : Type 0} (o : Outcome A) → (P → Q) → (Q → P) �
 decided_as (passed a) f k p = f p
 decided_as (refused path cause) f k p = λ q. p (k q)
 
-pub decided_parts : {A B : Type 0} (P Q : Type 0) (i j : ℕ) (a : Outcome A) (b : Outcome B) → Decided a P → Decided b Q → Decided (and_then (at_part i a) (λ x. at_part j b)) (P × Q)
-decided_parts P Q i j (passed x) (passed y) p q = (p, q)
-decided_parts P Q i j (passed x) (refused path cause) p q = λ r. q r.1
-decided_parts P Q i j (refused path cause) b p q = λ r. p r.0
+-- Two things in turn: the second is decided where the first holds.
+pub decided_next : {A B : Type 0} (P Q : Type 0) (a : Outcome A) (b : Outcome B) → Decided a P → (P → Decided b Q) → Decided (and_then a (λ x. b)) (P × Q)
+decided_next P Q (passed x) (passed y) p q = (p, q p)
+decided_next P Q (passed x) (refused path cause) p q = λ r. q p r.1
+decided_next P Q (refused path cause) b p q = λ r. p r.0
 
-pub decided_in_turn : {A B : Type 0} (P Q : Type 0) (i : ℕ) (a : Outcome A) (b : Outcome B) → Decided a P → Decided b Q → Decided (and_then (at_part i a) (λ x. b)) (P × Q)
-decided_in_turn P Q i (passed x) (passed y) p q = (p, q)
-decided_in_turn P Q i (passed x) (refused path cause) p q = λ r. q r.1
-decided_in_turn P Q i (refused path cause) b p q = λ r. p r.0
+pub decided_part : {A : Type 0} (P : Type 0) (i : ℕ) (a : Outcome A) → Decided a P → Decided (at_part i a) P
+decided_part P i (passed x) p = p
+decided_part P i (refused path cause) p = p

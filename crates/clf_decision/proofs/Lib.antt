@@ -6,6 +6,7 @@ pub mod AgreementOfNeutrals
 pub mod Decided
 pub mod AgreementOfMonads
 pub mod Agreement
+pub mod AgreementOfTypes
 pub mod Starting
 pub mod Differences
 pub mod FirstPlaces
