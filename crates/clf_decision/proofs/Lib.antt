@@ -7,6 +7,7 @@ pub mod Decided
 pub mod AgreementOfMonads
 pub mod Agreement
 pub mod AgreementOfTypes
+pub mod OneLeftover
 pub mod Starting
 pub mod Differences
 pub mod FirstPlaces
