@@ -1,5 +1,5 @@
 -- The scopes of the entries of a step end: which entry is left, said of the row that is left, and of the parts that it stands for.
-use Rattle.std.proofs.Common.{◌≡◌, ℕ, zero, suc, ◌+◌, ◌-◌, ◌<◌, Bool, true, false, not, ◌&&◌, if◌then◌else◌, List, [], ◌∷◌, length, None, Some, slice_get, refl, sym, ap, subst, ◌∙◌, arith}
+use Rattle.std.proofs.Common.{◌≡◌, ℕ, zero, suc, ◌+◌, ◌<◌, Bool, true, false, if◌then◌else◌, List, [], ◌∷◌, length, Some, slice_get, refl, sym, ap, ◌∙◌, arith}
 use Rattle.std.proofs.Math.Logic.{◌⊎◌, inl, inr}
 use Rattle.clf_syntax.specs.declared.tree.Mode.{Mode}
 use Rattle.clf_syntax.specs.declared.tree.Mode.TheVariants.{Persistent, Affine, Linear}
@@ -8,7 +8,7 @@ use Rattle.use_contexts.specs.Context.{Context, modes, telescope_modes, with_ent
 use Rattle.use_contexts.specs.Holding.{Holding, all_held}
 use Rattle.use_contexts.specs.Rows.{implies, within, stands, is_unused, newest, older, EachWithin, EachStands, IsSubholding, Stands, Agrees, Leftover}
 use Rattle.use_contexts.proofs.Bits.{at_entry, given_2}
-use Rattle.clf_rules.specs.Refusal.{Cause, unused, level}
+use Rattle.clf_rules.specs.Refusal.{unused, level}
 use Rattle.clf_rules.specs.Explained.{telescope_width}
 use Rattle.clf_check.proofs.UsedParts.{used_of, used-part}
 use Rattle.clf_check.proofs.Leavings.{row-leaves}

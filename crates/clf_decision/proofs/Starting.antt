@@ -1,16 +1,16 @@
 -- Where a check starts from, the checks of parts start: in longer contexts, from parts of holdings, at types and telescopes that stay
 -- simply formed.
-use Rattle.std.specs.Prelude.{ℕ, zero, suc, ◌+◌, ◌≡◌, true, List, [], ◌∷◌, length, Some, refl}
+use Rattle.std.specs.Prelude.{suc, ◌+◌, ◌≡◌, true, List, ◌∷◌, length, Some, refl}
 use Rattle.std.proofs.Common.{ap, sym, subst, ◌∙◌, arith}
 use Rattle.clf_syntax.specs.declared.tree.Mode.{Mode}
 use Rattle.clf_syntax.specs.declared.tree.Head.{Head}
 use Rattle.clf_syntax.specs.declared.tree.Head.TheVariants.{Const, Var, Meta}
 use Rattle.clf_syntax.specs.Tree.{PlainObject, PlainNeutral}
 use Rattle.clf_syntax.specs.TypeTree.{PlainType, PlainTelescope, end, binding, SimpleType}
-use Rattle.clf_syntax.specs.Simple.{erase, Assignment, extended, Families, SimplyTyped, SimplyFormed, SimplyFormedTelescope, SimplyFormedContext}
+use Rattle.clf_syntax.specs.Simple.{erase, extended, SimplyTyped, SimplyFormed, SimplyFormedTelescope}
 use Rattle.clf_syntax.specs.Renaming.{ren_head, ren_telescope, up}
 use Rattle.use_contexts.specs.Context.{Context, modes, telescope_modes, with_entries}
-use Rattle.use_contexts.specs.Holding.{Holding, WellMarked, persistent_alone, allowed, all_held}
+use Rattle.use_contexts.specs.Holding.{Holding, WellMarked, allowed, all_held}
 use Rattle.use_contexts.specs.Rows.{IsSubholding}
 use Rattle.use_contexts.proofs.UseLaws.{WellMarked-part}
 use Rattle.hered_subst.specs.Substitution.{single, SubstitutedTelescope}
@@ -19,9 +19,8 @@ use Rattle.hered_subst.proofs.Types.{renames_telescope}
 use Rattle.hered_subst.proofs.TypedEnvironments.{keeps_single}
 use Rattle.hered_subst.proofs.TypedResults.{result_is_typed}
 use Rattle.clf_sig.specs.Entry.{PlainSignature}
-use Rattle.clf_rules.specs.Typing.{HasType, Synthesizes}
 use Rattle.clf_rules.specs.Explained.{MayHaveType, MaySynthesize}
-use Rattle.typing_laws.specs.SimpleTyping.{constants_of, simple_of, families_of}
+use Rattle.typing_laws.specs.SimpleTyping.{simple_of, families_of}
 use Rattle.typing_laws.proofs.Erased.{object}
 use Rattle.typing_laws.proofs.FormedTypes.{renames, as_inserted, synthesized_is_simply_formed}
 use Rattle.clf_check.proofs.Agreement.{allowed-marked}
