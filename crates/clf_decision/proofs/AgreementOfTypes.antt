@@ -85,20 +85,20 @@ arity-decided ns k = by (length k == length ns) refl
 -- ---- families, types, telescopes, kinds and classes
 module _ (puts : Puts) (are : ArePuts puts) (sig : PlainSignature) (agree : ChecksAgree puts sig) (well : WellFormedSignature sig) where
   module _ (g : Context) (context : SimplyFormedContext (families_of sig) (constants_of sig) g) where
-    index-decided : (n : PlainObject) (a : PlainType) → SimplyFormed (families_of sig) (simple_of sig g) a
+    pub index-decided : (n : PlainObject) (a : PlainType) → SimplyFormed (families_of sig) (simple_of sig g) a
         → Decided (checked puts sig g (persistent_alone (modes g)) n a) (HasType sig g (persistent_alone (modes g)) n a)
     index-decided n a f =
         alone-decided (modes g) (checked puts sig g (persistent_alone (modes g)) n a) (λ p. HasType sig g p n a)
         (agree.objects n g (persistent_alone (modes g)) a (record { signature = well; context = context; marked = alone-marked (modes g) }) f)
 
-    index-put : (n : PlainObject) (a : PlainType) (k : PlainKind) → SimplyFormedKind (families_of sig) (simple_of sig g) (a ∷ k) → HasType sig g (persistent_alone (modes g)) n a
+    pub index-put : (n : PlainObject) (a : PlainType) (k : PlainKind) → SimplyFormedKind (families_of sig) (simple_of sig g) (a ∷ k) → HasType sig g (persistent_alone (modes g)) n a
         → SubstitutedKind (single n 0) k (puts.into_kind n a k) × SimplyFormedKind (families_of sig) (simple_of sig g) (puts.into_kind n a k)
     index-put n a k f y =
         let typed = (typed_is_simply_typed true sig g (persistent_alone (modes g))).objects n a y in
         let put = are.kinds (families_of sig) (simple_of sig g) n a k typed f.1 in
         (put, put-kind-formed (families_of sig) (simple_of sig g) n (erase a) typed k (puts.into_kind n a k) f.1 put)
 
-    indices-decided : (ns : List PlainObject) (k : PlainKind) (place : ℕ) → SimplyFormedKind (families_of sig) (simple_of sig g) k → Decided (indices_formed puts sig g place ns k) (IndicesFit sig g ns k)
+    pub indices-decided : (ns : List PlainObject) (k : PlainKind) (place : ℕ) → SimplyFormedKind (families_of sig) (simple_of sig g) k → Decided (indices_formed puts sig g place ns k) (IndicesFit sig g ns k)
     indices-decided [] k place f = tt
     indices-decided (n ∷ ns) [] place f = tt
     indices-decided (n ∷ ns) (a ∷ k) place f =
@@ -120,7 +120,7 @@ module _ (puts : Puts) (are : ArePuts puts) (sig : PlainSignature) (agree : Chec
         (decided_next (IndicesFit sig g ns k) (length k ≡ length ns) (indices_formed puts sig g 0 ns k) (arity_formed ns k)
         (indices-decided ns k 0 (family-kind-formed sig well g f k e)) (λ p. arity-decided ns k))
 
-  under : (m : Mode) (a : PlainType) (g : Context) → SimplyFormedContext (families_of sig) (constants_of sig) g → WellFormedType sig g a → SimplyFormedContext (families_of sig) (constants_of sig) ((m, a) ∷ g)
+  pub under : (m : Mode) (a : PlainType) (g : Context) → SimplyFormedContext (families_of sig) (constants_of sig) g → WellFormedType sig g a → SimplyFormedContext (families_of sig) (constants_of sig) ((m, a) ∷ g)
   under m a g c p = ((well_formed_is_simply_formed sig g).types true a p, c)
 
   parts-decided : (P Q : Type 0) (a b : Outcome (Unit {0})) → Decided a P → (P → Decided b Q) → Decided (parts_formed a b) (P × Q)

@@ -34,7 +34,7 @@ rest-starts sig g h r u row ms w p f e =
 
 module _ (puts : Puts) (are : ArePuts puts) (sig : PlainSignature) (agree : ChecksAgree puts sig) where
   mutual
-    object-explained : (n : PlainObject) (g : Context) (h : Holding) (t : PlainType) → Starts sig g h → SimplyFormed (families_of sig) (simple_of sig g) t → Explained sig g h n t (checked puts sig g h n t)
+    pub object-explained : (n : PlainObject) (g : Context) (h : Holding) (t : PlainType) → Starts sig g h → SimplyFormed (families_of sig) (simple_of sig g) t → Explained sig g h n t (checked puts sig g h n t)
     object-explained (lam m b) g h t w f =
         lambda-explained sig g h m b t (λ a c. checked puts sig ((m, a) ∷ g) (true ∷ h) b c) f
         (λ a c x y. (agree.objects b ((m, a) ∷ g) (true ∷ h) c (starts-under sig g h m a w x) y, object-explained b ((m, a) ∷ g) (true ∷ h) c (starts-under sig g h m a w x) y))

@@ -22,3 +22,5 @@ pub mod RefusedForms
 pub mod FirstRefusalsOfObjects
 pub mod FirstRefusalsOfSteps
 pub mod FirstRefusals
+pub mod FittingIndices
+pub mod ExplanationsOfTypes
