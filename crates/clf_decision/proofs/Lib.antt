@@ -24,3 +24,4 @@ pub mod FirstRefusalsOfSteps
 pub mod FirstRefusals
 pub mod FittingIndices
 pub mod ExplanationsOfTypes
+pub mod FirstRefusalsOfTypes
