@@ -25,3 +25,4 @@ pub mod FirstRefusals
 pub mod FittingIndices
 pub mod ExplanationsOfTypes
 pub mod FirstRefusalsOfTypes
+pub mod Decisions
