@@ -15,11 +15,15 @@ Meets (made x) P F = P x
 Meets untyped P F = Unit {0}
 Meets too_far P F = F
 
+-- It does not give up, and what is made is such; and it goes too far only where F.
+abbrev pub FineUnless : Type 0 → {X : Type 0} → Answer X → (X → Type 0) → Type 0
+FineUnless F (made x) P = P x
+FineUnless F untyped P = ⊥
+FineUnless F too_far P = F
+
 -- It does not give up, and what is made is such.
 abbrev pub Fine : {X : Type 0} → Answer X → (X → Type 0) → Type 0
-Fine (made x) P = P x
-Fine untyped P = ⊥
-Fine too_far P = Unit {0}
+Fine a P = FineUnless (Unit {0}) a P
 
 -- What the function makes is what the rules relate, and it goes too far only where a number passes: at each bound and under each environment.
 abbrev pub FunctionIsSound : Type 0
