@@ -41,7 +41,7 @@ both untyped P R Q F p m h = p
 both too_far P R Q F p m h = tt
 
 -- the object that is put has the rank of its type
-ranked_single : (z : Assignment) (k : ℕ) (n : PlainObject) (u : SimpleType) → Typed true z n u → RankedEnvironment true (rank u) (inserted k u z) z (single n k)
+pub ranked_single : (z : Assignment) (k : ℕ) (n : PlainObject) (u : SimpleType) → Typed true z n u → RankedEnvironment true (rank u) (inserted k u z) z (single n k)
 ranked_single z k n u p (Const c) t e = inl (Const c, refl, e, refl)
 ranked_single z k n u p (Meta m) t e = inl (Meta m, refl, e, refl)
 ranked_single z k n u p (Var i) t e = ⊎_elim (λ h. inl (Var i, single_low n k i h, sym (inserted_low k u z i h) ∙ e, refl))
