@@ -12,4 +12,4 @@ pub mod Starting
 pub mod Differences
 pub mod FirstPlaces
 pub mod IdleEntries
-pub mod Substituting
+pub mod Hereditary
