@@ -26,3 +26,4 @@ pub mod FittingIndices
 pub mod ExplanationsOfTypes
 pub mod FirstRefusalsOfTypes
 pub mod Decisions
+pub mod Hereditary

@@ -10,3 +10,4 @@ pub mod Checking
 pub mod Formation
 pub mod Puts
 pub mod Laws
+pub mod Hereditary
