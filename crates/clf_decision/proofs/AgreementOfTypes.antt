@@ -2,13 +2,13 @@
 use Rattle.std.proofs.Common.{◌≡◌, ℕ, suc, ◌==◌, Bool, true, false, if◌then◌else◌, List, [], ◌∷◌, length, Option, None, Some, refl, sym, ap, subst, ◌∙◌, arith}
 use Rattle.std.proofs.lemmas.Option.{none-some, same_Some}
 use Rattle.clf_syntax.specs.declared.tree.Mode.{Mode}
-use Rattle.clf_syntax.specs.declared.tree.Mode.TheVariants.{Persistent, Affine, Linear}
+use Rattle.clf_syntax.specs.declared.tree.Mode.TheVariants.{Persistent}
 use Rattle.clf_syntax.specs.Tree.{PlainObject}
 use Rattle.clf_syntax.specs.TypeTree.{PlainType, family, function, both, top, monad, PlainTelescope, end, binding, PlainKind}
 use Rattle.clf_syntax.specs.Simple.{erase, SimplyFormed, SimplyFormedKind, SimplyFormedContext}
 use Rattle.use_contexts.specs.Context.{Context, modes}
-use Rattle.use_contexts.specs.Holding.{Holding, is_persistent, persistent_alone}
-use Rattle.use_contexts.specs.Rows.{within, IsSubholding, Agrees, Leftover}
+use Rattle.use_contexts.specs.Holding.{Holding, persistent_alone}
+use Rattle.use_contexts.specs.Rows.{Agrees, Leftover}
 use Rattle.use_contexts.proofs.ArgumentLaws.{alone_part}
 use Rattle.hered_subst.specs.Substitution.{Environment, single, SubstitutedKind, in_no_argument, in_argument}
 use Rattle.hered_subst.proofs.Types.{is_determined}
@@ -21,32 +21,18 @@ use Rattle.typing_laws.specs.SimpleTyping.{constants_of, simple_of, families_of}
 use Rattle.typing_laws.proofs.Erased.{typed_is_simply_typed}
 use Rattle.typing_laws.proofs.FormedTypes.{well_formed_is_simply_formed}
 use Rattle.clf_check.proofs.Agreement.{other-number, alone-marked}
-use Rattle.clf_check.proofs.UsedParts.{some-part}
 use Rattle.clf_decision.specs.Outcome.{Outcome, passed, refused, at_part, and_then, answer_of}
 use Rattle.clf_decision.specs.Checking.{Puts, checked}
 use Rattle.clf_decision.specs.Formation.{indices_formed, arity_formed, family_formed, parts_formed, type_formed, telescope_formed, kind_formed, class_formed}
 use Rattle.clf_decision.specs.Puts.{ArePuts}
 use Rattle.clf_decision.proofs.AgreesWith.{ChecksAgree, FormationAgrees}
-use Rattle.clf_decision.proofs.Decided.{Decided, decided_as, decided_next, decided_part}
+use Rattle.clf_decision.proofs.EntryRows.{alone-has}
+use Rattle.clf_decision.proofs.DecidedOutcomes.{Decided, decided_as, decided_next, decided_part}
 use Rattle.clf_decision.proofs.SimpleForms.{put-kind-formed, family-kind-formed}
 
 -- ---- what uses persistent entries alone
-only-part : (ms : List Mode) (p : Holding) → IsSubholding ms (persistent_alone ms) p → p ≡ persistent_alone ms
-only-part [] [] w = refl
-only-part [] (x ∷ p) w = let e = w.0 in absurd (omega arith)
-only-part (m ∷ ms) [] w = let e = w.0 in absurd (omega arith)
-only-part (m ∷ ms) (x ∷ p) w = let e = w.0 in by m x w.1.0 (only-part ms p (omega arith, w.1.1))
-  where
-    by : (m : Mode) (x : Bool) → within m (is_persistent m) x ≡ true → p ≡ persistent_alone ms → x ∷ p ≡ is_persistent m ∷ persistent_alone ms
-    by Persistent true e q = ap (λ r. true ∷ r) q
-    by Persistent false e q = absurd (cc)
-    by Affine true e q = absurd (cc)
-    by Affine false e q = ap (λ r. false ∷ r) q
-    by Linear true e q = absurd (cc)
-    by Linear false e q = ap (λ r. false ∷ r) q
-
 pub alone-decided : (ms : List Mode) (o : Outcome Leftover) (P : Holding → Type 0) → Agrees ms (persistent_alone ms) (answer_of o) P → Decided o (P (persistent_alone ms))
-alone-decided ms (passed y) P a = let part = some-part ms (persistent_alone ms) y P a in subst P (only-part ms part.0 part.1) part.2
+alone-decided ms (passed y) P a = alone-has ms y P a
 alone-decided ms (refused path cause) P a = a (persistent_alone ms) (alone_part ms)
 
 -- ---- as many indices as arguments

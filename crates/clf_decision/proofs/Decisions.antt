@@ -1,14 +1,14 @@
 -- What the rules decide, and explain where it fails.
-use Rattle.std.specs.Prelude.{◌≡◌, ◌⊎◌, ◌↔◌, ℕ, List, None, Some, refl}
-use Rattle.std.proofs.Common.{sym, subst, ◌∙◌, inl, inr}
-use Rattle.clf_syntax.specs.Tree.{PlainObject, monadic, PlainNeutral, PlainExpression}
-use Rattle.clf_syntax.specs.TypeTree.{PlainType, monad, PlainTelescope, PlainKind}
+use Rattle.std.specs.Prelude.{◌≡◌, ◌↔◌, ℕ, List, None, Some, refl}
+use Rattle.std.proofs.Common.{inl, inr}
+use Rattle.clf_syntax.specs.Tree.{monadic, PlainNeutral}
+use Rattle.clf_syntax.specs.TypeTree.{PlainType, monad}
 use Rattle.use_contexts.specs.Context.{Context, modes}
 use Rattle.use_contexts.specs.Holding.{Holding}
 use Rattle.use_contexts.specs.Rows.{IsSubholding, Agrees, Leftover}
-use Rattle.clf_sig.specs.Entry.{PlainSignature, PlainEntry}
+use Rattle.clf_sig.specs.Entry.{PlainSignature}
 use Rattle.clf_rules.specs.Typing.{HasType, Synthesizes, ExpressionHasType}
-use Rattle.clf_rules.specs.WellFormed.{WellFormedType, WellFormedKind, WellFormedClass, WellFormedEntry}
+use Rattle.clf_rules.specs.WellFormed.{WellFormedType, WellFormedKind, WellFormedEntry}
 use Rattle.clf_rules.specs.Refusal.{Cause}
 use Rattle.clf_rules.specs.Explained.{ExplainedAt, ExplainedInNeutral, ExplainedInType, ExplainedInKind, ExplainedInClass}
 use Rattle.clf_check.proofs.UsedParts.{some-part}
@@ -17,8 +17,8 @@ use Rattle.clf_decision.specs.Checking.{Puts, checked, inferred, checked_express
 use Rattle.clf_decision.specs.Formation.{type_formed, kind_formed, class_formed}
 use Rattle.clf_decision.specs.Puts.{ArePuts}
 use Rattle.clf_decision.specs.Laws.{IsDecided, InferredIs, ObjectsAreDecided, NeutralsAreDecided, ExpressionsAreDecided, TypesAreDecided, KindsAreDecided, EntriesAreDecided}
-use Rattle.clf_decision.proofs.AgreesWith.{AgreesWithType, ChecksAgree}
-use Rattle.clf_decision.proofs.Decided.{Decided, decided_as}
+use Rattle.clf_decision.proofs.AgreesWith.{AgreesWithType}
+use Rattle.clf_decision.proofs.DecidedOutcomes.{Decided, decided_as}
 use Rattle.clf_decision.proofs.Agreement.{checks_agree}
 use Rattle.clf_decision.proofs.AgreementOfTypes.{formation_agrees}
 use Rattle.clf_decision.proofs.FirstRefusals.{refuses_exactly, refuses_neutrals_exactly}

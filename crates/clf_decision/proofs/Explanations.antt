@@ -1,9 +1,9 @@
 -- Refusals tell the truth: at the path stands a part that is refused for the cause.
-use Rattle.std.proofs.Common.{◌≡◌, ℕ, suc, true, List, ◌∷◌, length, refl, subst}
+use Rattle.std.proofs.Common.{◌≡◌, ℕ, suc, true, List, ◌∷◌, length, subst}
 use Rattle.clf_syntax.specs.declared.tree.Mode.{Mode}
 use Rattle.clf_syntax.specs.Tree.{PlainObject, lam, pair, unit, monadic, atomic, hole, PlainNeutral, head_alone, app, fst, snd, PlainExpression, step, done, PlainTuple, empty, entry}
 use Rattle.clf_syntax.specs.TypeTree.{PlainType, monad, PlainTelescope}
-use Rattle.clf_syntax.specs.Simple.{erase, extended, SimplyFormed, SimplyFormedTelescope}
+use Rattle.clf_syntax.specs.Simple.{SimplyFormed, SimplyFormedTelescope}
 use Rattle.clf_syntax.specs.Renaming.{ren_telescope, up}
 use Rattle.use_contexts.specs.Context.{Context, modes, telescope_modes, with_entries}
 use Rattle.use_contexts.specs.Holding.{Holding, allowed, all_held}

@@ -1,5 +1,5 @@
 -- Refusals of neutrals tell the truth, construct by construct.
-use Rattle.std.proofs.Common.{◌≡◌, ℕ, suc, Bool, true, false, ◌||◌, if◌then◌else◌, List, [], ◌∷◌, Option, None, Some, slice_get, refl, sym, subst}
+use Rattle.std.proofs.Common.{◌≡◌, ℕ, Bool, true, false, ◌||◌, if◌then◌else◌, [], ◌∷◌, Option, None, Some, slice_get, refl, sym, subst}
 use Rattle.clf_syntax.specs.declared.tree.Mode.{Mode}
 use Rattle.clf_syntax.specs.declared.tree.Head.{Head}
 use Rattle.clf_syntax.specs.declared.tree.Head.TheVariants.{Const, Var, Meta}
@@ -10,7 +10,7 @@ use Rattle.use_contexts.specs.Context.{Context, modes}
 use Rattle.use_contexts.specs.Holding.{Holding, WellMarked, allowed}
 use Rattle.use_contexts.specs.Rows.{Agrees, outside, slack_outside, Leftover}
 use Rattle.clf_sig.specs.Entry.{PlainSignature, constant_type}
-use Rattle.clf_rules.specs.Typing.{HasType, Synthesizes}
+use Rattle.clf_rules.specs.Typing.{Synthesizes}
 use Rattle.clf_rules.specs.Refusal.{mode_differs, eliminations}
 use Rattle.clf_rules.specs.Explained.{neutral_with, at_head, at_argument, at_first, at_second, before_argument, before_first, before_second, in_argument_part, argument_to_none, first_of_none, second_of_none, metavariable_stands, argument_differs, variable_not_held, no_variable, no_constant}
 use Rattle.clf_check.proofs.UsedParts.{some-part}
@@ -18,7 +18,7 @@ use Rattle.clf_check.proofs.Leavings.{row-leaves}
 use Rattle.clf_check.proofs.Agreement.{same-mode, other-mode, marked-there}
 use Rattle.trace_equal.specs.Search.{same_mode}
 use Rattle.typing_laws.specs.SimpleTyping.{simple_of, families_of}
-use Rattle.clf_decision.specs.Outcome.{Outcome, passed, refused, at_part, and_then, answer_of}
+use Rattle.clf_decision.specs.Outcome.{Outcome, passed, refused, at_part, and_then}
 use Rattle.clf_decision.specs.Checking.{Puts, constant_left, held_left, variable_left, head_left, argument_left, first_left, second_left}
 use Rattle.clf_decision.specs.Puts.{Starts}
 use Rattle.clf_decision.proofs.AgreesWith.{AgreesWithType}

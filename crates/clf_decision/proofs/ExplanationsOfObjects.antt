@@ -1,6 +1,6 @@
 -- Refusals of objects tell the truth, construct by construct: where those of the parts do, at the path stands a part that is refused
 -- for the cause.
-use Rattle.std.proofs.Common.{◌≡◌, ℕ, suc, ◌==◌, Bool, true, false, not, ◌&&◌, if◌then◌else◌, List, [], ◌∷◌, length, Option, None, Some, slice_get, refl, sym, ap, subst}
+use Rattle.std.proofs.Common.{◌≡◌, ℕ, suc, ◌==◌, Bool, true, false, not, ◌&&◌, if◌then◌else◌, List, [], ◌∷◌, length, Option, None, Some, refl, sym, subst}
 use Rattle.clf_syntax.specs.declared.tree.Mode.{Mode}
 use Rattle.clf_syntax.specs.declared.tree.Mode.TheVariants.{Persistent, Affine, Linear}
 use Rattle.clf_syntax.specs.Tree.{PlainObject, lam, pair, unit, monadic, atomic, PlainNeutral, PlainExpression}
@@ -19,7 +19,7 @@ use Rattle.clf_check.proofs.UsedParts.{some-part}
 use Rattle.clf_check.proofs.Agreement.{same-mode, other-mode, other-number}
 use Rattle.trace_equal.specs.Search.{same_mode}
 use Rattle.clf_decision.specs.Outcome.{Outcome, passed, refused, at_part, and_then, answer_of}
-use Rattle.clf_decision.specs.Checking.{closed_scope, lambda_left, joined_left, pair_left, unit_left, first_unjoined, indices_left, same_family_left, found_left, atomic_left, monadic_left}
+use Rattle.clf_decision.specs.Checking.{closed_scope, lambda_left, joined_left, pair_left, unit_left, first_unjoined, indices_left, found_left, atomic_left, monadic_left}
 use Rattle.clf_decision.proofs.AgreesWith.{AgreesWithType}
 use Rattle.clf_decision.proofs.Differences.{get-now, differ-at, differ-found, rows-differ, parts-differ, not-newer}
 use Rattle.clf_decision.proofs.FirstPlaces.{first-indices}

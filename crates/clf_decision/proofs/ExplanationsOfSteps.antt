@@ -1,31 +1,30 @@
 -- Refusals of expressions and tuples tell the truth, construct by construct.
-use Rattle.std.proofs.Common.{◌≡◌, ℕ, suc, ◌+◌, ◌==◌, Bool, true, false, ◌||◌, if◌then◌else◌, List, [], ◌∷◌, length, Option, None, Some, slice_get, refl, sym, ap, subst, ◌∙◌, arith}
+use Rattle.std.proofs.Common.{◌≡◌, ℕ, suc, ◌+◌, ◌==◌, Bool, true, false, if◌then◌else◌, List, [], ◌∷◌, length, Option, None, Some, refl, sym, subst}
 use Rattle.clf_syntax.specs.declared.tree.Mode.{Mode}
 use Rattle.clf_syntax.specs.Tree.{PlainObject, PlainNeutral, PlainExpression, step, PlainTuple, empty, entry}
 use Rattle.clf_syntax.specs.TypeTree.{PlainType, family, function, both, top, monad, PlainTelescope, end, binding}
 use Rattle.clf_syntax.specs.Simple.{erase, extended, SimplyFormed, SimplyFormedTelescope}
 use Rattle.clf_syntax.specs.Renaming.{ren_telescope, up}
 use Rattle.use_contexts.specs.Context.{Context, modes, telescope_modes, with_entries}
-use Rattle.use_contexts.specs.Holding.{Holding, WellMarked, may_use, allowed, all_held}
+use Rattle.use_contexts.specs.Holding.{Holding, WellMarked, allowed, all_held}
 use Rattle.use_contexts.specs.Rows.{IsSubholding, Agrees, outside, slack_outside, Leftover}
 use Rattle.use_contexts.proofs.UseLaws.{IsSubholding-self}
 use Rattle.hered_subst.specs.Substitution.{single, SubstitutedTelescope}
 use Rattle.clf_sig.specs.Entry.{PlainSignature}
 use Rattle.clf_rules.proofs.Held.{same_number}
 use Rattle.clf_rules.specs.Typing.{HasType, Synthesizes, ExpressionHasType}
-use Rattle.clf_rules.specs.Refusal.{Cause, mode_differs, width, unused, level}
-use Rattle.clf_rules.specs.Explained.{MayHaveType, MaySynthesize, Leaves, step_at, entry_at, rest_at, at_step, in_right_side, in_later_steps, at_rest, at_entry, in_entry, in_later_entries, tuple_width, telescope_width, IsIdle, step_of_none, pattern_differs, pattern_width, entry_differs, tuple_too_short, tuple_too_long, step_unused}
+use Rattle.clf_rules.specs.Refusal.{mode_differs, width}
+use Rattle.clf_rules.specs.Explained.{MayHaveType, MaySynthesize, Leaves, step_at, entry_at, rest_at, at_step, in_right_side, in_later_steps, at_rest, at_entry, in_entry, in_later_entries, telescope_width, IsIdle, step_of_none, pattern_differs, pattern_width, entry_differs, tuple_too_short, tuple_too_long, step_unused}
 use Rattle.clf_check.proofs.UsedParts.{some-part}
 use Rattle.clf_check.proofs.Leavings.{row-leaves}
 use Rattle.clf_check.proofs.Agreement.{same-mode, other-mode, other-number}
 use Rattle.trace_equal.specs.Search.{same_mode}
 use Rattle.typing_laws.specs.SimpleTyping.{simple_of, families_of}
 use Rattle.clf_decision.specs.Outcome.{Outcome, passed, refused, at_part, and_then, answer_of}
-use Rattle.clf_decision.specs.Checking.{Puts, with_slack, first_other_mode, same_modes_left, pattern_left, closed_scopes, rest_left, step_left, end_left, entry_left}
-use Rattle.clf_decision.specs.Puts.{Starts}
+use Rattle.clf_decision.specs.Checking.{Puts, with_slack, first_other_mode, same_modes_left, closed_scopes, rest_left, step_left, end_left, entry_left}
 use Rattle.clf_decision.proofs.AgreesWith.{AgreesWithType}
 use Rattle.clf_decision.proofs.FirstPlaces.{first-modes, same-modes}
-use Rattle.clf_decision.proofs.IdleEntries.{LeftAt, left-is-idle, idle-is-left, entered-held, ScopesEnd, scopes-end}
+use Rattle.clf_decision.proofs.IdleEntries.{left-is-idle, idle-is-left, entered-held, ScopesEnd, scopes-end}
 use Rattle.clf_decision.proofs.EntryRows.{entry-leaves, outside-marked}
 use Rattle.clf_decision.proofs.ExplanationForms.{Explained, NeutralExplained, ExpressionExplained, TupleExplained, ExplainedInExpression, synthesized}
 

@@ -1,5 +1,5 @@
 -- Refusals of types, telescopes, kinds and classes tell the truth: at the path stands a part that is refused for the cause.
-use Rattle.std.proofs.Common.{◌≡◌, ℕ, suc, ◌==◌, Bool, true, false, if◌then◌else◌, List, [], ◌∷◌, length, take, Option, None, Some, refl, sym, ap, subst}
+use Rattle.std.proofs.Common.{◌≡◌, ℕ, suc, ◌==◌, Bool, true, false, if◌then◌else◌, List, [], ◌∷◌, length, Option, None, Some, refl, subst}
 use Rattle.clf_syntax.specs.declared.tree.Mode.{Mode}
 use Rattle.clf_syntax.specs.declared.tree.Mode.TheVariants.{Persistent}
 use Rattle.clf_syntax.specs.Tree.{PlainObject}
@@ -19,9 +19,9 @@ use Rattle.clf_check.proofs.Agreement.{other-number, alone-marked}
 use Rattle.clf_decision.specs.Outcome.{Outcome, passed, refused, at_part, and_then}
 use Rattle.clf_decision.specs.Checking.{Puts, checked}
 use Rattle.clf_decision.specs.Formation.{indices_formed, arity_formed, family_formed, parts_formed, type_formed, telescope_formed, kind_formed, class_formed}
-use Rattle.clf_decision.specs.Puts.{ArePuts, Starts, FormationStarts}
+use Rattle.clf_decision.specs.Puts.{ArePuts, Starts}
 use Rattle.clf_decision.proofs.AgreesWith.{ChecksAgree, FormationAgrees}
-use Rattle.clf_decision.proofs.Decided.{Decided}
+use Rattle.clf_decision.proofs.DecidedOutcomes.{Decided}
 use Rattle.clf_decision.proofs.SimpleForms.{family-kind-formed}
 use Rattle.clf_decision.proofs.AgreementOfTypes.{IndicesFit, index-decided, index-put, indices-decided, under, formation_agrees}
 use Rattle.clf_decision.proofs.FittingIndices.{fit-takes}

@@ -1,8 +1,7 @@
 -- A part at a path that is refused for a cause is the check's refusal: it is the first, and the one that is answered.
 use Rattle.std.proofs.Common.{◌≡◌, ℕ, suc, true, List, [], ◌∷◌, length, ap, ◌∙◌, ◌↔◌}
 use Rattle.std.proofs.lemmas.Bool.{cond-true}
-use Rattle.clf_syntax.specs.declared.tree.Mode.{Mode}
-use Rattle.clf_syntax.specs.Tree.{PlainObject, lam, pair, PlainNeutral, app, PlainExpression, PlainTuple}
+use Rattle.clf_syntax.specs.Tree.{PlainObject, PlainNeutral, PlainExpression, PlainTuple}
 use Rattle.clf_syntax.specs.TypeTree.{PlainType, PlainTelescope}
 use Rattle.clf_syntax.specs.Simple.{SimplyFormed, SimplyFormedTelescope}
 use Rattle.clf_syntax.specs.Renaming.{ren_telescope, up}
@@ -15,7 +14,7 @@ use Rattle.clf_rules.specs.Explained.{CheckedPart, Reaches, ReachesInNeutral, Re
 use Rattle.clf_check.proofs.Agreement.{itself-mode}
 use Rattle.trace_equal.specs.Search.{same_mode}
 use Rattle.typing_laws.specs.SimpleTyping.{simple_of, families_of}
-use Rattle.clf_decision.specs.Outcome.{Outcome, passed, refused, at_part, and_then}
+use Rattle.clf_decision.specs.Outcome.{refused, at_part, and_then}
 use Rattle.clf_decision.specs.Checking.{Puts, closed_scope, joined_left, atomic_left, argument_left, first_left, second_left, step_left, checked, inferred, checked_expression, checked_tuple}
 use Rattle.clf_decision.specs.Puts.{ArePuts, Starts}
 use Rattle.clf_decision.proofs.AgreesWith.{ChecksAgree}

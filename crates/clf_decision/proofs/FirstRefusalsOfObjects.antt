@@ -1,8 +1,8 @@
 -- A part of an object or a neutral that is refused for a cause is the check's refusal, construct by construct.
-use Rattle.std.proofs.Common.{◌≡◌, ◌≤◌, ◌<◌, ℕ, suc, ◌-◌, ◌==◌, Bool, true, false, ◌||◌, if◌then◌else◌, List, [], ◌∷◌, length, Option, None, Some, slice_get, refl, sym, ap, subst, ◌∙◌, arith}
+use Rattle.std.proofs.Common.{◌≡◌, ◌≤◌, ◌<◌, ℕ, suc, ◌-◌, ◌==◌, Bool, true, false, ◌||◌, if◌then◌else◌, List, [], ◌∷◌, length, Option, None, Some, slice_get, refl, ap, subst, ◌∙◌, arith}
 use Rattle.std.proofs.lemmas.Bool.{cond-true, cond-false}
 use Rattle.clf_syntax.specs.declared.tree.Mode.{Mode}
-use Rattle.clf_syntax.specs.declared.tree.Mode.TheVariants.{Persistent, Affine, Linear}
+use Rattle.clf_syntax.specs.declared.tree.Mode.TheVariants.{Linear}
 use Rattle.clf_syntax.specs.declared.tree.Head.{Head}
 use Rattle.clf_syntax.specs.Tree.{PlainObject, lam, pair, PlainNeutral, head_alone, app, fst, snd}
 use Rattle.clf_syntax.specs.TypeTree.{PlainType, family, function, both}
@@ -21,7 +21,7 @@ use Rattle.clf_check.proofs.Agreement.{itself-mode}
 use Rattle.trace_equal.specs.Search.{same_mode}
 use Rattle.typing_laws.specs.SimpleTyping.{simple_of, families_of}
 use Rattle.clf_decision.specs.Outcome.{Outcome, passed, refused, at_part, and_then, answer_of}
-use Rattle.clf_decision.specs.Checking.{Puts, constant_left, held_left, variable_left, head_left, closed_scope, lambda_left, joined_left, first_unjoined, indices_left, atomic_left, argument_left, first_left, second_left, checked, inferred, checked_expression}
+use Rattle.clf_decision.specs.Checking.{Puts, constant_left, held_left, variable_left, head_left, closed_scope, joined_left, first_unjoined, indices_left, atomic_left, argument_left, first_left, second_left, checked, inferred, checked_expression}
 use Rattle.clf_decision.specs.Puts.{Starts}
 use Rattle.clf_decision.proofs.AgreesWith.{AgreesWithType, ChecksAgree}
 use Rattle.clf_decision.proofs.Starting.{starts-under, starts-part, formed-synthesized}

@@ -1,10 +1,10 @@
 -- A part of an expression or a tuple that is refused for a cause is the check's refusal, construct by construct.
-use Rattle.std.proofs.Common.{◌≡◌, ◌<◌, ◌≢◌, ℕ, suc, ◌+◌, ◌==◌, Bool, true, false, ◌||◌, if◌then◌else◌, List, [], ◌∷◌, length, Option, None, Some, slice_get, refl, sym, ap, subst, ◌∙◌, arith}
+use Rattle.std.proofs.Common.{◌≡◌, ◌<◌, ◌≢◌, ℕ, suc, ◌+◌, ◌==◌, true, List, [], ◌∷◌, length, Some, refl, sym, ap, subst, ◌∙◌, arith}
 use Rattle.std.proofs.lemmas.Bool.{cond-true, cond-false}
 use Rattle.clf_syntax.specs.declared.tree.Mode.{Mode}
-use Rattle.clf_syntax.specs.Tree.{PlainObject, PlainNeutral, PlainExpression, step, PlainTuple, empty, entry}
-use Rattle.clf_syntax.specs.TypeTree.{PlainType, monad, PlainTelescope, end, binding}
-use Rattle.clf_syntax.specs.Simple.{erase, extended, SimplyFormed, SimplyFormedTelescope}
+use Rattle.clf_syntax.specs.Tree.{PlainObject, PlainNeutral, PlainExpression, step, PlainTuple, entry}
+use Rattle.clf_syntax.specs.TypeTree.{PlainType, monad, PlainTelescope, binding}
+use Rattle.clf_syntax.specs.Simple.{SimplyFormedTelescope}
 use Rattle.clf_syntax.specs.Renaming.{ren_telescope, up}
 use Rattle.use_contexts.specs.Context.{Context, modes, telescope_modes, with_entries}
 use Rattle.use_contexts.specs.Holding.{Holding, may_use, allowed, all_held}
@@ -21,12 +21,12 @@ use Rattle.clf_check.proofs.Agreement.{itself-mode}
 use Rattle.trace_equal.specs.Search.{same_mode}
 use Rattle.typing_laws.specs.SimpleTyping.{simple_of, families_of}
 use Rattle.clf_decision.specs.Outcome.{Outcome, passed, refused, at_part, and_then, answer_of}
-use Rattle.clf_decision.specs.Checking.{Puts, with_slack, first_other_mode, same_modes_left, pattern_left, closed_scopes, rest_left, step_left, entry_left, checked, inferred, checked_expression, checked_tuple}
+use Rattle.clf_decision.specs.Checking.{Puts, with_slack, first_other_mode, same_modes_left, pattern_left, closed_scopes, rest_left, step_left, checked, inferred, checked_expression, checked_tuple}
 use Rattle.clf_decision.specs.Puts.{ArePuts, Starts}
-use Rattle.clf_decision.proofs.AgreesWith.{AgreesWithType, ChecksAgree}
-use Rattle.clf_decision.proofs.Starting.{starts-from, starts-part, starts-allowed, formed-entered, telescope-put}
+use Rattle.clf_decision.proofs.AgreesWith.{ChecksAgree}
+use Rattle.clf_decision.proofs.Starting.{starts-from, starts-allowed, formed-entered, telescope-put}
 use Rattle.clf_decision.proofs.FirstPlaces.{modes-differ, modes-first, no-other-mode}
-use Rattle.clf_decision.proofs.IdleEntries.{LeftAt, left-is-idle, idle-is-left, entered-held, scopes-end, scopes-refused}
+use Rattle.clf_decision.proofs.IdleEntries.{left-is-idle, idle-is-left, entered-held, scopes-end, scopes-refused}
 use Rattle.clf_decision.proofs.EntryRows.{entry-leaves, outside-marked}
 use Rattle.clf_decision.proofs.Explanations.{rest-starts}
 use Rattle.clf_decision.proofs.RefusedForms.{typed-passes, step-of-none, numbers-differ, itself-number}

@@ -1,5 +1,5 @@
 -- A part of a type, a telescope, a kind or a class that is refused for a cause is the check's refusal: it is the first.
-use Rattle.std.proofs.Common.{◌≡◌, ◌≢◌, ℕ, suc, ◌==◌, true, List, [], ◌∷◌, length, take, Some, refl, sym, ap, subst, ◌∙◌, ◌↔◌}
+use Rattle.std.proofs.Common.{◌≡◌, ℕ, suc, ◌==◌, List, [], ◌∷◌, length, take, Some, refl, sym, ap, subst, ◌∙◌, ◌↔◌}
 use Rattle.std.proofs.lemmas.Bool.{cond-false}
 use Rattle.clf_syntax.specs.declared.tree.Mode.TheVariants.{Persistent}
 use Rattle.clf_syntax.specs.Tree.{PlainObject}
@@ -7,8 +7,6 @@ use Rattle.clf_syntax.specs.TypeTree.{PlainType, family, PlainTelescope, PlainKi
 use Rattle.clf_syntax.specs.Simple.{SimplyFormed, SimplyFormedKind, SimplyFormedContext}
 use Rattle.use_contexts.specs.Context.{Context, modes}
 use Rattle.use_contexts.specs.Holding.{Holding, persistent_alone}
-use Rattle.use_contexts.specs.Rows.{Leftover}
-use Rattle.hered_subst.specs.Substitution.{single, SubstitutedKind}
 use Rattle.hered_subst.proofs.Types.{determined_kind}
 use Rattle.clf_sig.specs.Entry.{PlainSignature, PlainClass, family_of, constant_of, family_kind}
 use Rattle.clf_rules.specs.Typing.{HasType}
@@ -22,7 +20,7 @@ use Rattle.clf_decision.specs.Checking.{Puts, checked}
 use Rattle.clf_decision.specs.Formation.{indices_formed, arity_formed, family_formed, parts_formed, type_formed, telescope_formed, kind_formed, class_formed}
 use Rattle.clf_decision.specs.Puts.{ArePuts, Starts}
 use Rattle.clf_decision.proofs.AgreesWith.{ChecksAgree}
-use Rattle.clf_decision.proofs.Decided.{Decided}
+use Rattle.clf_decision.proofs.DecidedOutcomes.{Decided}
 use Rattle.clf_decision.proofs.SimpleForms.{family-kind-formed}
 use Rattle.clf_decision.proofs.AgreementOfTypes.{put-length, index-decided, index-put, under, formation_agrees}
 use Rattle.clf_decision.proofs.FittingIndices.{put-take}

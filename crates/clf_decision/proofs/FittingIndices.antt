@@ -1,5 +1,5 @@
 -- Indices that have the types of the arguments, as far as there are both: said by the first ones of either.
-use Rattle.std.proofs.Common.{◌≡◌, ℕ, zero, suc, List, [], ◌∷◌, length, take, refl, sym, ap, subst}
+use Rattle.std.proofs.Common.{ℕ, zero, suc, List, [], ◌∷◌, length, take, subst}
 use Rattle.clf_syntax.specs.Tree.{PlainObject}
 use Rattle.clf_syntax.specs.TypeTree.{PlainKind}
 use Rattle.use_contexts.specs.Context.{Context}

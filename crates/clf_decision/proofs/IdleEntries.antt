@@ -42,7 +42,8 @@ pub left-is-idle : (ms : List Mode) (h : Holding) (y : Leftover) (P : Holding �
 left-is-idle ms h y P i a l p w t = let s = a.1 p w t in unheld-there ms h y.0 y.1 p i s.1 s.0 l
 
 -- ---- and a held linear entry that no part holds is left so
-each_whole : (ms : List Mode) (h l : Holding) → EachWithin ms h h → EachWithin ms h l → EachStands ms h l true h
+-- A row with slack stands for the whole holding, if that is a part of itself.
+pub each_whole : (ms : List Mode) (h l : Holding) → EachWithin ms h h → EachWithin ms h l → EachStands ms h l true h
 each_whole [] h l a b = tt
 each_whole (m ∷ ms) h l a b = (
   given_2 (within m (newest h) (newest h)) (within m (newest h) (newest l)) (stands m (newest h) (newest l) true (newest h))

@@ -3,7 +3,7 @@ pub mod SimpleForms
 pub mod AgreementOfObjects
 pub mod AgreementOfAtoms
 pub mod AgreementOfNeutrals
-pub mod Decided
+pub mod DecidedOutcomes
 pub mod AgreementOfMonads
 pub mod Agreement
 pub mod AgreementOfTypes
