@@ -10,8 +10,8 @@ use Rattle.use_contexts.specs.Rows.{implies, within, stands, is_unused, newest, 
 use Rattle.use_contexts.proofs.Bits.{at_entry, given_2}
 use Rattle.clf_rules.specs.Refusal.{unused, level}
 use Rattle.clf_rules.specs.Explained.{telescope_width}
-use Rattle.clf_check.proofs.UsedParts.{used_of, used-part}
-use Rattle.clf_check.proofs.Leavings.{row-leaves}
+use Rattle.clf_rules.proofs.UsedParts.{used_of, used-part}
+use Rattle.clf_rules.proofs.Leavings.{row-leaves}
 use Rattle.clf_decision.specs.Outcome.{Outcome, passed, refused, and_then}
 use Rattle.clf_decision.specs.Checking.{closed_scope, closed_scopes}
 

@@ -23,9 +23,9 @@ use Rattle.clf_rules.specs.Explained.{MayHaveType, MaySynthesize}
 use Rattle.typing_laws.specs.SimpleTyping.{simple_of, families_of}
 use Rattle.typing_laws.proofs.Erased.{object}
 use Rattle.typing_laws.proofs.FormedTypes.{renames, as_inserted, synthesized_is_simply_formed}
-use Rattle.clf_check.proofs.Agreement.{allowed-marked}
 use Rattle.clf_decision.specs.Checking.{Puts}
 use Rattle.clf_decision.specs.Puts.{ArePuts, Starts}
+use Rattle.clf_decision.proofs.Marked.{allowed-marked}
 
 -- ---- contexts and holdings
 pub starts-under : (sig : PlainSignature) (g : Context) (h : Holding) (m : Mode) (a : PlainType) → Starts sig g h → SimplyFormed (families_of sig) (simple_of sig g) a → Starts sig ((m, a) ∷ g) (true ∷ h)
