@@ -60,8 +60,8 @@ module _ (puts : Puts) (are : ArePuts puts) (sig : PlainSignature) where
     object-agrees (lam m b) g h t s f =
         lambda-agrees m g h t (λ a c. checked puts sig ((m, a) ∷ g) (true ∷ h) b c) (λ a c p. HasType sig ((m, a) ∷ g) p b c)
         (λ a c e.
-            let q = subst (λ y. SimplyFormed (families_of sig) (simple_of sig g) y) e f in
-            object-agrees b ((m, a) ∷ g) (true ∷ h) c (starts-under sig g h m a s q.0) q.1)
+        let q = subst (λ y. SimplyFormed (families_of sig) (simple_of sig g) y) e f in
+        object-agrees b ((m, a) ∷ g) (true ∷ h) c (starts-under sig g h m a s q.0) q.1)
     object-agrees (pair l r) g h t s f =
         pair-left-agrees g h t (λ a. checked puts sig g h l a) (λ c. checked puts sig g h r c) (λ a p. HasType sig g p l a) (λ c p. HasType sig g p r c)
         (λ a c e. let q = subst (λ y. SimplyFormed (families_of sig) (simple_of sig g) y) e f in (object-agrees l g h a s q.0, object-agrees r g h c s q.1))
@@ -81,9 +81,9 @@ module _ (puts : Puts) (are : ArePuts puts) (sig : PlainSignature) where
         let u = neutral-agrees r g h s in
         application-agrees m g h (eliminations r) o (λ p a. Synthesizes sig g p r a) (λ a p. HasType sig g p o a) puts (inferred puts sig g h r) (λ row a. checked puts sig g row o a) u
         (λ k a c x e.
-            object-agrees o g (allowed m (modes g) x.0) a
-            (starts-allowed sig g x.0 m (found-starts sig g h s r (inferred puts sig g h r) u (function k a c) x e))
-            (found-formed sig g h s r (inferred puts sig g h r) u (function k a c) x e).0)
+        object-agrees o g (allowed m (modes g) x.0) a
+        (starts-allowed sig g x.0 m (found-starts sig g h s r (inferred puts sig g h r) u (function k a c) x e))
+        (found-formed sig g h s r (inferred puts sig g h r) u (function k a c) x e).0)
         (λ k a c x e p y. are.types (families_of sig) (simple_of sig g) o a c (simply g p o a y) (found-formed sig g h s r (inferred puts sig g h r) u (function k a c) x e).1)
     neutral-agrees (fst r) g h s = first-agrees g h (eliminations r) (inferred puts sig g h r) (λ p a. Synthesizes sig g p r a) (neutral-agrees r g h s)
     neutral-agrees (snd r) g h s = second-agrees g h (eliminations r) (inferred puts sig g h r) (λ p a. Synthesizes sig g p r a) (neutral-agrees r g h s)
@@ -95,10 +95,10 @@ module _ (puts : Puts) (are : ArePuts puts) (sig : PlainSignature) where
         step-agrees place ms g h (λ p a. Synthesizes sig g p r a) (λ v p. ExpressionHasType sig (with_entries v g) p e (ren_telescope (up (length ms)) t)) (inferred puts sig g h r)
         (λ v row. checked_expression puts sig (with_entries v g) row (suc place) e (ren_telescope (up (length ms)) t)) u
         (λ v x q same.
-            expression-agrees e (with_entries v g) (all_held ms x.0) (suc place) (ren_telescope (up (length ms)) t)
-            (subst (λ (ns : List Mode). Starts sig (with_entries v g) (all_held ns x.0)) same
-            (starts-entered sig v g x.0 (found-starts sig g h s r (inferred puts sig g h r) u (monad v) x q) (found-formed sig g h s r (inferred puts sig g h r) u (monad v) x q)))
-            (formed-entered sig v g ms t same f))
+        expression-agrees e (with_entries v g) (all_held ms x.0) (suc place) (ren_telescope (up (length ms)) t)
+        (subst (λ (ns : List Mode). Starts sig (with_entries v g) (all_held ns x.0)) same
+        (starts-entered sig v g x.0 (found-starts sig g h s r (inferred puts sig g h r) u (monad v) x q) (found-formed sig g h s r (inferred puts sig g h r) u (monad v) x q)))
+        (formed-entered sig v g ms t same f))
     expression-agrees (done t) g h place u s f = tuple-agrees t g h place 0 u s f
 
     tuple-agrees : (t : PlainTuple) (g : Context) (h : Holding) (steps before : ℕ) (u : PlainTelescope) → Starts sig g h → SimplyFormedTelescope (families_of sig) (simple_of sig g) u
@@ -112,11 +112,11 @@ module _ (puts : Puts) (are : ArePuts puts) (sig : PlainSignature) where
         (λ k a v e p y. are.telescopes (families_of sig) (simple_of sig g) n a v (simply g p n a y) (subst (λ z. SimplyFormedTelescope (families_of sig) (simple_of sig g) z) e f).1)
         (λ k a v e. object-agrees n g row a start (subst (λ z. SimplyFormedTelescope (families_of sig) (simple_of sig g) z) e f).0)
         (λ k a v e y q.
-            let whole = subst (λ z. SimplyFormedTelescope (families_of sig) (simple_of sig g) z) e f in
-            let found = subst (λ (o : Outcome Leftover). Agrees (modes g) row (answer_of o) (λ p. HasType sig g p n a)) q (object-agrees n g row a start whole.0) in
-            let put = telescope-put puts are sig g row n a v (some-part (modes g) row y (λ p. HasType sig g p n a) found) whole.1 in
-            tuple-agrees t g (outside m (modes g) h y.0) steps (suc before) (puts.into_telescope n a v)
-            (starts-from sig g h (outside m (modes g) h y.0) s (outside-marked m g h s.marked y (λ p. HasType sig g p n a) found)) put.1)
+        let whole = subst (λ z. SimplyFormedTelescope (families_of sig) (simple_of sig g) z) e f in
+        let found = subst (λ (o : Outcome Leftover). Agrees (modes g) row (answer_of o) (λ p. HasType sig g p n a)) q (object-agrees n g row a start whole.0) in
+        let put = telescope-put puts are sig g row n a v (some-part (modes g) row y (λ p. HasType sig g p n a) found) whole.1 in
+        tuple-agrees t g (outside m (modes g) h y.0) steps (suc before) (puts.into_telescope n a v)
+        (starts-from sig g h (outside m (modes g) h y.0) s (outside-marked m g h s.marked y (λ p. HasType sig g p n a) found)) put.1)
 
   pub checks_agree : ChecksAgree puts sig
   checks_agree = record { objects = object-agrees; neutrals = neutral-agrees; expressions = expression-agrees; tuples = tuple-agrees }

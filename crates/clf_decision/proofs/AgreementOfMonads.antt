@@ -85,9 +85,9 @@ rest-agrees : (place : ℕ) (u : PlainTelescope) (ms : List Mode) (g : Context) 
     → Agrees (modes g) h (answer_of (rest_left place u g x.1 r)) (Shared (modes g) P (λ p. R (all_held ms p)))
 rest-agrees place u ms g h x r P R e a b =
     let inner = subst (λ (ns : List Mode). Agrees ns (all_held (telescope_modes u) x.0) (answer_of r) R) (entered-modes u g)
-        (subst (λ (ns : List Mode). Agrees (modes (with_entries u g)) (all_held ns x.0) (answer_of r) R) (sym e) b) in
+    (subst (λ (ns : List Mode). Agrees (modes (with_entries u g)) (all_held ns x.0) (answer_of r) R) (sym e) b) in
     let outer = turn-agrees (modes g) h x.0 x.1 (closed_all (telescope_modes u) (answer_of r)) P (λ p. R (all_held (telescope_modes u) p)) a
-        (scopes-agree (telescope_modes u) (modes g) x.0 (answer_of r) R inner) in
+    (scopes-agree (telescope_modes u) (modes g) x.0 (answer_of r) R inner) in
     subst (λ (y : Answer). Agrees (modes g) h y (Shared (modes g) P (λ p. R (all_held ms p)))) (sym (rest-answer place u g x.1 r))
     (subst (λ (ns : List Mode). Agrees (modes g) h (in_turn (closed_all (telescope_modes u) (answer_of r)) x.1) (Shared (modes g) P (λ p. R (all_held ns p)))) e outer)
 
@@ -104,8 +104,8 @@ module _ (place : ℕ) (ms : List Mode) (g : Context) (h : Holding) (P : Holding
       agrees-same (modes g) h (answer_of (rest_left place u g x.1 rest)) (Shared (modes g) (λ p. P p (monad u)) (λ p. R u (all_held ms p))) (StepHas ms g P R)
       (λ p y. record { entries = u; for_right = y.0; for_rest = y.1; split = y.2; right = y.3; pattern = d; rest = y.4 })
       (λ p y.
-          let e = monad-entries (a.1 y.for_right (monad y.entries) y.right) in
-          (y.for_right, y.for_rest, y.split, subst (λ v. P y.for_right (monad v)) e y.right, subst (λ v. R v (all_held ms y.for_rest)) e y.rest))
+      let e = monad-entries (a.1 y.for_right (monad y.entries) y.right) in
+      (y.for_right, y.for_rest, y.split, subst (λ v. P y.for_right (monad v)) e y.right, subst (λ v. R v (all_held ms y.for_rest)) e y.rest))
       (rest-agrees place u ms g h x rest (λ p. P p (monad u)) (R u) d a.0 (b d))
   step-monad u x (refused path cause) d rest a b = λ p w y. d (subst (λ v. telescope_modes v ≡ ms) (monad-entries (a.1 y.for_right (monad y.entries) y.right)) y.pattern)
 
@@ -173,8 +173,8 @@ module _ (place : ℕ) (m : Mode) (g : Context) (h : Holding) (marked : WellMark
         later = y.4;
       })
       (λ p y.
-          let e = (is_determined (single n 0)).5 u y.after_put after (subst (λ v. SubstitutedTelescope (single n 0) v y.after_put) (sym (binding-later y.type)) y.put) put in
-          (y.for_first, y.for_later, y.split, (y.usable, subst (λ c. P c y.for_first) (sym (binding-type y.type)) y.first), subst (λ v. Q v y.for_later) e y.later))
+      let e = (is_determined (single n 0)).5 u y.after_put after (subst (λ v. SubstitutedTelescope (single n 0) v y.after_put) (sym (binding-later y.type)) y.put) put in
+      (y.for_first, y.for_later, y.split, (y.usable, subst (λ c. P c y.for_first) (sym (binding-type y.type)) y.first), subst (λ v. Q v y.for_later) e y.later))
       (entry-agrees m (modes g) h b.0 b.1 (answer_of rest) (P a) (Q after) (IsSubholding-self (modes g) h marked) x (l b refl)))
 
   entry-mode : (k : Mode) (b : Bool) → same_mode m k ≡ b → (a : PlainType) (u after : PlainTelescope) (object : Outcome Leftover) (later : Holding → Outcome Leftover)
@@ -196,7 +196,7 @@ pub entry-left-agrees : (puts : Puts) (steps before : ℕ) (m : Mode) (g : Conte
     → ((k : Mode) (a : PlainType) (u : PlainTelescope) → s ≡ binding k a u → (p : Holding) → P a p → SubstitutedTelescope (single n 0) u (puts.into_telescope n a u))
     → ((k : Mode) (a : PlainType) (u : PlainTelescope) → s ≡ binding k a u → Agrees (modes g) (allowed m (modes g) h) (answer_of (object (allowed m (modes g) h) a)) (P a))
     → ((k : Mode) (a : PlainType) (u : PlainTelescope) → s ≡ binding k a u → (y : Leftover) → object (allowed m (modes g) h) a ≡ passed y
-        → Agrees (modes g) (outside m (modes g) h y.0) (answer_of (later (outside m (modes g) h y.0) (puts.into_telescope n a u))) (Q (puts.into_telescope n a u)))
+    → Agrees (modes g) (outside m (modes g) h y.0) (answer_of (later (outside m (modes g) h y.0) (puts.into_telescope n a u))) (Q (puts.into_telescope n a u)))
     → Agrees (modes g) h (answer_of (entry_left puts steps before m g h n t s object later)) (EntryHas m g n P Q s)
 entry-left-agrees puts steps before m g h w n t end object later P Q put x l = λ p u y. let e = y.type in absurd (cc)
 entry-left-agrees puts steps before m g h w n t (binding k a u) object later P Q put x l =
