@@ -37,8 +37,8 @@ use Rattle.clf_decision.proofs.Marked.{outside-marked}
 -- ---- patterns
 pattern-passes : (ms : List Mode) (u : PlainTelescope) → telescope_modes u ≡ ms → pattern_left ms u ≡ passed tt
 pattern-passes ms u e = subst (λ ns. pattern_left ns u ≡ passed tt) e (
-  cond-true (telescope_width u == telescope_width u) (same_modes_left (first_other_mode (telescope_modes u) (telescope_modes u))) (refused [] (width (telescope_width u) (telescope_width u))) (itself-number (telescope_width u))
-  ∙ ap same_modes_left (no-other-mode (telescope_modes u)))
+    cond-true (telescope_width u == telescope_width u) (same_modes_left (first_other_mode (telescope_modes u) (telescope_modes u))) (refused [] (width (telescope_width u) (telescope_width u))) (itself-number (telescope_width u))
+    ∙ ap same_modes_left (no-other-mode (telescope_modes u)))
 
 pattern-other : (ms : List Mode) (u : PlainTelescope) (k m : Mode) → length ms ≡ telescope_width u → first_other_mode (telescope_modes u) ms ≡ Some (k, m) → pattern_left ms u ≡ refused [] (mode_differs k m)
 pattern-other ms u k m n e =

@@ -189,7 +189,7 @@ scopes-end (binding m t s) g y = one-more m t s g y (closed_scopes s ((m, t) ∷
 
 -- The newest entry that is left is the one that is refused.
 newest-one : (i j : ℕ) (P : ℕ → Type 0) → P i → P j → ((k : ℕ) → k < i → P k → ⊥) → ((k : ℕ) → k < j → P k → ⊥) → i ≡ j
-newest-one i j P a b f g = by (i_or j) 
+newest-one i j P a b f g = by (i_or j)
   where
     i_or : (j : ℕ) → (i < j) ⊎ (i ≡ j) ⊎ (j < i)
     i_or j = grind arith

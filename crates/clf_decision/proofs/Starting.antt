@@ -77,7 +77,7 @@ telescope-put puts are sig g h n a u p f =
     let t : SimplyTyped (simple_of sig g) n (erase a) = object true sig g p.0 n a p.2 in
     let s = are.telescopes (families_of sig) (simple_of sig g) n a u t f in
     let x : ResultsAreTyped true (families_of sig) (inserted 0 (erase a) (simple_of sig g)) (simple_of sig g) (single n 0) =
-        result_is_typed true (families_of sig) (inserted 0 (erase a) (simple_of sig g)) (simple_of sig g) (single n 0) (keeps_single true (simple_of sig g) 0 n (erase a) t) in
+    result_is_typed true (families_of sig) (inserted 0 (erase a) (simple_of sig g)) (simple_of sig g) (single n 0) (keeps_single true (simple_of sig g) 0 n (erase a) t) in
     (s, (x.telescope u (puts.into_telescope n a u) (subst (λ y. SimplyFormedTelescope (families_of sig) y u) (sym (as_inserted (erase a) (simple_of sig g))) f) s).0)
 
 -- the type of a neutral
