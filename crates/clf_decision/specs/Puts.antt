@@ -1,14 +1,8 @@
--- Inner: what is asked of the putting of an object where a check of the rules is to agree with them, and what a check presupposes.
-use Rattle.std.specs.Prelude.{◌≤◌}
+-- Inner: what is asked of the putting of an object where a check of the rules is to agree with them.
 use Rattle.clf_syntax.specs.Tree.{PlainObject}
 use Rattle.clf_syntax.specs.TypeTree.{PlainType, PlainTelescope, PlainKind}
-use Rattle.clf_syntax.specs.Simple.{Assignment, Families, erase, extended, SimplyTyped, SimplyFormed, SimplyFormedTelescope, SimplyFormedKind, SimplyFormedContext}
-use Rattle.use_contexts.specs.Context.{Context, modes}
-use Rattle.use_contexts.specs.Holding.{Holding, WellMarked}
+use Rattle.clf_syntax.specs.Simple.{Assignment, Families, erase, extended, SimplyTyped, SimplyFormed, SimplyFormedTelescope, SimplyFormedKind}
 use Rattle.hered_subst.specs.Substitution.{single, SubstitutedType, SubstitutedTelescope, SubstitutedKind}
-use Rattle.clf_sig.specs.Entry.{PlainSignature, PlainEntry}
-use Rattle.clf_rules.specs.WellFormed.{WellFormedSignature, may_be_implicit}
-use Rattle.typing_laws.specs.SimpleTyping.{constants_of, families_of}
 use Rattle.clf_decision.specs.Checking.{Puts}
 
 -- Where an object has the variable's simple type, and what follows is simply formed with the variable, what is put is the substitution's.
