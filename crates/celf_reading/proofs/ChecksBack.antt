@@ -1,9 +1,8 @@
 -- The printed line of an object that has its type reads back as both.
-use Rattle.std.proofs.Common.{ℕ, ◌≡◌, ◌<◌, ◌^◌, refl, sym, ap, ◌∙◌, List, [], ◌++◌, codes, arith, Some}
+use Rattle.std.proofs.Common.{ℕ, ◌≡◌, ◌<◌, ◌^◌, refl, sym, ap, ◌∙◌, List, [], arith, Some}
 use Rattle.clf_syntax.specs.Simple.{erase}
 use Rattle.clf_syntax.specs.Tree.{PlainObject}
 use Rattle.clf_syntax.specs.TypeTree.{PlainType}
-use Rattle.celf_lexer.specs.Tokens.{tokens_from}
 use Rattle.clf_sig.specs.Entry.{PlainSignature}
 use Rattle.clf_kernel.specs.Typing.{HasType}
 use Rattle.clf_printer.specs.Depth.{scope_depth}
@@ -13,10 +12,9 @@ use Rattle.celf_sugar.specs.Sugar.{desugared}
 use Rattle.celf_explicit.specs.Reading.{read_type, read_object, read_check}
 use Rattle.celf_spelling.specs.Printed.{printed_object, printed_type}
 use Rattle.celf_spelling.specs.Placeless.{placeless_object, placeless_type, placeless_body}
-use Rattle.celf_spelling.specs.Spelling.{opening}
 use Rattle.celf_spelling.proofs.Spelled.{checks_are_spelled}
 use Rattle.celf_reading.specs.Bare.{IsBareSignature, IsBareType}
-use Rattle.celf_reading.specs.Checks.{judgment_text, ChecksBack}
+use Rattle.celf_reading.specs.Checks.{ChecksBack}
 use Rattle.celf_reading.proofs.Placeless.{read_type-placeless, read_object-placeless}
 use Rattle.celf_reading.proofs.PrintedTypes.{bare-printable, printed_type-read}
 use Rattle.celf_reading.proofs.PrintedObjects.{printed_object-read}
@@ -32,13 +30,11 @@ checks-placed (plain.check x t) o a h = (x, t, refl, cc, cc)
 
 -- Over a bare signature the printed line of an object of a bare type reads back as both.
 pub checks_read_back : (sig : PlainSignature) (n : PlainObject) (a : PlainType) → IsBareSignature sig → IsBareType sig a → scope_depth n < 2 ^ 64 → HasType sig [] [] n a → ChecksBack sig n a
-checks_read_back sig n a formed is_bare small p =
+checks_read_back sig n a formed is_bare small p room enough =
     let object = printed_object-read sig formed n a is_bare small p in
-    let s = checks_are_spelled sig (appearing [] n) (appearing_type [] a) n a (object.0, omega arith) (bare-printable sig formed a 0 is_bare) in
-    let room : ℕ = opening (tokens_from (codes "#check " ++ judgment_text sig n a) 0) in
-    let line = s room (omega arith) in
+    let line = checks_are_spelled sig (appearing [] n) (appearing_type [] a) n a (object.0, omega arith) (bare-printable sig formed a 0 is_bare) room enough in
     let d = checks-placed (desugared line.item).body (printed_object sig 0 n) (printed_type sig 0 a) line.says in
     let type_read : read_type sig d.1 ≡ Some a = sym (read_type-placeless sig d.1) ∙ ap (read_type sig) d.4 ∙ printed_type-read sig formed a 0 is_bare in
     let object_read : read_object sig [] (Some (erase a)) d.0 ≡ Some n = sym (read_object-placeless sig [] (Some (erase a)) d.0) ∙ ap (read_object sig [] (Some (erase a))) d.3 ∙ object.1 in
     let read : read_check sig d.0 d.1 ≡ Some (n, a) = rw (type_read, object_read) refl in
-    (room, line.item, line.behind, line.end, line.parse, line.ends, line.at_end, (line.no_fault, d.0, d.1, d.2, read))
+    (line.item, line.behind, line.end, line.parse, line.ends, line.at_end, (line.no_fault, d.0, d.1, d.2, read))

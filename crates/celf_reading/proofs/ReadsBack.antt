@@ -1,17 +1,15 @@
 -- The printed line of an entry reads back as that entry.
 use Rattle.std.proofs.Common.{ℕ, ◌≡◌, ◌≤◌, refl, sym, ap, subst, ◌∙◌, IsTrue, List, [], arith, Some}
 use Rattle.clf_syntax.specs.Word.{is_declarable}
-use Rattle.celf_lexer.specs.Tokens.{tokens_from}
 use Rattle.clf_sig.specs.Entry.{PlainEntry, PlainSignature}
 use Rattle.celf_sugar.specs.PlainTree as plain
 use Rattle.celf_sugar.specs.Sugar.{desugared}
 use Rattle.celf_explicit.specs.Entries.{read_class, fresh_entry, read_entry}
 use Rattle.celf_spelling.specs.Printed.{printed_class}
 use Rattle.celf_spelling.specs.Placeless.{placeless_class, placeless_body}
-use Rattle.celf_spelling.specs.Spelling.{opening}
 use Rattle.celf_spelling.specs.Laws.{IsPrintableEntry}
 use Rattle.celf_spelling.proofs.Spelled.{entries_are_spelled}
-use Rattle.celf_reading.specs.Reading.{entry_line, ReadsBack}
+use Rattle.celf_reading.specs.Reading.{ReadsBack}
 use Rattle.celf_reading.specs.Bare.{IsBareSignature, IsBareEntry}
 use Rattle.celf_reading.proofs.Placeless.{read_class-placeless}
 use Rattle.celf_reading.proofs.PrintedTypes.{bare-printable_class, printed_class-read}
@@ -45,9 +43,7 @@ entry-read sig e d formed h is =
 
 -- The printed line of a bare entry reads back as that entry.
 pub reads_back : (sig : PlainSignature) (name : List ℕ) (entry : PlainEntry) → IsBareSignature sig → IsTrue (is_declarable name) → IsBareEntry sig entry → ReadsBack sig name entry
-reads_back sig name entry formed fit h =
-    let s = entries_are_spelled sig [] name entry (bare-printable_entry sig name entry formed fit h) in
-    let room : ℕ = opening (tokens_from (entry_line sig name entry) 0) in
-    let line = s room (omega arith) in
+reads_back sig name entry formed fit h room enough =
+    let line = entries_are_spelled sig [] name entry (bare-printable_entry sig name entry formed fit h) room enough in
     let d = declares-placed (desugared line.item).body name entry.implicit (printed_class sig entry.class) line.says in
-    (room, line.item, line.behind, line.end, line.parse, line.ends, line.at_end, (line.no_fault, entry.implicit, d.0, d.1, entry-read sig entry d.0 formed h d.2))
+    (line.item, line.behind, line.end, line.parse, line.ends, line.at_end, (line.no_fault, entry.implicit, d.0, d.1, entry-read sig entry d.0 formed h d.2))
