@@ -11,8 +11,8 @@ use Rattle.clf_syntax.specs.Renaming.{ren_telescope, up}
 use Rattle.use_contexts.specs.Context.{Context, modes, with_entries}
 use Rattle.use_contexts.specs.Holding.{Holding, persistent_alone, all_held}
 use Rattle.clf_sig.specs.Entry.{Declaration, PlainClass, family_of, constant_of, PlainEntry, PlainSignature, class_at, kind_in, type_in, family_kind, constant_type}
-use Rattle.clf_kernel.specs.Typing.{HeadHasType, HasType, Synthesizes, ExpressionHasType, TupleHasType}
-use Rattle.clf_kernel.specs.WellFormed.{IndicesHaveTypes, WellFormedType, WellFormedTelescope, WellFormedKind, WellFormedClass, AllMayFollow, WellFormedSignature}
+use Rattle.clf_rules.specs.Typing.{HeadHasType, HasType, Synthesizes, ExpressionHasType, TupleHasType}
+use Rattle.clf_rules.specs.WellFormed.{IndicesHaveTypes, WellFormedType, WellFormedTelescope, WellFormedKind, WellFormedClass, AllMayFollow, WellFormedSignature}
 use Rattle.clf_printer.specs.Depth.{indices_depth, type_depth, telescope_depth, kind_depth, class_depth}
 use Rattle.celf_explicit.proofs.Options.{option_map-some, option_and_then-some}
 use Rattle.celf_spelling.specs.Printable.{IsPrintablePlace, HasNames, NeutralHasNames, ExpressionHasNames, TupleHasNames, ArePrintableIndices, IsPrintableType, IsPrintableTelescope, IsPrintableKind, IsPrintableClass}

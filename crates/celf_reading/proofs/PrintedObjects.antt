@@ -14,8 +14,8 @@ use Rattle.clf_syntax.specs.Word.{is_variable_word}
 use Rattle.use_contexts.specs.Context.{Context}
 use Rattle.use_contexts.specs.Holding.{Holding}
 use Rattle.clf_sig.specs.Entry.{PlainSignature}
-use Rattle.clf_kernel.specs.Typing.{HeadHasType, HasType, Synthesizes}
-use Rattle.clf_kernel.proofs.WithoutIndices.{renamed-type, same-type}
+use Rattle.clf_rules.specs.Typing.{HeadHasType, HasType, Synthesizes}
+use Rattle.clf_rules.proofs.WithoutIndices.{renamed-type, same-type}
 use Rattle.clf_printer.specs.Text.{used_variable_text}
 use Rattle.clf_printer.specs.Depth.{scope_depth, neutral_depth}
 use Rattle.celf_sugar.specs.PlainTree as plain

@@ -3,7 +3,7 @@ use Rattle.std.proofs.Common.{ℕ, ◌≡◌, ◌≤◌, ◌+◌, refl, ap, List
 use Rattle.clf_syntax.specs.declared.tree.Mode.TheVariants.{Persistent, Affine, Linear}
 use Rattle.clf_syntax.specs.TypeTree.{PlainType, family, function, both, top, monad}
 use Rattle.clf_sig.specs.Entry.{PlainClass, family_of, constant_of, PlainSignature}
-use Rattle.clf_kernel.specs.WellFormed.{leading_persistent, may_be_implicit}
+use Rattle.clf_rules.specs.WellFormed.{leading_persistent, may_be_implicit}
 use Rattle.clf_printer.specs.Metas.{appearing, appearing_type}
 use Rattle.celf_sugar.specs.Faults.{leading}
 use Rattle.celf_spelling.specs.Printed.{printed_type}
