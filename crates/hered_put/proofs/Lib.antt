@@ -1,6 +1,7 @@
 pub mod Sound
 pub mod Typed
 pub mod Results
+pub mod Freely
 pub mod Environments
 pub mod Pieces
 pub mod TypePieces

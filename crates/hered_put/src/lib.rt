@@ -14,5 +14,7 @@ mod step;
 mod types;
 
 pub use fault::PutFault;
-pub use laws::{bounded_substitution, flattened_substitution, typed_substitution};
+pub use laws::{
+    bounded_substitution, flattened_substitution, free_substitution, typed_substitution,
+};
 pub use put::{flatten_let, put_args, put_entries, put_expr, put_obj, put_tuple, put_ty};
