@@ -1,27 +1,22 @@
 -- Texts that spell an object, an atom or an application: their tokens stand for it, whatever may follow.
-use Rattle.std.proofs.Common.{ℕ, ◌≡◌, ◌+◌, ◌<◌, ◌^◌, Bool, true, false, not, refl, ap, ◌∙◌, List, [], ◌∷◌, ◌++◌, append_assoc, append-nil, Some, codes, IsTrue}
+use Rattle.std.proofs.Common.{ℕ, ◌≡◌, ◌+◌, ◌<◌, ◌^◌, Bool, true, false, not, refl, ap, ◌∙◌, List, [], ◌∷◌, ◌++◌, append_assoc, append-nil, Some, codes, IsTrue, arith}
 use Rattle.celf_lexer.specs.declared.token.TokenKind.TheVariants as kind
 use Rattle.celf_lexer.specs.Tokens.{Lexeme}
-use Rattle.celf_lexer.proofs.Spelling.{AreTokens, ends_word, tokens-blank, tokens-stop, tokens-left_paren, tokens-right_paren, tokens-name, tokens-constant_name}
+use Rattle.celf_lexer.proofs.Spelling.{AreTokens, ends_word, tokens-blank, tokens-word, tokens-stop, tokens-left_paren, tokens-right_paren, tokens-name, tokens-constant_name}
 use Rattle.celf_surface.specs.declared.surface.SMode.{SMode}
 use Rattle.celf_surface.specs.declared.surface.Span.{Span}
-use Rattle.celf_surface.specs.Surface.{WrittenObject, lam, named, unit, pair, first, second}
+use Rattle.celf_surface.specs.Surface.{WrittenObject, lam, named, hole, unit, pair, first, second}
 use Rattle.celf_grammar.specs.State.{next_kind}
 use Rattle.celf_grammar.specs.Grammar.{begins_argument, applied}
 use Rattle.clf_syntax.specs.declared.tree.Mode.{Mode}
 use Rattle.clf_syntax.specs.declared.tree.Mode.TheVariants.{Persistent, Affine, Linear}
 use Rattle.clf_syntax.specs.Word.{is_declarable}
 use Rattle.clf_printer.specs.Text.{variable_text, mark_text, binder_text, grouped}
-use Rattle.celf_reading.proofs.Signs.{stays_less, tokens-backslash, tokens-bang, tokens-at, tokens-comma, tokens-greater, tokens-less, tokens-unit_sign, tokens-first, tokens-second}
-use Rattle.celf_reading.proofs.Variables.{variable-declarable}
-use Rattle.celf_reading.proofs.Meaning.{mark_for}
-use Rattle.celf_reading.proofs.ObjectStanding.{AtomStands, ObjectStands, ChainStands, MarkStands, no_mark, name-mark, bang-mark, at-mark, name-stands, constant-stands, unit-stands, group-stands, pair-stands, first-stands, second-stands, chain-alone, chain-more, chain-object, atom-object, atom-has, lambda-stands}
-
--- the tokens ts up to some others, which are those of the rest
-pub record StandsFirst (F : List Lexeme → List Lexeme → Type 0) (ts : List Lexeme) (rest : List ℕ) : Type 0 where
-  pub others : List Lexeme
-  pub rest_tokens : AreTokens others rest
-  pub stands : F ts others
+use Rattle.celf_spelling.proofs.Signs.{stays_less, tokens-backslash, tokens-bang, tokens-at, tokens-comma, tokens-greater, tokens-less, tokens-unit_sign, tokens-first, tokens-second}
+use Rattle.celf_spelling.proofs.Variables.{variable-declarable}
+use Rattle.celf_spelling.specs.Printed.{mark_for}
+use Rattle.celf_spelling.proofs.Standing.{StandsFirst}
+use Rattle.celf_spelling.proofs.ObjectStanding.{AtomStands, ObjectStands, ChainStands, MarkStands, no_mark, name-mark, bang-mark, at-mark, name-stands, constant-stands, unit-stands, hole-stands, atom-no_mark, group-stands, pair-stands, first-stands, second-stands, chain-alone, chain-more, chain-object, atom-object, atom-has, lambda-stands}
 
 -- The text spells an atom, or an application that may go on.
 abbrev pub Spells : (List Lexeme → List Lexeme → Type 0) → List ℕ → Type 0
@@ -35,10 +30,10 @@ EndsObject rest = (us : List Lexeme) → AreTokens us rest → begins_argument (
 abbrev pub SpellsObject : (WrittenObject → Type 0) → List ℕ → Type 0
 SpellsObject P text = (rest : List ℕ) (ts : List Lexeme) → ends_word rest ≡ true → EndsObject rest → AreTokens ts (text ++ rest) → StandsFirst (ObjectStands P) ts rest
 
-paren-ends : (rest : List ℕ) → EndsObject (41 ∷ rest)
+pub paren-ends : (rest : List ℕ) → EndsObject (41 ∷ rest)
 paren-ends rest us tokens = let b = tokens-right_paren rest us tokens in rw (b.is, b.kind_is) refl
 
-comma-ends : (rest : List ℕ) → EndsObject (44 ∷ rest)
+pub comma-ends : (rest : List ℕ) → EndsObject (44 ∷ rest)
 comma-ends rest us tokens = let b = tokens-comma rest us tokens in rw (b.is, b.kind_is) refl
 
 greater-ends : (rest : List ℕ) → EndsObject (62 ∷ rest)
@@ -63,6 +58,11 @@ pub spells-unit : (P : WrittenObject → Type 0) → ((s : Span) → P (unit s))
 spells-unit P has rest ts ends tokens =
     let b = tokens-unit_sign rest ts tokens in
     record { others = b.others; rest_tokens = b.rest_tokens; stands = rw (← b.is) at (unit-stands P b.first b.others b.kind_is has) }
+
+pub spells-hole : (P : WrittenObject → Type 0) → ((s : Span) → P (hole s)) → Spells (AtomStands P) (codes "_")
+spells-hole P has rest ts ends tokens =
+    let b = tokens-word (codes "_") rest ts refl (omega arith) ends tokens in
+    record { others = b.others; rest_tokens = b.rest_tokens; stands = rw (← b.is) at (hole-stands P b.first b.others b.kind_is has) }
 
 spells-group : (P : WrittenObject → Type 0) (x : List ℕ) → SpellsObject P x → Spells (AtomStands P) (40 ∷ x ++ 41 ∷ [])
 spells-group P x s rest ts ends tokens =
@@ -108,7 +108,7 @@ spells-second P Q x s has rest ts ends tokens =
       stands = rw (← b.is) at (second-stands P Q b.first b.others inner.others b.kind_is inner.stands has);
     }
 
-spells-has : (P R : WrittenObject → Type 0) (x : List ℕ) → Spells (AtomStands P) x → ((a : WrittenObject) → P a → R a) → Spells (AtomStands R) x
+pub spells-has : (P R : WrittenObject → Type 0) (x : List ℕ) → Spells (AtomStands P) x → ((a : WrittenObject) → P a → R a) → Spells (AtomStands R) x
 spells-has P R x s has rest ts ends tokens =
     let f = s rest ts ends tokens in
     record { others = f.others; rest_tokens = f.rest_tokens; stands = atom-has P R ts f.others f.stands has }
@@ -136,7 +136,7 @@ marked-first P Affine x rest ts s ends tokens =
     record { middle = b.others; marked = rw (← b.is) at (at-mark b.first b.others b.kind_is); atom = s rest b.others ends b.rest_tokens }
 marked-first P Linear x rest ts s ends tokens =
     let f = s rest ts ends tokens in
-    record { middle = ts; marked = no_mark ts f.stands.begins; atom = f }
+    record { middle = ts; marked = no_mark ts (atom-no_mark (next_kind ts) f.stands.begins); atom = f }
 
 pub spells-applied : (Q R : WrittenObject → List (SMode × WrittenObject) → Type 0) (P : WrittenObject → Type 0) (m : Mode) (x y : List ℕ) → Spells (ChainStands Q) x → Spells (AtomStands P) y
     → ((a b : WrittenObject) (xs : List (SMode × WrittenObject)) → Q a xs → P b → R a (xs ++ (mark_for m, b) ∷ [])) → Spells (ChainStands R) (x ++ (codes " " ++ mark_text m ++ y))
@@ -165,16 +165,16 @@ spells-atom P x s rest ts ends follows tokens =
     record { others = f.others; rest_tokens = f.rest_tokens; stands = atom-object P ts f.others f.stands (follows f.others f.rest_tokens) }
 
 -- a mark and the name of a variable
-record BinderFirst (mark : SMode) (name : List ℕ) (ts : List Lexeme) (rest : List ℕ) : Type 0 where
-  token : Lexeme
-  others : List Lexeme
-  capital : Bool
-  marked : MarkStands mark ts (token ∷ others)
-  kind_is : token.kind ≡ kind.Name capital
-  spelled : token.spelling ≡ name
-  rest_tokens : AreTokens others rest
+pub record BinderFirst (mark : SMode) (name : List ℕ) (ts : List Lexeme) (rest : List ℕ) : Type 0 where
+  pub token : Lexeme
+  pub others : List Lexeme
+  pub capital : Bool
+  pub marked : MarkStands mark ts (token ∷ others)
+  pub kind_is : token.kind ≡ kind.Name capital
+  pub spelled : token.spelling ≡ name
+  pub rest_tokens : AreTokens others rest
 
-binder-first : (m : Mode) (name rest : List ℕ) (ts : List Lexeme) → IsTrue (is_declarable name) → ends_word rest ≡ true → AreTokens ts (mark_text m ++ (name ++ rest))
+pub binder-first : (m : Mode) (name rest : List ℕ) (ts : List Lexeme) → IsTrue (is_declarable name) → ends_word rest ≡ true → AreTokens ts (mark_text m ++ (name ++ rest))
     → BinderFirst (mark_for m) name ts rest
 binder-first Persistent name rest ts fit ends tokens =
     let b = tokens-bang (name ++ rest) ts tokens in

@@ -9,10 +9,10 @@ use Rattle.clf_syntax.specs.Word.{is_digit, is_letter, is_name_byte, is_word_res
 use Rattle.clf_printer.specs.Text.{variable_text}
 use Rattle.celf_lexer.proofs.Bounds.{same_bytes-equal}
 
-digit-code : (c : ℕ) → 48 ≤ c → c ≤ 57 → is_digit c ≡ true
+pub digit-code : (c : ℕ) → 48 ≤ c → c ≤ 57 → is_digit c ≡ true
 digit-code c low high = rw (le-leb 48 c low, le-leb c 57 high)
 
-all_digits-from : (ds : List ℕ) → AllDigits 10 ds → all_digits ds ≡ true
+pub all_digits-from : (ds : List ℕ) → AllDigits 10 ds → all_digits ds ≡ true
 all_digits-from [] d = refl
 all_digits-from (c ∷ cs) d =
     let k = digit_from_value c d.0 in
@@ -23,7 +23,7 @@ among-five true b c d e h = refl
 among-five false b c d e h = rw h refl
 
 -- Digits go on a word.
-word_rest-from : (ds : List ℕ) → AllDigits 10 ds → is_word_rest ds ≡ true
+pub word_rest-from : (ds : List ℕ) → AllDigits 10 ds → is_word_rest ds ≡ true
 word_rest-from [] d = refl
 word_rest-from (c ∷ cs) d =
     let k = digit_from_value c d.0 in

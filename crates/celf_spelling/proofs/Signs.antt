@@ -4,7 +4,7 @@ use Rattle.std.proofs.lemmas.Bool.{and_parts, not-true, eqb-true}
 use Rattle.celf_lexer.specs.declared.token.TokenKind.TheVariants as kind
 use Rattle.celf_lexer.specs.Sign.{token, front}
 use Rattle.celf_lexer.specs.Tokens.{Lexeme}
-use Rattle.celf_lexer.proofs.Spelling.{AreTokens, BeginsWith, tokens-front}
+use Rattle.celf_lexer.proofs.Spelling.{AreTokens, BeginsWith, ends_word, tokens-front, tokens-word}
 
 pub tokens-backslash : (rest : List ℕ) (ts : List Lexeme) → AreTokens ts (codes "\\" ++ rest) → BeginsWith kind.Backslash (codes "\\") rest ts
 unfolding front
@@ -79,3 +79,50 @@ less-front (b ∷ bs) h =
 
 pub tokens-less : (rest : List ℕ) (ts : List Lexeme) → stays_less rest ≡ true → AreTokens ts (60 ∷ rest) → BeginsWith kind.Less (codes "<") rest ts
 tokens-less rest ts h = tokens-front kind.Less (codes "<") rest ts refl (less-front rest h) refl (omega arith)
+
+-- ---- braces, brackets and the like
+
+pub tokens-left_brace : (rest : List ℕ) (ts : List Lexeme) → AreTokens ts (codes "{" ++ rest) → BeginsWith kind.LeftBrace (codes "{") rest ts
+unfolding front
+tokens-left_brace rest ts = tokens-front kind.LeftBrace (codes "{") rest ts refl refl refl (omega arith)
+
+pub tokens-right_brace : (rest : List ℕ) (ts : List Lexeme) → AreTokens ts (codes "}" ++ rest) → BeginsWith kind.RightBrace (codes "}") rest ts
+unfolding front
+tokens-right_brace rest ts = tokens-front kind.RightBrace (codes "}") rest ts refl refl refl (omega arith)
+
+pub tokens-left_bracket : (rest : List ℕ) (ts : List Lexeme) → AreTokens ts (codes "[" ++ rest) → BeginsWith kind.LeftBracket (codes "[") rest ts
+unfolding front
+tokens-left_bracket rest ts = tokens-front kind.LeftBracket (codes "[") rest ts refl refl refl (omega arith)
+
+pub tokens-right_bracket : (rest : List ℕ) (ts : List Lexeme) → AreTokens ts (codes "]" ++ rest) → BeginsWith kind.RightBracket (codes "]") rest ts
+unfolding front
+tokens-right_bracket rest ts = tokens-front kind.RightBracket (codes "]") rest ts refl refl refl (omega arith)
+
+pub tokens-equals : (rest : List ℕ) (ts : List Lexeme) → AreTokens ts (codes "=" ++ rest) → BeginsWith kind.Equals (codes "=") rest ts
+unfolding front
+tokens-equals rest ts = tokens-front kind.Equals (codes "=") rest ts refl refl refl (omega arith)
+
+pub tokens-star : (rest : List ℕ) (ts : List Lexeme) → AreTokens ts (codes "*" ++ rest) → BeginsWith kind.Star (codes "*") rest ts
+unfolding front
+tokens-star rest ts = tokens-front kind.Star (codes "*") rest ts refl refl refl (omega arith)
+
+-- ---- the words of the language
+
+pub tokens-let : (rest : List ℕ) (ts : List Lexeme) → AreTokens ts (codes "let" ++ 32 ∷ rest) → BeginsWith kind.KwLet (codes "let") (32 ∷ rest) ts
+tokens-let rest ts = tokens-word (codes "let") (32 ∷ rest) ts refl (omega arith) refl
+
+pub tokens-in : (rest : List ℕ) (ts : List Lexeme) → AreTokens ts (codes "in" ++ 32 ∷ rest) → BeginsWith kind.KwIn (codes "in") (32 ∷ rest) ts
+tokens-in rest ts = tokens-word (codes "in") (32 ∷ rest) ts refl (omega arith) refl
+
+pub tokens-pi : (rest : List ℕ) (ts : List Lexeme) → AreTokens ts (codes "Pi" ++ 32 ∷ rest) → BeginsWith kind.KwPi (codes "Pi") (32 ∷ rest) ts
+tokens-pi rest ts = tokens-word (codes "Pi") (32 ∷ rest) ts refl (omega arith) refl
+
+pub tokens-exists : (rest : List ℕ) (ts : List Lexeme) → AreTokens ts (codes "Exists" ++ 32 ∷ rest) → BeginsWith kind.KwExists (codes "Exists") (32 ∷ rest) ts
+tokens-exists rest ts = tokens-word (codes "Exists") (32 ∷ rest) ts refl (omega arith) refl
+
+pub tokens-type : (rest : List ℕ) (ts : List Lexeme) → ends_word rest ≡ true → AreTokens ts (codes "type" ++ rest) → BeginsWith kind.KwType (codes "type") rest ts
+tokens-type rest ts = tokens-word (codes "type") rest ts refl (omega arith)
+
+-- the word for no entries
+pub tokens-one : (rest : List ℕ) (ts : List Lexeme) → ends_word rest ≡ true → AreTokens ts (codes "1" ++ rest) → BeginsWith kind.Number (codes "1") rest ts
+tokens-one rest ts = tokens-word (codes "1") rest ts refl (omega arith)
