@@ -1,14 +1,12 @@
 -- A variable that occurs in what is simply typed or formed has a simple type; so what is typed without variables is closed.
-use Rattle.std.proofs.Common.{ℕ, zero, suc, ◌≡◌, ◌+◌, ◌==◌, Bool, true, false, ◌||◌, ◌⊎◌, inl, inr, ⊎_elim, refl, sym, ap, subst, ◌∙◌, List, [], ◌∷◌, length, Option, Some, None, arith, add-one}
+use Rattle.std.proofs.Common.{ℕ, suc, ◌≡◌, ◌+◌, Bool, true, false, ◌||◌, ◌⊎◌, inl, inr, ⊎_elim, refl, ap, subst, ◌∙◌, List, [], ◌∷◌, length, Some, arith, add-one}
 use Rattle.std.specs.List.{list_any}
 use Rattle.std.proofs.lemmas.Bool.{eqb-true}
-use Rattle.clf_syntax.specs.declared.tree.Mode.{Mode}
-use Rattle.clf_syntax.specs.declared.tree.Head.{Head}
 use Rattle.clf_syntax.specs.declared.tree.Head.TheVariants.{Const, Var, Meta}
 use Rattle.clf_syntax.specs.Tree.{PlainObject, lam, pair, unit, monadic, atomic, hole, PlainNeutral, head_alone, app, fst, snd, PlainExpression, step, done, PlainTuple, empty, entry}
 use Rattle.clf_syntax.specs.TypeTree.{PlainType, family, function, both, top, monad, PlainTelescope, end, binding, PlainKind, SimpleType, arrow, simple_with, lax, SimpleTelescope, simple_end, simple_binding}
 use Rattle.clf_syntax.specs.Simple.{Assignment, Allowance, Families, extended, extended_by, erase, simple_modes, SimplyTypedWith, NeutralSimplyTypedWith, ExpressionSimplyTypedWith, TupleSimplyTypedWith, EachSimplyTypedWith, SimplyFormedWith, TelescopeSimplyFormedWith, KindSimplyFormedWith}
-use Rattle.clf_syntax.specs.Occurs.{is_variable, occurs, occurs_neutral, occurs_expression, occurs_tuple, occurs_type, occurs_telescope, occurs_kind}
+use Rattle.clf_syntax.specs.Occurs.{occurs, occurs_neutral, occurs_expression, occurs_tuple, occurs_type, occurs_telescope, occurs_kind}
 
 -- the variable has a simple type
 abbrev pub IsTypedIn : Assignment → ℕ → Type 0

@@ -1,27 +1,24 @@
 -- The trees that an entry and a check are printed as are read as these.
-use Rattle.std.proofs.Common.{ℕ, zero, suc, ◌≡◌, ◌+◌, ◌<◌, ◌^◌, Bool, true, false, ◌==◌, refl, sym, ap, ◌∙◌, List, [], ◌∷◌, length, Option, Some, None, option_map, slice_get, if◌then◌else◌}
+use Rattle.std.proofs.Common.{ℕ, zero, suc, ◌≡◌, Bool, true, false, refl, sym, ap, ◌∙◌, List, [], ◌∷◌, Some, None, option_map, slice_get}
 use Rattle.std.proofs.lemmas.Option.{slice_get-map}
-use Rattle.clf_syntax.specs.declared.tree.Head.TheVariants.{Var}
 use Rattle.clf_syntax.specs.Tree.{PlainObject}
-use Rattle.clf_syntax.specs.TypeTree.{PlainType, PlainTelescope, PlainKind, SimpleType}
+use Rattle.clf_syntax.specs.TypeTree.{PlainType}
 use Rattle.clf_syntax.specs.Simple.{no_holes, erase, SimplyTypedWith, SimplyFormedWith, KindSimplyFormedWith}
 use Rattle.clf_syntax.specs.Occurs.{occurs, occurs_type, occurs_kind}
 use Rattle.clf_syntax.specs.Word.{same_bytes}
 use Rattle.clf_sig.specs.Entry.{PlainClass, family_of, constant_of, PlainEntry, PlainSignature, names, place_of}
 use Rattle.clf_sig.specs.Core.{declares, checks}
-use Rattle.clf_printer.specs.Depth.{scope_depth}
 use Rattle.celf_lexer.proofs.Signs.{same_bytes-refl}
 use Rattle.celf_lexer.proofs.Bounds.{same_bytes-equal}
 use Rattle.typing_laws.specs.SimpleTyping.{constants_of, families_of}
 use Rattle.clf_rules.specs.Clean.{CleanType}
-use Rattle.celf_explicit.specs.Reading.{combined}
 use Rattle.celf_explicit.specs.Objects.{read_object}
-use Rattle.celf_explicit.specs.Types.{kind_of, simple_type}
-use Rattle.celf_explicit.specs.Items.{read_class, entry_of, read_against, core_of_body}
-use Rattle.celf_spelling.specs.Printed.{printed_object, printed_type, printed_class, printed_entry, printed_check}
+use Rattle.celf_explicit.specs.Types.{kind_of}
+use Rattle.celf_explicit.specs.Items.{read_class, entry_of, core_of_body}
+use Rattle.celf_spelling.specs.Printed.{printed_object, printed_class, printed_entry, printed_check}
 use Rattle.celf_spelling.specs.Printable.{IsPrintableObject, IsPrintableType, IsPrintableClass}
 use Rattle.celf_meaning.proofs.Made.{mapped, combined_of}
-use Rattle.celf_meaning.proofs.Scopes.{Scope, NamedWhere}
+use Rattle.celf_meaning.proofs.Scopes.{NamedWhere}
 use Rattle.celf_meaning.proofs.Meanings.{FindsItself}
 use Rattle.celf_meaning.proofs.ObjectsRead.{object_read}
 use Rattle.celf_meaning.proofs.TypesRead.{CleanKind, simple_read, type_read, kind_read}
@@ -74,5 +71,5 @@ module _ (sig : PlainSignature) (distinct : FindsItself sig) where
       → IsPrintableObject sig 0 n → IsPrintableType sig 0 a → CleanType a → core_of_body sig (printed_check sig n a) ≡ Some (checks n a)
   check_read n a typed f p q clean = combined_of checks
       (ap (λ t. read_object sig [] t (printed_object sig 0 n)) (simple_read sig distinct (constants_of sig) 0 a f q)
-          ∙ object_read sig distinct [] n (erase a) typed p.0 p.1 (closed sig (λ i. occurs i n) (object_occurs (no_holes false) (constants_of sig) n (erase a) typed)))
+      ∙ object_read sig distinct [] n (erase a) typed p.0 p.1 (closed sig (λ i. occurs i n) (object_occurs (no_holes false) (constants_of sig) n (erase a) typed)))
       (type_read sig distinct [] a f q clean (closed sig (λ i. occurs_type i a) (type_occurs (no_holes false) (families_of sig) (constants_of sig) a f)))

@@ -1,10 +1,13 @@
 -- The printed lines of what is well formed read back as that.
-use Rattle.std.proofs.Common.{ℕ, ◌≡◌, false, sym, ap, ◌∙◌, List, [], ◌∷◌, Some}
+use Rattle.std.proofs.Common.{ℕ, ◌≡◌, false, sym, ap, ◌∙◌, List, [], ◌∷◌, ◌++◌, Some}
+use Rattle.std.specs.Prelude.{codes}
 use Rattle.clf_syntax.specs.declared.tree.Mode.TheVariants.{Persistent}
 use Rattle.clf_syntax.specs.TypeTree.{PlainKind}
 use Rattle.use_contexts.specs.Context.{Context}
 use Rattle.clf_sig.specs.Entry.{PlainClass, family_of, constant_of, PlainSignature}
-use Rattle.clf_sig.specs.Core.{PlainCore}
+use Rattle.clf_sig.specs.Core.{PlainCore, declares, checks}
+use Rattle.clf_printer.specs.declared.place.Place.TheVariants.{Whole}
+use Rattle.clf_printer.specs.Text.{object_text, type_text, declaration_text}
 use Rattle.clf_rules.specs.WellFormed.{WellFormedKind, WellFormedClass, WellFormedSignature}
 use Rattle.clf_rules.proofs.Signatures.{names_differ}
 use Rattle.clf_rules.proofs.Held.{well_formed_is_clean}
@@ -13,10 +16,11 @@ use Rattle.typing_laws.proofs.FormedTypes.{well_formed_is_simply_formed}
 use Rattle.celf_sugar.specs.PlainTree.{DesugaredBody}
 use Rattle.celf_sugar.specs.Sugar.{desugared}
 use Rattle.celf_explicit.specs.Items.{core_of_body}
+use Rattle.celf_spelling.specs.Printed.{printed_entry, printed_check}
 use Rattle.celf_spelling.specs.Spelling.{SpellsItem}
 use Rattle.celf_spelling.proofs.Spelled.{entries_are_spelled, checks_are_spelled}
-use Rattle.celf_meaning.specs.ReadingBack.{IsReadAs}
-use Rattle.celf_meaning.specs.Laws.{PlacesDoNotMatter, EntriesMeanThemselves, ChecksMeanThemselves, EntryLinesReadBack, CheckLinesReadBack}
+use Rattle.celf_meaning.specs.ReadingBack.{ReadsAs}
+use Rattle.celf_meaning.specs.Laws.{PlacesDoNotMatter, EntriesMeanThemselves, ChecksMeanThemselves, PrintableEntriesReadBack, PrintableChecksReadBack}
 use Rattle.celf_meaning.proofs.Meanings.{FindsItself}
 use Rattle.celf_meaning.proofs.TypesRead.{CleanKind}
 use Rattle.celf_meaning.proofs.ItemsRead.{finds_itself, ClassFormed, CleanClass, entry_read, check_read}
@@ -47,11 +51,9 @@ pub checks_mean_themselves : ChecksMeanThemselves
 checks_mean_themselves sig n a w f h p q =
     check_read sig (itself sig w) n a ((typed_is_simply_typed false sig [] []).objects n a h) ((well_formed_is_simply_formed sig []).types false a f) p q (((well_formed_is_clean sig []).0 a f).0)
 
-pub read_as : (sig : PlainSignature) (text : List ℕ) (body : DesugaredBody) (core : PlainCore) → core_of_body sig body ≡ Some core → SpellsItem text body → IsReadAs sig text core
-read_as sig text body core h spelled = (
-  spelled.0,
-  λ room l.
-    let i = spelled.1 room l in
+pub read_as : (sig : PlainSignature) (text : List ℕ) (body : DesugaredBody) (core : PlainCore) → core_of_body sig body ≡ Some core → SpellsItem text body → ReadsAs sig text core
+read_as sig text body core h spelled = λ room l.
+    let i = spelled room l in
     record {
       item = i.item;
       behind = i.behind;
@@ -62,11 +64,13 @@ read_as sig text body core h spelled = (
       only = i.only;
       no_fault = i.no_fault;
       says = sym (body_placeless sig (desugared i.item).body) ∙ ap (core_of_body sig) i.says ∙ h;
-    },
-)
+    }
 
-pub entry_lines_read_back : EntryLinesReadBack
-entry_lines_read_back sig metas name e w f p = read_as sig _ _ _ (entries_mean_themselves sig name e w f p.printable) (entries_are_spelled sig metas name e p)
+pub printable_entries_read_back : PrintableEntriesReadBack
+printable_entries_read_back sig metas name e w f p =
+    read_as sig (declaration_text sig metas name e ++ codes "\n") (printed_entry sig name e) (declares name e) (entries_mean_themselves sig name e w f p.printable) (entries_are_spelled sig metas name e p)
 
-pub check_lines_read_back : CheckLinesReadBack
-check_lines_read_back sig metas others n a w f h p q = read_as sig _ _ _ (checks_mean_themselves sig n a w f h p q) (checks_are_spelled sig metas others n a p q)
+pub printable_checks_read_back : PrintableChecksReadBack
+printable_checks_read_back sig metas others n a w f h p q =
+    read_as sig (codes "#check " ++ (object_text sig metas 0 n ++ codes " : " ++ type_text sig others 0 Whole a ++ codes ".\n")) (printed_check sig n a) (checks n a)
+    (checks_mean_themselves sig n a w f h p q) (checks_are_spelled sig metas others n a p q)

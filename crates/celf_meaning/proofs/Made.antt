@@ -1,5 +1,5 @@
 -- Options with a value, put together.
-use Rattle.std.proofs.Common.{◌≡◌, Bool, true, false, refl, ap, ◌∙◌, List, [], ◌∷◌, Option, Some, None, option_map, option_and_then}
+use Rattle.std.proofs.Common.{◌≡◌, ap, ◌∙◌, Option, Some, option_map, option_and_then}
 use Rattle.celf_explicit.specs.Reading.{combined}
 
 pub mapped : {A B : Type 0} (f : A → B) {o : Option A} {x : A} → o ≡ Some x → option_map f o ≡ Some (f x)

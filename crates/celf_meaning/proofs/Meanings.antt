@@ -1,25 +1,23 @@
 -- What the printed names of heads and families mean.
-use Rattle.std.proofs.Common.{ℕ, zero, suc, ◌≡◌, ◌+◌, ◌-◌, ◌<◌, ◌^◌, Bool, true, false, ◌||◌, nat_lt, refl, sym, ap, subst, ◌∙◌, List, [], ◌∷◌, length, map, Option, Some, None, option_map, slice_get, arith}
+use Rattle.std.proofs.Common.{ℕ, zero, suc, ◌≡◌, ◌+◌, ◌-◌, ◌<◌, ◌^◌, Bool, true, false, ◌||◌, nat_lt, refl, sym, ap, ◌∙◌, List, [], ◌∷◌, length, Some, option_map, slice_get, arith}
 use Rattle.std.proofs.lemmas.Bool.{ltb-false, lt-ltb}
 use Rattle.std.proofs.lemmas.Option.{slice_get-map, slice_get_within}
 use Rattle.clf_syntax.specs.declared.tree.Head.{Head}
 use Rattle.clf_syntax.specs.declared.tree.Head.TheVariants.{Const, Var, Meta}
 use Rattle.clf_syntax.specs.TypeTree.{PlainType, PlainKind, SimpleType}
-use Rattle.clf_syntax.specs.Simple.{erase, Assignment}
+use Rattle.clf_syntax.specs.Simple.{erase}
 use Rattle.clf_syntax.specs.Occurs.{is_variable}
 use Rattle.clf_syntax.specs.Word.{is_variable_word}
 use Rattle.clf_sig.specs.Entry.{PlainClass, family_of, constant_of, PlainEntry, PlainSignature, place_of, entry_at, class_at, kind_in, type_in, family_kind, constant_type, simple_class, simple_types}
 use Rattle.clf_printer.specs.Text.{variable_text, used_variable_text, has_dollar}
-use Rattle.celf_sugar.specs.declared.plain.PName.{PName}
 use Rattle.celf_explicit.specs.Names.{family_named, constant_named}
-use Rattle.celf_explicit.specs.Reading.{Local, Typed, local_from}
 use Rattle.celf_explicit.proofs.Options.{option_map-some, option_and_then-some}
-use Rattle.typing_laws.specs.SimpleTyping.{constants_of, families_of}
+use Rattle.typing_laws.specs.SimpleTyping.{constants_of}
 use Rattle.celf_explicit.specs.Heads.{is_zero, has_no_implicit, all_written, constant_typed, constant_head, head, family_head}
-use Rattle.celf_spelling.specs.Printed.{nowhere, spelled, entry_name, place_name, head_name}
+use Rattle.celf_spelling.specs.Printed.{spelled, place_name, head_name}
 use Rattle.celf_spelling.specs.Printable.{IsPrintablePlace, IsPrintableHead}
 use Rattle.celf_meaning.proofs.Made.{mapped, chained}
-use Rattle.celf_meaning.proofs.Scopes.{Scope, locals_in, types_in, IsNamedAt, NamedWhere, type_at, local-variable, local-none}
+use Rattle.celf_meaning.proofs.Scopes.{Scope, locals_in, types_in, NamedWhere, type_at, local-variable, local-none}
 
 -- Each name is that of one entry: the place of an entry's name is the entry's.
 abbrev pub FindsItself : PlainSignature → Type 0

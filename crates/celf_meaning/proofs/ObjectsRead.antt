@@ -1,21 +1,19 @@
 -- The tree that an object is printed as is read as the object: where it is eta-long, its heads have names and what occurs in it is named.
-use Rattle.std.proofs.Common.{ℕ, zero, suc, ◌≡◌, ◌+◌, ◌<◌, ◌≤◌, ◌^◌, Bool, true, false, ◌||◌, refl, sym, ap, subst, ◌∙◌, List, [], ◌∷◌, ◌++◌, length, Option, Some, None, option_map, arith, add-one, ⊎_elim}
+use Rattle.std.proofs.Common.{ℕ, ◌≡◌, ◌+◌, ◌<◌, ◌^◌, true, false, refl, sym, ap, subst, ◌∙◌, List, [], ◌∷◌, ◌++◌, length, Some, arith, add-one, ⊎_elim}
 use Rattle.std.specs.Prelude.{max}
 use Rattle.std.proofs.Math.Nat.{le-max_left, le-max_right}
 use Rattle.clf_syntax.specs.declared.tree.Mode.{Mode}
 use Rattle.clf_syntax.specs.declared.tree.Mode.TheVariants.{Persistent, Affine, Linear}
 use Rattle.clf_syntax.specs.declared.tree.Head.{Head}
-use Rattle.clf_syntax.specs.Tree as core
 use Rattle.clf_syntax.specs.Tree.{PlainObject, lam, pair, unit, monadic, atomic, hole, PlainNeutral, head_alone, app, fst, snd, PlainExpression, step, done, PlainTuple, empty, entry, PlainElimination, arg, first, second, eliminated, spine_on, steps_on, tuple_of}
-use Rattle.clf_syntax.specs.TypeTree.{SimpleType, base, arrow, simple_with, simple_top, lax, SimpleTelescope, simple_end, simple_binding}
-use Rattle.clf_syntax.specs.Simple.{Assignment, extended_by, simple_modes, no_holes, MayStand, SimplyTypedWith, NeutralSimplyTypedWith, ExpressionSimplyTypedWith, TupleSimplyTypedWith}
+use Rattle.clf_syntax.specs.TypeTree.{SimpleType, base, arrow, simple_with, lax, SimpleTelescope, simple_end, simple_binding}
+use Rattle.clf_syntax.specs.Simple.{Assignment, simple_modes, no_holes, SimplyTypedWith, NeutralSimplyTypedWith, ExpressionSimplyTypedWith, TupleSimplyTypedWith}
 use Rattle.clf_syntax.specs.Occurs.{occurs, occurs_neutral, occurs_expression, occurs_tuple}
 use Rattle.clf_printer.specs.Depth.{scope_depth, neutral_depth, expression_depth, tuple_depth}
 use Rattle.clf_sig.specs.Entry.{PlainSignature}
 use Rattle.celf_sugar.specs.PlainTree.{DesugaredAct, argument, spine_of}
 use Rattle.celf_sugar.specs.PlainTree as plain
-use Rattle.celf_sugar.specs.declared.plain.PName.{PName}
-use Rattle.celf_explicit.specs.Reading.{Place, Local, Typed, combined, marked, place_of_head}
+use Rattle.celf_explicit.specs.Reading.{Place, Local, combined, marked, place_of_head}
 use Rattle.celf_explicit.proofs.Options.{combined-some}
 use Rattle.typing_laws.specs.SimpleTyping.{constants_of}
 use Rattle.celf_explicit.specs.Places.{entries_of, entries_at}
@@ -134,7 +132,7 @@ module _ (sig : PlainSignature) where
       object_read g (lam m b) t (d, c, e, p) names small named =
           let inner : read_object sig (locals_in ((true, d) ∷ g)) (Some c) (printed_object sig (length g + 1) b) ≡ Some b
           = ap (λ l. read_object sig (locals_in ((true, d) ∷ g)) (Some c) (printed_object sig l b)) (add-one (length g))
-              ∙ object_read ((true, d) ∷ g) b c p names (omega arith) (named_under g true d (λ i. occurs i b) (λ q. refl) named) in
+          ∙ object_read ((true, d) ∷ g) b c p names (omega arith) (named_under g true d (λ i. occurs i b) (λ q. refl) named) in
           subst (λ u. read_object sig (locals_in g) (Some u) (printed_object sig (length g) (lam m b)) ≡ Some (lam m b)) (sym e)
           (mapped (lam (marked (mark_for m) m)) inner ∙ ap (λ k. Some (lam k b)) (marked-for m))
       object_read g (pair l r) t (c, d, e, p, q) names small named =
@@ -182,13 +180,13 @@ module _ (sig : PlainSignature) where
       expression_read g (step ms r e) s (u, p, m, q) names small named =
           subst (λ ks. (length g + expression_depth (step ks r e) < 2 ^ 64) → NamedWhere g (λ i. occurs_expression i (step ks r e)) → ExpressionRead g (step ks r e) s) m
           (λ few all.
-            let deep : length (pushed u g) ≡ length g + length (simple_modes u) = pushed_length u g in
-            let right = less_right (length g) (neutral_depth r) (expression_depth e + length (simple_modes u)) _ few in
-            let x = neutral_read g r (lax u) p names.0 (less_left (length g) (neutral_depth r) (expression_depth e + length (simple_modes u)) _ few)
-            (named_left g (λ i. occurs_neutral i r) (λ i. occurs_expression (i + length (simple_modes u)) e) all) in
-            step_read g u s r e x
-            (expression_read (pushed u g) e s (subst (λ k. ExpressionSimplyTypedWith (no_holes false) k e s) (sym (pushed_types constants u g)) q) names.1 (omega arith)
-            (named_pushed u g (λ i. occurs_expression i e) (named_right g (λ i. occurs_neutral i r) (λ i. occurs_expression (i + length (simple_modes u)) e) all))))
+          let deep : length (pushed u g) ≡ length g + length (simple_modes u) = pushed_length u g in
+          let right = less_right (length g) (neutral_depth r) (expression_depth e + length (simple_modes u)) _ few in
+          let x = neutral_read g r (lax u) p names.0 (less_left (length g) (neutral_depth r) (expression_depth e + length (simple_modes u)) _ few)
+          (named_left g (λ i. occurs_neutral i r) (λ i. occurs_expression (i + length (simple_modes u)) e) all) in
+          step_read g u s r e x
+          (expression_read (pushed u g) e s (subst (λ k. ExpressionSimplyTypedWith (no_holes false) k e s) (sym (pushed_types constants u g)) q) names.1 (omega arith)
+          (named_pushed u g (λ i. occurs_expression i e) (named_right g (λ i. occurs_neutral i r) (λ i. occurs_expression (i + length (simple_modes u)) e) all))))
           small named
       expression_read g (done t) s p names small named =
           let x = tuple_read_of g t s p names small named in

@@ -1,12 +1,11 @@
 -- The reading looks at no place: what is read of a tree without its places is what is read of the tree.
-use Rattle.std.proofs.Common.{ℕ, ◌≡◌, refl, ap, sym, ◌∙◌, List, [], ◌∷◌, map, Option, Some, None, option_map, option_and_then}
+use Rattle.std.proofs.Common.{ℕ, ◌≡◌, refl, ap, ◌∙◌, List, [], ◌∷◌, map, Option, Some, None, option_map, option_and_then}
 use Rattle.clf_syntax.specs.declared.tree.Mode.{Mode}
 use Rattle.clf_syntax.specs.Tree as core
 use Rattle.clf_syntax.specs.TypeTree as core_type
 use Rattle.clf_syntax.specs.TypeTree.{SimpleType, base, arrow, simple_with, lax, simple_binding}
 use Rattle.clf_sig.specs.Entry.{PlainSignature, family_of, constant_of}
-use Rattle.clf_sig.specs.Core.{PlainCore, declares, queries, traces, equates, checks}
-use Rattle.celf_sugar.specs.declared.plain.PBinder.{PBinder}
+use Rattle.clf_sig.specs.Core.{declares, queries, traces, checks}
 use Rattle.celf_sugar.specs.declared.plain.PName.{PName}
 use Rattle.celf_sugar.specs.PlainTree.{DesugaredObject, lam, pair, unit, monadic, atomic, hole, DesugaredSpine, end_of_spine, and_then, DesugaredAct, argument, first, second, DesugaredSteps, no_steps, step, DesugaredTuple, end_of_tuple, entry, DesugaredType, family, function, both, top, monad, DesugaredTelescope, end, binding, DesugaredClass, of_family, of_constant, DesugaredBody, declare, query, trace, equal, check}
 use Rattle.celf_explicit.specs.Reading.{Place, Local, combined, marked, place_of_head}
@@ -15,7 +14,6 @@ use Rattle.celf_explicit.specs.Heads.{head, family_head, arguments_of}
 use Rattle.celf_explicit.specs.Objects.{long_at, under_spine, behind_act, behind_spine, step_entries, pattern_modes, with_pattern, with_steps, expression_of, with_mode, read_object, read_spine, read_act, read_steps, read_tuple}
 use Rattle.celf_explicit.specs.Types.{simple_type, simple_telescope, local_of, read_indices, at_indices, read_type, read_telescope, kind_of}
 use Rattle.celf_explicit.specs.Items.{read_class, entry_of, read_against, equates_both, both_objects, core_of_body}
-use Rattle.celf_spelling.specs.Printed.{nowhere}
 use Rattle.celf_spelling.specs.Placeless.{placeless_name, placeless_object, placeless_spine, placeless_act, placeless_steps, placeless_tuple, placeless_type, placeless_telescope, placeless_class, placeless_body}
 
 both_same : {A B C : Type 0} (f : A → B → C) {o u : Option A} {p v : Option B} → o ≡ u → p ≡ v → combined f o p ≡ combined f u v
@@ -62,7 +60,7 @@ module _ (sig : PlainSignature) where
     steps_placeless ls (step p h es ss) =
         both_same (◌∷◌)
         (ap (λ ps. option_map (with_mode (pattern_modes ps p)) (combined under_spine (head sig ls h) (read_spine sig ls (place_of_head (head sig ls h)) (placeless_spine es)))) (step_entries_placeless ls h es)
-            ∙ ap (λ x. option_map (with_mode (pattern_modes (step_entries sig ls h es) p)) (combined under_spine (head sig ls h) x)) (spine_placeless ls (place_of_head (head sig ls h)) es))
+        ∙ ap (λ x. option_map (with_mode (pattern_modes (step_entries sig ls h es) p)) (combined under_spine (head sig ls h) x)) (spine_placeless ls (place_of_head (head sig ls h)) es))
         (ap (λ ps. read_steps sig (with_pattern ls ps p) (placeless_steps ss)) (step_entries_placeless ls h es) ∙ steps_placeless (with_pattern ls (step_entries sig ls h es) p) ss)
 
     tuple_placeless : (ls : List Local) (ps : List (Mode × SimpleType)) (u : DesugaredTuple) → read_tuple sig ls ps (placeless_tuple u) ≡ read_tuple sig ls ps u

@@ -1,15 +1,14 @@
 -- The binders around a part of a printed tree: whether each is named, and its simple type; the newest one first.
-use Rattle.std.proofs.Common.{ℕ, zero, suc, ◌≡◌, ◌+◌, ◌-◌, ◌<◌, ◌^◌, Bool, true, false, ◌||◌, refl, sym, ap, subst, ◌∙◌, List, [], ◌∷◌, length, Option, Some, None, slice_get, arith, add-one}
+use Rattle.std.proofs.Common.{ℕ, zero, suc, ◌≡◌, ◌+◌, ◌-◌, ◌<◌, ◌^◌, Bool, true, false, ◌||◌, refl, ap, ◌∙◌, List, [], ◌∷◌, length, Option, Some, None, slice_get, arith, add-one}
 use Rattle.std.proofs.lemmas.Option.{slice_get_within}
-use Rattle.clf_syntax.specs.declared.tree.Mode.{Mode}
-use Rattle.clf_syntax.specs.declared.tree.Head.TheVariants.{Const, Var, Meta}
+use Rattle.clf_syntax.specs.declared.tree.Head.TheVariants.{Var}
 use Rattle.clf_syntax.specs.TypeTree.{SimpleType, SimpleTelescope, simple_end, simple_binding}
 use Rattle.clf_syntax.specs.Simple.{Assignment, extended, extended_by, simple_modes}
-use Rattle.clf_syntax.specs.Word.{is_variable_word, same_bytes}
-use Rattle.clf_printer.specs.Text.{variable_text, new_variable_text, used_variable_text}
+use Rattle.clf_syntax.specs.Word.{is_variable_word}
+use Rattle.clf_printer.specs.Text.{variable_text, new_variable_text}
 use Rattle.celf_explicit.specs.Reading.{Local, Typed, has_name, local_from}
 use Rattle.celf_lexer.proofs.Signs.{same_bytes-refl}
-use Rattle.celf_spelling.specs.Printed.{printed_binders, mark_for}
+use Rattle.celf_spelling.specs.Printed.{printed_binders}
 use Rattle.celf_explicit.specs.Places.{entries_of}
 use Rattle.celf_explicit.specs.Objects.{with_pattern}
 use Rattle.celf_spelling.proofs.Variables.{variable-differs, variable-other}

@@ -1,23 +1,23 @@
 -- The trees that types, telescopes and kinds are printed as are read as these: where they are simply formed and clean, their heads have
 -- names and what occurs in them is named.
-use Rattle.std.proofs.Common.{ℕ, zero, suc, ◌≡◌, ◌+◌, Bool, true, false, ◌&&◌, ◌||◌, refl, sym, ap, subst, ◌∙◌, List, [], ◌∷◌, length, map, Option, Some, None, option_map, arith, add-one}
+use Rattle.std.proofs.Common.{ℕ, ◌≡◌, ◌+◌, Bool, true, false, ◌&&◌, refl, sym, ap, subst, ◌∙◌, List, [], ◌∷◌, length, map, Some, add-one}
 use Rattle.std.specs.List.{list_any}
 use Rattle.clf_syntax.specs.declared.tree.Mode.{Mode}
 use Rattle.clf_syntax.specs.declared.tree.Mode.TheVariants.{Persistent, Affine, Linear}
 use Rattle.clf_syntax.specs.Tree.{PlainObject}
-use Rattle.clf_syntax.specs.TypeTree.{PlainType, family, function, both, top, monad, PlainTelescope, end, binding, PlainKind, SimpleType, base, arrow, simple_with, lax, SimpleTelescope, simple_binding}
+use Rattle.clf_syntax.specs.TypeTree.{PlainType, family, function, both, top, monad, PlainTelescope, end, binding, PlainKind, base, arrow, simple_with, lax, simple_binding}
 use Rattle.clf_syntax.specs.Simple.{Assignment, extended, erase, erase_telescope, no_holes, EachSimplyTypedWith, SimplyFormedWith, TelescopeSimplyFormedWith, KindSimplyFormedWith}
 use Rattle.clf_syntax.specs.Occurs.{occurs, occurs_type, occurs_telescope, occurs_kind}
 use Rattle.clf_sig.specs.Entry.{PlainSignature, family_kind}
 use Rattle.clf_printer.specs.Text.{is_persistent}
 use Rattle.use_contexts.specs.Holding.{is_persistent as may_be_in_types}
-use Rattle.celf_sugar.specs.PlainTree.{DesugaredType, DesugaredObject}
+use Rattle.celf_sugar.specs.PlainTree.{DesugaredType}
 use Rattle.celf_explicit.proofs.Options.{option_map-some}
 use Rattle.typing_laws.specs.SimpleTyping.{families_of}
 use Rattle.clf_rules.specs.Clean.{CleanType, CleanTelescope}
-use Rattle.celf_explicit.specs.Heads.{argument_entry, argument_entries, arguments_of}
+use Rattle.celf_explicit.specs.Heads.{argument_entry, argument_entries}
 use Rattle.celf_explicit.specs.Types.{simple_type, simple_telescope, local_of, read_indices, at_indices, read_type, read_telescope, kind_of}
-use Rattle.celf_spelling.specs.Printed.{binder_name, printed_object, printed_type, printed_telescope, printed_kind, place_name}
+use Rattle.celf_spelling.specs.Printed.{binder_name, printed_object, printed_type, printed_telescope, printed_kind}
 use Rattle.celf_spelling.specs.Printable.{ArePrintableIndices, IsPrintableType, IsPrintableTelescope, IsPrintableKind}
 use Rattle.celf_meaning.proofs.Made.{mapped, chained, combined_of}
 use Rattle.celf_meaning.proofs.Scopes.{Scope, local_at, locals_in, types_in, NamedWhere, named_left, named_right, named_under}
@@ -73,14 +73,14 @@ module _ (sig : PlainSignature) (distinct : FindsItself sig) where
         let is = map (λ n. printed_object sig (length g) n) ns in
         chained (at_indices sig (locals_in g) is) (family_head_of sig distinct f kind.0 kind.1 p.0)
         (mapped (family f) (ap (λ k. read_indices sig (locals_in g) (argument_entries k) is) kind.1
-            ∙ indices_read g ns kind.0 (subst (λ us. EachSimplyTypedWith (no_holes false) (types_in (constants sig) g) ns us) (sym kind.2) each) p.1 named))
+        ∙ indices_read g ns kind.0 (subst (λ us. EachSimplyTypedWith (no_holes false) (types_in (constants sig) g) ns us) (sym kind.2) each) p.1 named))
     type_read g (function m a b) f p clean named =
         let flag = is_persistent m && occurs_type 0 b in
         combined_of (function m) (type_read g a f.0 p.0 clean.0 (named_left g (λ i. occurs_type i a) (λ i. occurs_type (i + 1) b) named))
         (ap (λ l. read_type sig (l ∷ locals_in g) (printed_type sig (length g + 1) b)) (local_is flag (length g) a (printed_type sig (length g) a) (simple_read (types_in (constants sig) g) (length g) a f.0 p.0))
-            ∙ ap (λ k. read_type sig (locals_in ((flag, erase a) ∷ g)) (printed_type sig k b)) (add-one (length g))
-            ∙ type_read ((flag, erase a) ∷ g) b f.1 (subst (λ k. IsPrintableType sig k b) (add-one (length g)) p.1) clean.2
-            (named_under g flag (erase a) (λ i. occurs_type i b) (named_if m (occurs_type 0 b) clean.1) (named_right g (λ i. occurs_type i a) (λ i. occurs_type (i + 1) b) named)))
+        ∙ ap (λ k. read_type sig (locals_in ((flag, erase a) ∷ g)) (printed_type sig k b)) (add-one (length g))
+        ∙ type_read ((flag, erase a) ∷ g) b f.1 (subst (λ k. IsPrintableType sig k b) (add-one (length g)) p.1) clean.2
+        (named_under g flag (erase a) (λ i. occurs_type i b) (named_if m (occurs_type 0 b) clean.1) (named_right g (λ i. occurs_type i a) (λ i. occurs_type (i + 1) b) named)))
     type_read g (both a b) f p clean named = combined_of both (type_read g a f.0 p.0 clean.0 (named_left g (λ i. occurs_type i a) (λ i. occurs_type i b) named))
         (type_read g b f.1 p.1 clean.1 (named_right g (λ i. occurs_type i a) (λ i. occurs_type i b) named))
     type_read g top f p clean named = refl
@@ -93,9 +93,9 @@ module _ (sig : PlainSignature) (distinct : FindsItself sig) where
         let flag = is_persistent m && occurs_telescope 0 s in
         combined_of (binding m) (type_read g a f.0 p.0 clean.0 (named_left g (λ i. occurs_type i a) (λ i. occurs_telescope (i + 1) s) named))
         (ap (λ l. read_telescope sig (l ∷ locals_in g) (printed_telescope sig (length g + 1) s)) (local_is flag (length g) a (printed_type sig (length g) a) (simple_read (types_in (constants sig) g) (length g) a f.0 p.0))
-            ∙ ap (λ k. read_telescope sig (locals_in ((flag, erase a) ∷ g)) (printed_telescope sig k s)) (add-one (length g))
-            ∙ telescope_read ((flag, erase a) ∷ g) s f.1 (subst (λ k. IsPrintableTelescope sig k s) (add-one (length g)) p.1) clean.2
-            (named_under g flag (erase a) (λ i. occurs_telescope i s) (named_if m (occurs_telescope 0 s) clean.1) (named_right g (λ i. occurs_type i a) (λ i. occurs_telescope (i + 1) s) named)))
+        ∙ ap (λ k. read_telescope sig (locals_in ((flag, erase a) ∷ g)) (printed_telescope sig k s)) (add-one (length g))
+        ∙ telescope_read ((flag, erase a) ∷ g) s f.1 (subst (λ k. IsPrintableTelescope sig k s) (add-one (length g)) p.1) clean.2
+        (named_under g flag (erase a) (λ i. occurs_telescope i s) (named_if m (occurs_telescope 0 s) clean.1) (named_right g (λ i. occurs_type i a) (λ i. occurs_telescope (i + 1) s) named)))
 
   pub kind_read : (g : Scope) (k : PlainKind) → KindSimplyFormedWith (no_holes false) (families_of sig) (types_in (constants sig) g) k → IsPrintableKind sig (length g) k → CleanKind k → NamedWhere g (λ i. occurs_kind i k)
       → (s : PlainTelescope) × (read_telescope sig (locals_in g) (printed_kind sig (length g) k) ≡ Some s) × (kind_of s ≡ k)
@@ -106,7 +106,7 @@ module _ (sig : PlainSignature) (distinct : FindsItself sig) where
       (named_under g flag (erase a) (λ i. occurs_kind i k) (λ e. e) (named_right g (λ i. occurs_type i a) (λ i. occurs_kind (i + 1) k) named)) in (
         binding Persistent a later.0,
         combined_of (binding Persistent) (type_read g a f.0 p.0 clean.0 (named_left g (λ i. occurs_type i a) (λ i. occurs_kind (i + 1) k) named))
-        (ap (λ l. read_telescope sig (l ∷ locals_in g) (printed_kind sig (length g + 1) k)) (local_is flag (length g) a (printed_type sig (length g) a) (simple_read (types_in (constants sig) g) (length g) a f.0 p.0))
+            (ap (λ l. read_telescope sig (l ∷ locals_in g) (printed_kind sig (length g + 1) k)) (local_is flag (length g) a (printed_type sig (length g) a) (simple_read (types_in (constants sig) g) (length g) a f.0 p.0))
             ∙ ap (λ n. read_telescope sig (locals_in ((flag, erase a) ∷ g)) (printed_kind sig n k)) (add-one (length g))
             ∙ later.1),
         ap (λ ks. a ∷ ks) later.2,

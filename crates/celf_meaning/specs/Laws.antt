@@ -14,7 +14,7 @@ use Rattle.celf_spelling.specs.Printed.{printed_entry, printed_check}
 use Rattle.celf_spelling.specs.Placeless.{placeless_body}
 use Rattle.celf_spelling.specs.Printable.{IsPrintableObject, IsPrintableType, IsPrintableClass}
 use Rattle.celf_spelling.specs.Laws.{IsPrintableEntry}
-use Rattle.celf_meaning.specs.ReadingBack.{IsReadAs}
+use Rattle.celf_meaning.specs.ReadingBack.{ReadsAs}
 
 -- Where the parts of an item stand does not matter to its core.
 abbrev pub PlacesDoNotMatter : Type 0
@@ -31,12 +31,12 @@ ChecksMeanThemselves = (sig : PlainSignature) (n : PlainObject) (a : PlainType) 
     → IsPrintableObject sig 0 n → IsPrintableType sig 0 a → core_of_body sig (printed_check sig n a) ≡ Some (checks n a)
 
 -- So the line of the entry reads back as the entry,
-abbrev pub EntryLinesReadBack : Type 0
-EntryLinesReadBack = (sig : PlainSignature) (metas name : List ℕ) (e : PlainEntry) → WellFormedSignature sig → WellFormedEntry sig e → IsPrintableEntry sig name e
-    → IsReadAs sig (declaration_text sig metas name e ++ codes "\n") (declares name e)
+abbrev pub PrintableEntriesReadBack : Type 0
+PrintableEntriesReadBack = (sig : PlainSignature) (metas name : List ℕ) (e : PlainEntry) → WellFormedSignature sig → WellFormedEntry sig e → IsPrintableEntry sig name e
+    → ReadsAs sig (declaration_text sig metas name e ++ codes "\n") (declares name e)
 
 -- and what is printed of the object and the type reads back, behind the word of a check, as both.
-abbrev pub CheckLinesReadBack : Type 0
-CheckLinesReadBack = (sig : PlainSignature) (metas others : List ℕ) (n : PlainObject) (a : PlainType) → WellFormedSignature sig → WellFormedType sig [] a → HasType sig [] [] n a
+abbrev pub PrintableChecksReadBack : Type 0
+PrintableChecksReadBack = (sig : PlainSignature) (metas others : List ℕ) (n : PlainObject) (a : PlainType) → WellFormedSignature sig → WellFormedType sig [] a → HasType sig [] [] n a
     → IsPrintableObject sig 0 n → IsPrintableType sig 0 a
-    → IsReadAs sig (codes "#check " ++ (object_text sig metas 0 n ++ codes " : " ++ type_text sig others 0 Whole a ++ codes ".\n")) (checks n a)
+    → ReadsAs sig (codes "#check " ++ (object_text sig metas 0 n ++ codes " : " ++ type_text sig others 0 Whole a ++ codes ".\n")) (checks n a)
