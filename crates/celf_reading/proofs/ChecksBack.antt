@@ -1,5 +1,5 @@
 -- The printed line of an object that has its type reads back as both.
-use Rattle.std.proofs.Common.{ℕ, ◌≡◌, ◌<◌, ◌^◌, refl, sym, ap, ◌∙◌, List, [], arith, Some}
+use Rattle.std.proofs.Common.{◌≡◌, ◌<◌, ◌^◌, refl, sym, ap, ◌∙◌, [], arith, Some}
 use Rattle.clf_syntax.specs.Simple.{erase}
 use Rattle.clf_syntax.specs.Tree.{PlainObject}
 use Rattle.clf_syntax.specs.TypeTree.{PlainType}

@@ -1,5 +1,5 @@
 -- The lines of what is well formed read back.
-use Rattle.std.proofs.Common.{ℕ, ◌+◌, [], ◌++◌, length, arith}
+use Rattle.std.proofs.Common.{[], ◌++◌, arith}
 use Rattle.std.specs.Prelude.{codes}
 use Rattle.clf_sig.specs.Core.{declares, checks}
 use Rattle.celf_spelling.specs.Printed.{printed_entry, printed_check}

@@ -1,8 +1,6 @@
 -- What is well formed over a well-formed signature can be printed: its heads are entries whose names can be declared.
-use Rattle.std.proofs.Common.{ℕ, ◌≡◌, ◌+◌, ◌<◌, ◌^◌, ◌&&◌, suc, zero, Bool, true, false, refl, sym, ap, ◌∙◌, Option, Some, None, List, [], ◌∷◌, ◌++◌, length, slice_get, option_and_then, arith, IsTrue}
-use Rattle.clf_syntax.specs.declared.tree.Mode.{Mode}
+use Rattle.std.proofs.Common.{ℕ, ◌≡◌, ◌+◌, ◌<◌, ◌^◌, suc, zero, true, Some, List, [], ◌∷◌, ◌++◌, length, slice_get, arith, IsTrue}
 use Rattle.clf_syntax.specs.declared.tree.Mode.TheVariants.{Persistent}
-use Rattle.clf_syntax.specs.declared.tree.Head.{Head}
 use Rattle.clf_syntax.specs.declared.tree.Head.TheVariants.{Const, Var, Meta}
 use Rattle.clf_syntax.specs.Tree.{PlainObject, lam, pair, unit, monadic, atomic, hole, PlainNeutral, head_alone, app, fst, snd, PlainExpression, step, done, PlainTuple, empty, entry}
 use Rattle.clf_syntax.specs.TypeTree.{PlainType, family, function, both, top, monad, PlainTelescope, end, binding, PlainKind}
@@ -10,8 +8,8 @@ use Rattle.clf_syntax.specs.Word.{is_declarable}
 use Rattle.clf_syntax.specs.Renaming.{ren_telescope, up}
 use Rattle.use_contexts.specs.Context.{Context, modes, with_entries}
 use Rattle.use_contexts.specs.Holding.{Holding, persistent_alone, all_held}
-use Rattle.clf_sig.specs.Entry.{Declaration, PlainClass, family_of, constant_of, PlainEntry, PlainSignature, class_at, kind_in, type_in, family_kind, constant_type}
-use Rattle.clf_rules.specs.Typing.{HeadHasType, HasType, Synthesizes, ExpressionHasType, TupleHasType}
+use Rattle.clf_sig.specs.Entry.{Declaration, PlainClass, family_of, constant_of, PlainSignature, class_at, kind_in, type_in, family_kind, constant_type}
+use Rattle.clf_rules.specs.Typing.{HasType, Synthesizes, ExpressionHasType, TupleHasType}
 use Rattle.clf_rules.specs.WellFormed.{IndicesHaveTypes, WellFormedType, WellFormedTelescope, WellFormedKind, WellFormedClass, AllMayFollow, WellFormedSignature}
 use Rattle.clf_printer.specs.Depth.{indices_depth, type_depth, telescope_depth, kind_depth, class_depth}
 use Rattle.celf_explicit.proofs.Options.{option_map-some, option_and_then-some}

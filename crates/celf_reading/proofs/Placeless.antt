@@ -1,10 +1,10 @@
 -- A reading looks at no place in the text.
-use Rattle.std.proofs.Common.{ℕ, ◌≡◌, Bool, refl, List, [], ◌∷◌, map, Option, ap}
+use Rattle.std.proofs.Common.{◌≡◌, refl, List, [], ◌∷◌, map}
 use Rattle.clf_sig.specs.Entry.{PlainSignature}
 use Rattle.celf_sugar.specs.PlainTree as plain
 use Rattle.celf_explicit.specs.Reading.{Place, Local, has_none, domain, codomain, left_part, right_part, behind, place_of_head, head, read_type, read_object, read_spine, read_act}
 use Rattle.celf_explicit.specs.Entries.{is_end, read_class}
-use Rattle.celf_spelling.specs.Placeless.{placeless_name, placeless_object, placeless_spine, placeless_act, placeless_type, placeless_telescope, placeless_class}
+use Rattle.celf_spelling.specs.Placeless.{placeless_object, placeless_spine, placeless_act, placeless_type, placeless_telescope, placeless_class}
 
 none-placeless : (is : List plain.DesugaredObject) → has_none (map (λ o. placeless_object o) is) ≡ has_none is
 none-placeless [] = refl

@@ -1,5 +1,5 @@
 -- The tree that an object of a bare type is printed as is read as that object at the place of the type.
-use Rattle.std.proofs.Common.{ℕ, ◌≡◌, ◌+◌, ◌-◌, ◌<◌, ◌^◌, suc, zero, Bool, true, false, refl, ap, ◌∙◌, Option, Some, None, List, [], ◌∷◌, ◌++◌, length, slice_get, arith}
+use Rattle.std.proofs.Common.{ℕ, ◌≡◌, ◌+◌, ◌<◌, ◌^◌, suc, zero, Bool, true, false, refl, ap, ◌∙◌, Option, Some, None, List, [], ◌∷◌, ◌++◌, length, slice_get, arith}
 use Rattle.std.proofs.lemmas.Bool.{lt-ltb}
 use Rattle.std.proofs.lemmas.Option.{slice_get_within}
 use Rattle.clf_syntax.specs.declared.tree.Mode.{Mode}
@@ -9,7 +9,7 @@ use Rattle.clf_syntax.specs.declared.tree.Head.TheVariants.{Const, Var, Meta}
 use Rattle.clf_syntax.specs.Renaming.{up}
 use Rattle.clf_syntax.specs.Simple.{erase}
 use Rattle.clf_syntax.specs.Tree as core
-use Rattle.clf_syntax.specs.TypeTree.{PlainType, family, function, both, base, arrow, simple_with, simple_top}
+use Rattle.clf_syntax.specs.TypeTree.{PlainType, family, function, both}
 use Rattle.clf_syntax.specs.Word.{is_variable_word}
 use Rattle.use_contexts.specs.Context.{Context}
 use Rattle.use_contexts.specs.Holding.{Holding}

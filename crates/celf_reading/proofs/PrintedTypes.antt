@@ -1,5 +1,5 @@
 -- The tree that a bare type is printed as is read as that type.
-use Rattle.std.proofs.Common.{ℕ, ◌≡◌, ◌+◌, ◌&&◌, Bool, true, false, refl, ap, ◌∙◌, sym, List, [], ◌∷◌, Some, slice_get, IsTrue}
+use Rattle.std.proofs.Common.{ℕ, ◌≡◌, ◌+◌, ◌&&◌, true, false, refl, ◌∙◌, sym, List, [], ◌∷◌, Some, slice_get, IsTrue}
 use Rattle.std.proofs.lemmas.Bool.{and_right}
 use Rattle.clf_syntax.specs.declared.tree.Mode.{Mode}
 use Rattle.clf_syntax.specs.Occurs.{occurs_type}
@@ -11,7 +11,7 @@ use Rattle.celf_explicit.specs.Names.{family_named}
 use Rattle.celf_explicit.specs.Reading.{read_type}
 use Rattle.celf_explicit.specs.Entries.{read_class}
 use Rattle.celf_explicit.proofs.Options.{option_map-some}
-use Rattle.celf_spelling.specs.Printed.{place_name, printed_type, printed_class}
+use Rattle.celf_spelling.specs.Printed.{printed_type, printed_class}
 use Rattle.celf_spelling.specs.Printable.{IsPrintableBinder, IsPrintableType, IsPrintableClass}
 use Rattle.celf_spelling.proofs.Objects.{place_name-entry}
 use Rattle.celf_reading.specs.Bare.{IsBareType, IsBareClass, IsBareSignature}

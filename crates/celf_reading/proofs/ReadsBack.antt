@@ -1,5 +1,5 @@
 -- The printed line of an entry reads back as that entry.
-use Rattle.std.proofs.Common.{ℕ, ◌≡◌, ◌≤◌, refl, sym, ap, subst, ◌∙◌, IsTrue, List, [], arith, Some}
+use Rattle.std.proofs.Common.{ℕ, ◌≡◌, sym, ap, subst, ◌∙◌, IsTrue, List, [], arith, Some}
 use Rattle.clf_syntax.specs.Word.{is_declarable}
 use Rattle.clf_sig.specs.Entry.{PlainEntry, PlainSignature}
 use Rattle.celf_sugar.specs.PlainTree as plain

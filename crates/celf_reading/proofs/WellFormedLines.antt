@@ -1,5 +1,5 @@
 -- The lines of what is well formed are spelled.
-use Rattle.std.proofs.Common.{ℕ, ◌≡◌, ◌≤◌, ◌+◌, refl, ap, List, [], ◌∷◌, length, arith}
+use Rattle.std.proofs.Common.{ℕ, ◌≡◌, ◌+◌, refl, ap, [], arith}
 use Rattle.clf_syntax.specs.declared.tree.Mode.TheVariants.{Persistent, Affine, Linear}
 use Rattle.clf_syntax.specs.TypeTree.{PlainType, family, function, both, top, monad}
 use Rattle.clf_sig.specs.Entry.{PlainClass, family_of, constant_of, PlainSignature}

@@ -6,7 +6,6 @@ use Rattle.clf_syntax.specs.Word.{is_declarable}
 use Rattle.clf_sig.specs.Entry.{PlainEntry, PlainSignature}
 use Rattle.clf_rules.specs.Typing.{HasType}
 use Rattle.clf_rules.specs.WellFormed.{WellFormedType, WellFormedEntry, WellFormedSignature}
-use Rattle.clf_printer.specs.Text.{declaration_text}
 use Rattle.clf_printer.specs.Depth.{scope_depth, type_depth, class_depth}
 use Rattle.celf_spelling.specs.Printed.{printed_entry, printed_check}
 use Rattle.celf_spelling.specs.Spelling.{SpellsItem}

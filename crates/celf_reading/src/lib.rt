@@ -4,5 +4,7 @@
 
 mod laws;
 
-pub use laws::{check_lines_are_spelled, check_lines_read_back, checks_read_back, entry_lines_are_spelled,
-    entry_lines_read_back, reads_back};
+pub use laws::{
+    check_lines_are_spelled, check_lines_read_back, checks_read_back, entry_lines_are_spelled,
+    entry_lines_read_back, reads_back,
+};
