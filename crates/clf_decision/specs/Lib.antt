@@ -9,3 +9,4 @@ pub mod Outcome
 pub mod Checking
 pub mod Formation
 pub mod Puts
+pub mod Hereditary

@@ -9,14 +9,15 @@ use Rattle.use_contexts.specs.Context.{Context, modes}
 use Rattle.use_contexts.specs.Holding.{Holding}
 use Rattle.use_contexts.specs.Rows.{Agrees, Leftover}
 use Rattle.clf_sig.specs.Entry.{PlainSignature, PlainEntry}
+use Rattle.clf_decision.specs.Hereditary.{hereditary}
 use Rattle.clf_kernel.specs.declared.refusal.Refusal.{Refusal}
 use Rattle.clf_kernel.specs.declared.refusal.Inferred.{Inferred}
 use Rattle.clf_rules.specs.Typing.{HasType, Synthesizes}
 use Rattle.clf_rules.specs.WellFormed.{WellFormedEntry}
 use Rattle.clf_rules.specs.Reach.{ObjectInReach, NeutralInReach, EntryInReach}
-use Rattle.clf_check.specs.Outcome.{Outcome, answer_of}
-use Rattle.clf_check.specs.Checking.{staying, checked, inferred}
-use Rattle.clf_check.specs.Formation.{class_formed}
+use Rattle.clf_decision.specs.Outcome.{Outcome, answer_of}
+use Rattle.clf_decision.specs.Checking.{checked, inferred}
+use Rattle.clf_decision.specs.Formation.{class_formed}
 use Rattle.clf_kernel.specs.Answers.{plain_left, plain_inferred, plain_cause}
 use Rattle.clf_kernel.specs.Exact.{ChecksObject, InfersNeutral, ChecksEntry}
 use Rattle.clf_kernel.specs.Stops.{Answers}
@@ -26,7 +27,7 @@ use Rattle.clf_check.proofs.Formed.{Decided, decided_entry}
 use Rattle.clf_check.proofs.EntryRefusals.{explained-class}
 
 pub checks-object : (sig : PlainSignature) (g : Context) (h : Holding) (n : PlainObject) (t : PlainType) (r : Result Left (OrWide Refusal)) → ObjectInReach sig g h n t
-    → Answers plain_left (checked staying sig g h n t) r → ChecksObject sig g h n t r
+    → Answers plain_left (checked hereditary sig g h n t) r → ChecksObject sig g h n t r
 checks-object sig g h n t (Ok left) w e = subst (λ (o : Outcome Leftover). Agrees (modes g) h (answer_of o) (λ p. HasType sig g p n t)) e (checks_exactly sig g h n t w)
 checks-object sig g h n t (Err (Fault r)) w e = (
   subst (λ (o : Outcome Leftover). Agrees (modes g) h (answer_of o) (λ p. HasType sig g p n t)) e (checks_exactly sig g h n t w),
@@ -36,7 +37,7 @@ checks-object sig g h n t (Err NoMemory) w e = tt
 checks-object sig g h n t (Err (TooFar v)) w e = e
 
 pub infers-neutral : (sig : PlainSignature) (g : Context) (h : Holding) (n : PlainNeutral) (r : Result Inferred (OrWide Refusal)) → NeutralInReach sig g h n
-    → Answers plain_inferred (inferred staying sig g h n) r → InfersNeutral sig g h n r
+    → Answers plain_inferred (inferred hereditary sig g h n) r → InfersNeutral sig g h n r
 infers-neutral sig g h n (Ok found) w e =
     let u = subst (λ (o : Outcome (PlainType × Leftover)). AgreesWithType g h o (λ p a. Synthesizes sig g p n a)) e (infers_exactly sig g h n w) in
     (u.1, u.2)

@@ -3,3 +3,8 @@ pub mod Stops
 pub mod Spines
 pub mod Entries
 pub mod Exactness
+pub mod Raised
+pub mod Closings
+pub mod Opening
+pub mod TupleSteps
+pub mod Patterns

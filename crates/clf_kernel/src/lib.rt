@@ -8,8 +8,11 @@ mod object;
 mod refusal;
 mod rows;
 mod scope;
-mod steps;
+mod trail;
+mod tuple;
+mod parts;
+mod putting;
 
-pub use entry::check_entry;
-pub use object::{check_object, infer};
+pub use entry::{check_entry, check_kind, check_type};
+pub use object::{check_object, check_run, infer};
 pub use refusal::{Cause, Inferred, Refusal};

@@ -1,7 +1,7 @@
 use Rattle.std.proofs.Common.{◌∙◌, ap, sym, length, arith}
 use Rattle.use_contexts.specs.Marks.{context, marks}
 use Rattle.clf_kernel.proofs.RowSteps.{difference_within, length_in_both}
-use Rattle.clf_kernel.proofs.steps.join.Goals as goal
+use Rattle.clf_kernel.proofs.parts.join.Goals as goal
 
 pub level-requires-clause-there : goal.level-requires-clause-there
 level-requires-clause-there c =
