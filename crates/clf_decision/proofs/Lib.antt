@@ -1,1 +1,15 @@
 pub mod AgreesWith
+pub mod SimpleForms
+pub mod AgreementOfObjects
+pub mod AgreementOfAtoms
+pub mod AgreementOfNeutrals
+pub mod Decided
+pub mod AgreementOfMonads
+pub mod Agreement
+pub mod AgreementOfTypes
+pub mod OneLeftover
+pub mod Starting
+pub mod Differences
+pub mod FirstPlaces
+pub mod IdleEntries
+pub mod Hereditary

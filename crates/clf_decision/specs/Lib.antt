@@ -9,4 +9,5 @@ pub mod Outcome
 pub mod Checking
 pub mod Formation
 pub mod Puts
+pub mod Laws
 pub mod Hereditary

@@ -8,7 +8,7 @@ use Rattle.use_contexts.specs.Holding.{Holding, WellMarked}
 use Rattle.hered_subst.specs.Substitution.{single, SubstitutedType, SubstitutedTelescope, SubstitutedKind}
 use Rattle.clf_sig.specs.Entry.{PlainSignature, PlainEntry}
 use Rattle.clf_rules.specs.WellFormed.{WellFormedSignature, may_be_implicit}
-use Rattle.typing_laws.specs.SimpleTyping.{constants_of, simple_of, families_of}
+use Rattle.typing_laws.specs.SimpleTyping.{constants_of, families_of}
 use Rattle.clf_decision.specs.Checking.{Puts}
 
 -- Where an object has the variable's simple type, and what follows is simply formed with the variable, what is put is the substitution's.
