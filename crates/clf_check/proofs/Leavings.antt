@@ -80,7 +80,7 @@ entry_left (m ∷ ms) (true ∷ h) (y ∷ l) s (true ∷ p) zero w n e f k = abs
 entry_left (m ∷ ms) (x ∷ h) (y ∷ l) s (z ∷ p) (suc i) w n e f k = entry_left ms h l s p i w.1 (omega arith) e f (omega arith)
 
 -- ---- the row and what is left
-modes_length : (g : Context) → length (modes g) ≡ length g
+pub modes_length : (g : Context) → length (modes g) ≡ length g
 modes_length [] = refl
 modes_length (e ∷ g) = ap suc (modes_length g)
 

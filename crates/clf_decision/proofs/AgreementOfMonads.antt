@@ -24,7 +24,7 @@ use Rattle.clf_decision.specs.Outcome.{Outcome, passed, refused, at_part, and_th
 use Rattle.clf_decision.specs.Checking.{Puts, monadic_left, with_slack, first_other_mode, same_modes_left, pattern_left, closed_scopes, rest_left, step_left, end_left, entry_left}
 use Rattle.clf_decision.proofs.AgreesWith.{AgreesWithType}
 use Rattle.clf_decision.proofs.AgreementOfObjects.{closed-answer, part-answer}
-use Rattle.clf_decision.proofs.Decided.{Decided}
+use Rattle.clf_decision.proofs.DecidedOutcomes.{Decided}
 use Rattle.clf_decision.proofs.FirstPlaces.{same-modes, no-other-mode}
 
 -- ---- monadic objects

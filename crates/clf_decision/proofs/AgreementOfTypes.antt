@@ -2,13 +2,13 @@
 use Rattle.std.proofs.Common.{◌≡◌, ℕ, suc, ◌==◌, Bool, true, false, if◌then◌else◌, List, [], ◌∷◌, length, Option, None, Some, refl, sym, ap, subst, ◌∙◌, arith}
 use Rattle.std.proofs.lemmas.Option.{none-some, same_Some}
 use Rattle.clf_syntax.specs.declared.tree.Mode.{Mode}
-use Rattle.clf_syntax.specs.declared.tree.Mode.TheVariants.{Persistent, Affine, Linear}
+use Rattle.clf_syntax.specs.declared.tree.Mode.TheVariants.{Persistent}
 use Rattle.clf_syntax.specs.Tree.{PlainObject}
 use Rattle.clf_syntax.specs.TypeTree.{PlainType, family, function, both, top, monad, PlainTelescope, end, binding, PlainKind}
 use Rattle.clf_syntax.specs.Simple.{erase, SimplyFormed, SimplyFormedKind, SimplyFormedContext}
 use Rattle.use_contexts.specs.Context.{Context, modes}
-use Rattle.use_contexts.specs.Holding.{Holding, is_persistent, persistent_alone}
-use Rattle.use_contexts.specs.Rows.{within, IsSubholding, Agrees, Leftover}
+use Rattle.use_contexts.specs.Holding.{Holding, persistent_alone}
+use Rattle.use_contexts.specs.Rows.{Agrees, Leftover}
 use Rattle.use_contexts.proofs.ArgumentLaws.{alone_part}
 use Rattle.hered_subst.specs.Substitution.{Environment, single, SubstitutedKind, in_no_argument, in_argument}
 use Rattle.hered_subst.proofs.Types.{is_determined}
@@ -21,32 +21,18 @@ use Rattle.typing_laws.specs.SimpleTyping.{constants_of, simple_of, families_of}
 use Rattle.typing_laws.proofs.Erased.{typed_is_simply_typed}
 use Rattle.typing_laws.proofs.FormedTypes.{well_formed_is_simply_formed}
 use Rattle.clf_check.proofs.Agreement.{other-number, alone-marked}
-use Rattle.clf_check.proofs.UsedParts.{some-part}
 use Rattle.clf_decision.specs.Outcome.{Outcome, passed, refused, at_part, and_then, answer_of}
 use Rattle.clf_decision.specs.Checking.{Puts, checked}
 use Rattle.clf_decision.specs.Formation.{indices_formed, arity_formed, family_formed, parts_formed, type_formed, telescope_formed, kind_formed, class_formed}
 use Rattle.clf_decision.specs.Puts.{ArePuts}
 use Rattle.clf_decision.proofs.AgreesWith.{ChecksAgree, FormationAgrees}
-use Rattle.clf_decision.proofs.Decided.{Decided, decided_as, decided_next, decided_part}
+use Rattle.clf_decision.proofs.EntryRows.{alone-has}
+use Rattle.clf_decision.proofs.DecidedOutcomes.{Decided, decided_as, decided_next, decided_part}
 use Rattle.clf_decision.proofs.SimpleForms.{put-kind-formed, family-kind-formed}
 
 -- ---- what uses persistent entries alone
-only-part : (ms : List Mode) (p : Holding) → IsSubholding ms (persistent_alone ms) p → p ≡ persistent_alone ms
-only-part [] [] w = refl
-only-part [] (x ∷ p) w = let e = w.0 in absurd (omega arith)
-only-part (m ∷ ms) [] w = let e = w.0 in absurd (omega arith)
-only-part (m ∷ ms) (x ∷ p) w = let e = w.0 in by m x w.1.0 (only-part ms p (omega arith, w.1.1))
-  where
-    by : (m : Mode) (x : Bool) → within m (is_persistent m) x ≡ true → p ≡ persistent_alone ms → x ∷ p ≡ is_persistent m ∷ persistent_alone ms
-    by Persistent true e q = ap (λ r. true ∷ r) q
-    by Persistent false e q = absurd (cc)
-    by Affine true e q = absurd (cc)
-    by Affine false e q = ap (λ r. false ∷ r) q
-    by Linear true e q = absurd (cc)
-    by Linear false e q = ap (λ r. false ∷ r) q
-
 pub alone-decided : (ms : List Mode) (o : Outcome Leftover) (P : Holding → Type 0) → Agrees ms (persistent_alone ms) (answer_of o) P → Decided o (P (persistent_alone ms))
-alone-decided ms (passed y) P a = let part = some-part ms (persistent_alone ms) y P a in subst P (only-part ms part.0 part.1) part.2
+alone-decided ms (passed y) P a = alone-has ms y P a
 alone-decided ms (refused path cause) P a = a (persistent_alone ms) (alone_part ms)
 
 -- ---- as many indices as arguments
@@ -85,20 +71,20 @@ arity-decided ns k = by (length k == length ns) refl
 -- ---- families, types, telescopes, kinds and classes
 module _ (puts : Puts) (are : ArePuts puts) (sig : PlainSignature) (agree : ChecksAgree puts sig) (well : WellFormedSignature sig) where
   module _ (g : Context) (context : SimplyFormedContext (families_of sig) (constants_of sig) g) where
-    index-decided : (n : PlainObject) (a : PlainType) → SimplyFormed (families_of sig) (simple_of sig g) a
+    pub index-decided : (n : PlainObject) (a : PlainType) → SimplyFormed (families_of sig) (simple_of sig g) a
         → Decided (checked puts sig g (persistent_alone (modes g)) n a) (HasType sig g (persistent_alone (modes g)) n a)
     index-decided n a f =
         alone-decided (modes g) (checked puts sig g (persistent_alone (modes g)) n a) (λ p. HasType sig g p n a)
         (agree.objects n g (persistent_alone (modes g)) a (record { signature = well; context = context; marked = alone-marked (modes g) }) f)
 
-    index-put : (n : PlainObject) (a : PlainType) (k : PlainKind) → SimplyFormedKind (families_of sig) (simple_of sig g) (a ∷ k) → HasType sig g (persistent_alone (modes g)) n a
+    pub index-put : (n : PlainObject) (a : PlainType) (k : PlainKind) → SimplyFormedKind (families_of sig) (simple_of sig g) (a ∷ k) → HasType sig g (persistent_alone (modes g)) n a
         → SubstitutedKind (single n 0) k (puts.into_kind n a k) × SimplyFormedKind (families_of sig) (simple_of sig g) (puts.into_kind n a k)
     index-put n a k f y =
         let typed = (typed_is_simply_typed true sig g (persistent_alone (modes g))).objects n a y in
         let put = are.kinds (families_of sig) (simple_of sig g) n a k typed f.1 in
         (put, put-kind-formed (families_of sig) (simple_of sig g) n (erase a) typed k (puts.into_kind n a k) f.1 put)
 
-    indices-decided : (ns : List PlainObject) (k : PlainKind) (place : ℕ) → SimplyFormedKind (families_of sig) (simple_of sig g) k → Decided (indices_formed puts sig g place ns k) (IndicesFit sig g ns k)
+    pub indices-decided : (ns : List PlainObject) (k : PlainKind) (place : ℕ) → SimplyFormedKind (families_of sig) (simple_of sig g) k → Decided (indices_formed puts sig g place ns k) (IndicesFit sig g ns k)
     indices-decided [] k place f = tt
     indices-decided (n ∷ ns) [] place f = tt
     indices-decided (n ∷ ns) (a ∷ k) place f =
@@ -120,7 +106,7 @@ module _ (puts : Puts) (are : ArePuts puts) (sig : PlainSignature) (agree : Chec
         (decided_next (IndicesFit sig g ns k) (length k ≡ length ns) (indices_formed puts sig g 0 ns k) (arity_formed ns k)
         (indices-decided ns k 0 (family-kind-formed sig well g f k e)) (λ p. arity-decided ns k))
 
-  under : (m : Mode) (a : PlainType) (g : Context) → SimplyFormedContext (families_of sig) (constants_of sig) g → WellFormedType sig g a → SimplyFormedContext (families_of sig) (constants_of sig) ((m, a) ∷ g)
+  pub under : (m : Mode) (a : PlainType) (g : Context) → SimplyFormedContext (families_of sig) (constants_of sig) g → WellFormedType sig g a → SimplyFormedContext (families_of sig) (constants_of sig) ((m, a) ∷ g)
   under m a g c p = ((well_formed_is_simply_formed sig g).types true a p, c)
 
   parts-decided : (P Q : Type 0) (a b : Outcome (Unit {0})) → Decided a P → (P → Decided b Q) → Decided (parts_formed a b) (P × Q)

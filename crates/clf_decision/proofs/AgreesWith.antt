@@ -14,7 +14,7 @@ use Rattle.clf_decision.specs.Outcome.{Outcome, passed, refused, answer_of}
 use Rattle.clf_decision.specs.Checking.{Puts, checked, inferred, checked_expression, checked_tuple}
 use Rattle.clf_decision.specs.Formation.{type_formed, telescope_formed, kind_formed, class_formed}
 use Rattle.clf_decision.specs.Puts.{Starts}
-use Rattle.clf_decision.proofs.Decided.{Decided}
+use Rattle.clf_decision.proofs.DecidedOutcomes.{Decided}
 
 -- An outcome with a type agrees with a property of parts and types: where it passed, the row that is left stands for exactly the parts
 -- that have the property at that type, and they have it at no other. Where it is refused, no part has it at any type.

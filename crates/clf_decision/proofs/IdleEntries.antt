@@ -4,8 +4,8 @@ use Rattle.std.proofs.Math.Logic.{◌⊎◌, inl, inr}
 use Rattle.clf_syntax.specs.declared.tree.Mode.{Mode}
 use Rattle.clf_syntax.specs.declared.tree.Mode.TheVariants.{Persistent, Affine, Linear}
 use Rattle.clf_syntax.specs.TypeTree.{PlainTelescope, end, binding, PlainType}
-use Rattle.use_contexts.specs.Context.{Context, modes, with_entries}
-use Rattle.use_contexts.specs.Holding.{Holding}
+use Rattle.use_contexts.specs.Context.{Context, modes, telescope_modes, with_entries}
+use Rattle.use_contexts.specs.Holding.{Holding, all_held}
 use Rattle.use_contexts.specs.Rows.{implies, within, stands, is_unused, newest, older, EachWithin, EachStands, IsSubholding, Stands, Agrees, Leftover}
 use Rattle.use_contexts.proofs.Bits.{at_entry, given_2}
 use Rattle.clf_rules.specs.Refusal.{unused, level}
@@ -42,7 +42,8 @@ pub left-is-idle : (ms : List Mode) (h : Holding) (y : Leftover) (P : Holding �
 left-is-idle ms h y P i a l p w t = let s = a.1 p w t in unheld-there ms h y.0 y.1 p i s.1 s.0 l
 
 -- ---- and a held linear entry that no part holds is left so
-each_whole : (ms : List Mode) (h l : Holding) → EachWithin ms h h → EachWithin ms h l → EachStands ms h l true h
+-- A row with slack stands for the whole holding, if that is a part of itself.
+pub each_whole : (ms : List Mode) (h l : Holding) → EachWithin ms h h → EachWithin ms h l → EachStands ms h l true h
 each_whole [] h l a b = tt
 each_whole (m ∷ ms) h l a b = (
   given_2 (within m (newest h) (newest h)) (within m (newest h) (newest l)) (stands m (newest h) (newest l) true (newest h))
@@ -91,6 +92,21 @@ there-newest zero (x ∷ l) e = cc
 there-newest (suc k) (x ∷ l) e = ap newest (beyond-newer k x l) ∙ there-newest k l e
 
 -- ---- contexts with entries
+behind_held : (ms : List Mode) (h : Holding) (i : ℕ) → slice_get (all_held ms h) (length ms + i) ≡ slice_get h i
+behind_held [] h i = let n : 0 + i ≡ i = omega arith in ap (λ j. slice_get h j) n
+behind_held (m ∷ ms) h i = let n : suc (length ms) + i ≡ length ms + suc i = omega arith in ap (λ j. slice_get (all_held ms (true ∷ h)) j) n ∙ behind_held ms (true ∷ h) (suc i)
+
+held_among : (ms : List Mode) (h : Holding) (i : ℕ) → i < length ms → slice_get (all_held ms h) i ≡ Some true
+held_among [] h i n = absurd (omega arith)
+held_among (m ∷ ms) h i n = by (cut (length ms) i n) (held_among ms (true ∷ h) i)
+  where
+    cut : (k i : ℕ) → i < suc k → (i < k) ⊎ (i ≡ k + 0)
+    cut k i n = grind arith
+
+    by : (i < length ms) ⊎ (i ≡ length ms + 0) → (i < length ms → slice_get (all_held ms (true ∷ h)) i ≡ Some true) → slice_get (all_held ms (true ∷ h)) i ≡ Some true
+    by (inl l) rest = rest l
+    by (inr e) rest = ap (λ j. slice_get (all_held ms (true ∷ h)) j) e ∙ behind_held ms (true ∷ h) 0
+
 pub entered-modes : (u : PlainTelescope) (g : Context) (k : ℕ) → slice_get (modes (with_entries u g)) (telescope_width u + k) ≡ slice_get (modes g) k
 entered-modes end g k = let n : 0 + k ≡ k = omega arith in ap (λ i. slice_get (modes g) i) n
 entered-modes (binding m a s) g k =
@@ -100,6 +116,10 @@ entered-modes (binding m a s) g k =
 pub entered-length : (u : PlainTelescope) (g : Context) → length (with_entries u g) ≡ telescope_width u + length g
 entered-length end g = omega arith
 entered-length (binding m a s) g = let e = entered-length s ((m, a) ∷ g) in omega (arith, e)
+
+-- Each of the entries is held.
+pub entered-held : (u : PlainTelescope) (h : Holding) (i : ℕ) → i < telescope_width u → slice_get (all_held (telescope_modes u) h) i ≡ Some true
+entered-held u h i n = held_among (telescope_modes u) h i n
 
 -- ---- the scopes
 -- What the end of the scopes comes to: where it passed, no linear entry is left without slack; where it is refused, one is, and it is the newest.

@@ -3,7 +3,7 @@ pub mod SimpleForms
 pub mod AgreementOfObjects
 pub mod AgreementOfAtoms
 pub mod AgreementOfNeutrals
-pub mod Decided
+pub mod DecidedOutcomes
 pub mod AgreementOfMonads
 pub mod Agreement
 pub mod AgreementOfTypes
@@ -12,4 +12,18 @@ pub mod Starting
 pub mod Differences
 pub mod FirstPlaces
 pub mod IdleEntries
+pub mod EntryRows
+pub mod ExplanationForms
+pub mod ExplanationsOfObjects
+pub mod ExplanationsOfNeutrals
+pub mod ExplanationsOfSteps
+pub mod Explanations
+pub mod RefusedForms
+pub mod FirstRefusalsOfObjects
+pub mod FirstRefusalsOfSteps
+pub mod FirstRefusals
+pub mod FittingIndices
+pub mod ExplanationsOfTypes
+pub mod FirstRefusalsOfTypes
+pub mod Decisions
 pub mod Hereditary

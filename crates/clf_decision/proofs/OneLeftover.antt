@@ -11,18 +11,10 @@ use Rattle.use_contexts.proofs.UseLaws.{IsSubholding-self}
 use Rattle.clf_rules.specs.Typing.{HasType, Synthesizes}
 use Rattle.clf_check.proofs.UsedParts.{some-part}
 use Rattle.clf_check.proofs.Leavings.{row-leaves, leaves-one}
+use Rattle.clf_decision.proofs.IdleEntries.{each_whole}
 use Rattle.clf_decision.specs.Laws.{LeaveTheSame, SlackIsIdle, LeftoverIsOne, InferredIsOne}
 
 -- ---- leftovers
--- A row with slack stands for the whole holding, if that is a part of itself.
-each_whole : (ms : List Mode) (h l : Holding) → EachWithin ms h h → EachWithin ms h l → EachStands ms h l true h
-each_whole [] h l a b = tt
-each_whole (m ∷ ms) h l a b = (
-  given_2 (within m (newest h) (newest h)) (within m (newest h) (newest l)) (stands m (newest h) (newest l) true (newest h))
-      (at_entry (λ m h l _ _ _ _ _ _. implies (within m h h) (implies (within m h l) (stands m h l true h))) refl refl refl m (newest h) (newest l) true true true true true true) a.0 b.0,
-  each_whole ms (older h) (older l) a.1 b.1,
-)
-
 -- A row that leaves a linear entry stands for the whole holding with slack alone.
 needs_slack : (m : Mode) (h l t : Bool) → (is_linear m && l) ≡ true → within m h l ≡ true → stands m h l t h ≡ true → t ≡ true
 needs_slack m h l t a b c =

@@ -3,4 +3,4 @@
 
 mod laws;
 
-pub use laws::one_leftover;
+pub use laws::{decided, one_leftover};
