@@ -1,5 +1,5 @@
 -- One step along the entries of a telescope, the arguments of a kind and the indices of a family.
-use Rattle.std.proofs.Common.{◌≡◌, ℕ, suc, ◌+◌, ◌<◌, List, [], ◌∷◌, length, map, drop, get_or, refl, sym, ap, subst, ◌∙◌, add-one}
+use Rattle.std.proofs.Common.{◌≡◌, ℕ, suc, ◌+◌, ◌<◌, List, [], ◌∷◌, length, map, drop, reverse, get_or, refl, sym, ap, subst, ◌∙◌, add-one}
 use Rattle.std.proofs.Math.Seq.{drop-cons}
 use Rattle.clf_syntax.specs.declared.tree.Mode.{Mode}
 use Rattle.clf_syntax.specs.declared.tree.Mode.TheVariants.{Persistent}
@@ -14,14 +14,25 @@ use Rattle.use_contexts.specs.Context.{Context, modes}
 use Rattle.use_contexts.specs.Holding.{persistent_alone}
 use Rattle.use_contexts.specs.Rows.{Leftover}
 use Rattle.clf_sig.specs.Entry.{PlainSignature}
+use Rattle.clf_rules.specs.Refusal.{Cause}
 use Rattle.clf_decision.specs.Outcome.{Outcome, passed, refused, at_part, and_then}
 use Rattle.clf_decision.specs.Checking.{Puts, checked}
 use Rattle.clf_decision.specs.Formation.{type_formed, telescope_formed, kind_formed, indices_formed}
 use Rattle.clf_kernel.specs.declared.refusal.Stop.{Stop}
 use Rattle.clf_kernel.specs.declared.refusal.Stop.TheVariants.{Refused, NoMemory, TooFar}
+use Rattle.clf_kernel.specs.Answers.{plain_cause}
 use Rattle.clf_kernel.specs.Stops.{Stops}
 use Rattle.clf_kernel.specs.Indices.{index_behind}
 use Rattle.clf_kernel.proofs.Stops.{then_stops}
+
+-- a refusal is one, whatever else would pass
+refused_stops : {A B : Type 0} (path : List ℕ) (cause : Cause) (s : Stop) → Stops {A = A} (refused path cause) s → Stops {A = B} (refused path cause) s
+refused_stops path cause (Refused outward c) q =
+    let p : path ≡ reverse outward.items = cc in
+    let k : cause ≡ plain_cause c = cc in
+    ap (λ x. refused x cause) p ∙ ap (λ y. refused (reverse outward.items) y) k
+refused_stops path cause NoMemory q = tt
+refused_stops path cause (TooFar w) q = q
 
 module _ (puts : Puts) (sig : PlainSignature) where
   -- ---- the entries of a telescope
@@ -77,10 +88,7 @@ module _ (puts : Puts) (sig : PlainSignature) where
       where
         by : (w : Outcome Leftover) (s : Stop) → Stops (and_then w (λ y. passed (puts.into_kind (plain_obj x) a k))) s
             → Stops (and_then w (λ y. indices_formed puts sig g (suc i) (map plain_obj (drop (suc i) indices)) (puts.into_kind (plain_obj x) a k))) s
-        by (refused path cause) s q = then_stops (refused path cause) (λ (y : Leftover). indices_formed puts sig g (suc i) (map plain_obj (drop (suc i) indices)) (puts.into_kind (plain_obj x) a k)) s (moved s q)
-          where
-            moved : (s : Stop) → Stops (refused path cause) s → Stops (refused path cause) s
-            moved s q = q
+        by (refused path cause) s q = refused_stops path cause s q
         by (passed y) (Refused outward c) q = absurd (cc)
         by (passed y) NoMemory q = tt
         by (passed y) (TooFar w) q = q

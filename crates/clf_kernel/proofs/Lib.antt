@@ -4,6 +4,7 @@ pub mod Spines
 pub mod Entries
 pub mod Exactness
 pub mod Raised
+pub mod Variables
 pub mod Closings
 pub mod Opening
 pub mod TupleSteps
