@@ -14,7 +14,7 @@ use Rattle.clf_rules.specs.Typing.{HasType, Synthesizes, ExpressionHasType, Tupl
 use Rattle.clf_rules.specs.Refusal.{eliminations}
 use Rattle.typing_laws.specs.SimpleTyping.{simple_of, families_of}
 use Rattle.typing_laws.proofs.Erased.{typed_is_simply_typed}
-use Rattle.clf_check.proofs.UsedParts.{some-part}
+use Rattle.clf_rules.proofs.UsedParts.{some-part}
 use Rattle.clf_decision.specs.Outcome.{Outcome, passed, answer_of}
 use Rattle.clf_decision.specs.Checking.{Puts, checked, inferred, checked_expression, checked_tuple}
 use Rattle.clf_decision.specs.Puts.{ArePuts, Starts}
@@ -23,7 +23,8 @@ use Rattle.clf_decision.proofs.Starting.{starts-under, starts-from, starts-part,
 use Rattle.clf_decision.proofs.AgreementOfObjects.{lambda-agrees, pair-left-agrees, unit-left-agrees}
 use Rattle.clf_decision.proofs.AgreementOfAtoms.{atomic-agrees}
 use Rattle.clf_decision.proofs.AgreementOfNeutrals.{head-agrees, application-agrees, first-agrees, second-agrees}
-use Rattle.clf_decision.proofs.AgreementOfMonads.{monadic-left-agrees, step-agrees, end-agrees, outside-marked, entry-left-agrees}
+use Rattle.clf_decision.proofs.AgreementOfMonads.{monadic-left-agrees, step-agrees, end-agrees, entry-left-agrees}
+use Rattle.clf_decision.proofs.Marked.{outside-marked}
 
 -- ---- types of one family
 as_many : (z : Assignment) (ns : List PlainObject) (ts : List SimpleType) → SimplyTypedEach z ns ts → length ns ≡ length ts

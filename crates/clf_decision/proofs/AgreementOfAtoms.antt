@@ -12,10 +12,10 @@ use Rattle.trace_equal.proofs.FirstMatching.{same_is_joined}
 use Rattle.clf_rules.specs.Typing.{AtomicRule}
 use Rattle.clf_rules.specs.Refusal.{family_differs}
 use Rattle.clf_rules.proofs.Held.{same_number}
-use Rattle.clf_check.proofs.Agreement.{other-number}
 use Rattle.clf_decision.specs.Outcome.{Outcome, passed, refused, and_then, answer_of}
 use Rattle.clf_decision.specs.Checking.{first_unjoined, indices_left, found_left, atomic_left}
 use Rattle.clf_decision.proofs.AgreesWith.{AgreesWithType}
+use Rattle.clf_decision.proofs.Tests.{other-number}
 
 -- ---- indices
 -- Without a place that is not joined a statement holds, and with one it does not.

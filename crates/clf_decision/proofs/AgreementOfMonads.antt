@@ -9,8 +9,8 @@ use Rattle.use_contexts.specs.Holding.{Holding, WellMarked, is_weak, may_use, al
 use Rattle.use_contexts.specs.Rows.{Answer, Agrees, Shared, Leftover, outside, slack_outside}
 use Rattle.use_contexts.proofs.RowAnswers.{in_turn, closed, closed_all, entered}
 use Rattle.use_contexts.proofs.RowLaws.{agrees-same, turn-agrees, IsSubholding-first}
-use Rattle.use_contexts.proofs.UseLaws.{IsSubholding-self, WellMarked-part, idle-agrees, scopes-agree}
-use Rattle.use_contexts.proofs.ArgumentLaws.{argument-agrees, entry-refused, entry-agrees}
+use Rattle.use_contexts.proofs.UseLaws.{IsSubholding-self, idle-agrees, scopes-agree}
+use Rattle.use_contexts.proofs.ArgumentLaws.{entry-refused, entry-agrees}
 use Rattle.hered_subst.specs.Substitution.{single, SubstitutedTelescope}
 use Rattle.hered_subst.proofs.Types.{is_determined}
 use Rattle.trace_equal.specs.Search.{same_mode}
@@ -18,14 +18,15 @@ use Rattle.clf_rules.specs.Explained.{telescope_width}
 use Rattle.clf_rules.specs.Typing.{StepRule, TupleEntryRule}
 use Rattle.clf_rules.specs.Refusal.{mode_differs, width}
 use Rattle.clf_rules.proofs.Held.{same_number}
-use Rattle.clf_check.proofs.Agreement.{same-mode, other-mode, other-number}
-use Rattle.clf_check.proofs.UsedParts.{some-part}
+use Rattle.clf_rules.proofs.UsedParts.{some-part}
 use Rattle.clf_decision.specs.Outcome.{Outcome, passed, refused, at_part, and_then, answer_of}
 use Rattle.clf_decision.specs.Checking.{Puts, monadic_left, with_slack, first_other_mode, same_modes_left, pattern_left, closed_scopes, rest_left, step_left, end_left, entry_left}
 use Rattle.clf_decision.proofs.AgreesWith.{AgreesWithType}
 use Rattle.clf_decision.proofs.AgreementOfObjects.{closed-answer, part-answer}
 use Rattle.clf_decision.proofs.DecidedOutcomes.{Decided}
 use Rattle.clf_decision.proofs.FirstPlaces.{same-modes, no-other-mode}
+use Rattle.trace_equal.proofs.FirstMatching.{mode_sound}
+use Rattle.clf_decision.proofs.Tests.{other-mode, other-number}
 
 -- ---- monadic objects
 monad-entries : {s u : PlainTelescope} → monad s ≡ monad u → s ≡ u
@@ -131,15 +132,6 @@ end-agrees before g h end w =
     (idle-agrees (modes g) h (IsSubholding-self (modes g) h w))
 end-agrees before g h (binding m a s) w = λ p u y. let e = y.0 in absurd (cc)
 
--- the row outside what was checked in a row that the mode allows
-pub outside-marked : (m : Mode) (g : Context) (h : Holding) → WellMarked (modes g) h → (y : Leftover) (P : Holding → Type 0) → Agrees (modes g) (allowed m (modes g) h) (Some y) P
-    → WellMarked (modes g) (outside m (modes g) h y.0)
-outside-marked m g h w y P a =
-    let self = IsSubholding-self (modes g) h w in
-    let idle = idle-agrees (modes g) h self in
-    let both = argument-agrees m (modes g) h h false (Some y) (λ p. is_weak (modes g) p ≡ true) P self idle a in
-    WellMarked-part (modes g) h (outside m (modes g) h y.0) both.0
-
 binding-mode : {m k : Mode} {a b : PlainType} {s u : PlainTelescope} → binding m a s ≡ binding k b u → m ≡ k
 binding-mode e = cc
 
@@ -194,7 +186,7 @@ module _ (place : ℕ) (m : Mode) (g : Context) (h : Holding) (marked : WellMark
       (EntryHas m g n P Q (binding k a u))
   entry-mode k true e a u after object later puts x l =
       subst (λ j. Agrees (modes g) h (answer_of (and_then (at_part place object) (λ y. and_then (later (outside m (modes g) h y.0)) (with_slack (slack_outside m y.1))))) (EntryHas m g n P Q (binding j a u)))
-      (same-mode m k e) (entry-same a u after object later puts x l)
+      (mode_sound m k e) (entry-same a u after object later puts x l)
   entry-mode k false e a u after object later puts x l = λ p w y. other-mode m k e (binding-mode y.type)
 
 -- The entry is checked in the row that its mode allows, the later ones start from what it left outside, and what is put is the

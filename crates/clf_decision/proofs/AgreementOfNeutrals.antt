@@ -19,12 +19,14 @@ use Rattle.trace_equal.specs.Search.{same_mode}
 use Rattle.clf_sig.specs.Entry.{PlainSignature, constant_type}
 use Rattle.clf_rules.specs.Typing.{HeadHasType, ApplicationRule}
 use Rattle.clf_rules.specs.Refusal.{mode_differs}
-use Rattle.clf_check.proofs.Agreement.{same-mode, other-mode, marked-there}
-use Rattle.clf_check.proofs.UsedParts.{some-part}
+use Rattle.clf_rules.proofs.UsedParts.{some-part}
 use Rattle.clf_decision.specs.Outcome.{Outcome, passed, refused, at_part, and_then, answer_of}
 use Rattle.clf_decision.specs.Checking.{Puts, constant_left, held_left, variable_left, head_left, argument_left, first_left, second_left}
 use Rattle.clf_decision.proofs.AgreesWith.{AgreesWithType}
 use Rattle.clf_decision.proofs.AgreementOfObjects.{function-mode, function-argument, function-result, both-left, both-right}
+use Rattle.trace_equal.proofs.FirstMatching.{mode_sound}
+use Rattle.clf_decision.proofs.Tests.{other-mode}
+use Rattle.clf_decision.proofs.Marked.{marked-there}
 
 -- ---- heads
 constant-agrees : (sig : PlainSignature) (g : Context) (h : Holding) → WellMarked (modes g) h → (c : ℕ) (o : Option PlainType) → constant_type sig c ≡ o
@@ -115,7 +117,7 @@ module _ (m : Mode) (g : Context) (h : Holding) (place : ℕ) (n : PlainObject) 
       → AgreesWithType g h (if b then and_then (at_part place r) (λ y. passed (after, (outside m (modes g) x.0 y.0, x.1 || slack_outside m y.1))) else refused (place ∷ []) (mode_differs k m))
       (ApplicationHas m g n P Q)
   application-function k true e a c after x r puts u v =
-      application-same a c after x r puts (subst (λ j. AgreesWithType g h (passed (function j a c, x)) P) (sym (same-mode m k e)) u) v
+      application-same a c after x r puts (subst (λ j. AgreesWithType g h (passed (function j a c, x)) P) (sym (mode_sound m k e)) u) v
   application-function k false e a c after x r puts u v = λ p t w y.
       other-mode m k e (sym (function-mode (u.1 y.for_function (function m y.domain y.range) y.applied)))
 

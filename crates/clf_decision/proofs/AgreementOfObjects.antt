@@ -11,9 +11,10 @@ use Rattle.use_contexts.proofs.UseLaws.{IsSubholding-self, unit-agrees, scope-ag
 use Rattle.trace_equal.specs.Search.{same_mode}
 use Rattle.clf_rules.specs.Typing.{LambdaRule, PairRule}
 use Rattle.clf_rules.specs.Refusal.{unused, mode_differs}
-use Rattle.clf_check.proofs.Agreement.{same-mode, other-mode}
 use Rattle.clf_decision.specs.Outcome.{Outcome, passed, refused, at_part, and_then, answer_of}
 use Rattle.clf_decision.specs.Checking.{closed_scope, lambda_left, joined_left, pair_left, unit_left}
+use Rattle.trace_equal.proofs.FirstMatching.{mode_sound}
+use Rattle.clf_decision.proofs.Tests.{other-mode}
 
 -- ---- types
 pub function-mode : {m k : Mode} {a b c d : PlainType} → function m a b ≡ function k c d → m ≡ k
@@ -70,7 +71,7 @@ lambda-function : (m k : Mode) (b : Bool) → same_mode m k ≡ b → (g : Conte
     → (m ≡ k → Agrees (m ∷ modes g) (true ∷ h) (answer_of r) (P a c))
     → Agrees (modes g) h (answer_of (if b then and_then (at_part 0 r) (closed_scope m g) else refused [] (mode_differs k m))) (LambdaHas m P (function k a c))
 lambda-function m k true e g h a c r P x =
-    subst (λ j. Agrees (modes g) h (answer_of (and_then (at_part 0 r) (closed_scope m g))) (LambdaHas m P (function j a c))) (same-mode m k e) (lambda-same m g h a c r P (x (same-mode m k e)))
+    subst (λ j. Agrees (modes g) h (answer_of (and_then (at_part 0 r) (closed_scope m g))) (LambdaHas m P (function j a c))) (mode_sound m k e) (lambda-same m g h a c r P (x (mode_sound m k e)))
 lambda-function m k false e g h a c r P x = λ p w y. other-mode m k e (function-mode y.type)
 
 no-lambda : (m : Mode) (g : Context) (h : Holding) (t : PlainType) (P : PlainType → PlainType → Holding → Type 0)

@@ -20,7 +20,6 @@ use Rattle.clf_rules.proofs.Held.{same_number}
 use Rattle.typing_laws.specs.SimpleTyping.{constants_of, simple_of, families_of}
 use Rattle.typing_laws.proofs.Erased.{typed_is_simply_typed}
 use Rattle.typing_laws.proofs.FormedTypes.{well_formed_is_simply_formed}
-use Rattle.clf_check.proofs.Agreement.{other-number, alone-marked}
 use Rattle.clf_decision.specs.Outcome.{Outcome, passed, refused, at_part, and_then, answer_of}
 use Rattle.clf_decision.specs.Checking.{Puts, checked}
 use Rattle.clf_decision.specs.Formation.{indices_formed, arity_formed, family_formed, parts_formed, type_formed, telescope_formed, kind_formed, class_formed}
@@ -29,6 +28,8 @@ use Rattle.clf_decision.proofs.AgreesWith.{ChecksAgree, FormationAgrees}
 use Rattle.clf_decision.proofs.EntryRows.{alone-has}
 use Rattle.clf_decision.proofs.DecidedOutcomes.{Decided, decided_as, decided_next, decided_part}
 use Rattle.clf_decision.proofs.SimpleForms.{put-kind-formed, family-kind-formed}
+use Rattle.clf_decision.proofs.Tests.{other-number}
+use Rattle.clf_decision.proofs.Marked.{alone-marked}
 
 -- ---- what uses persistent entries alone
 pub alone-decided : (ms : List Mode) (o : Outcome Leftover) (P : Holding → Type 0) → Agrees ms (persistent_alone ms) (answer_of o) P → Decided o (P (persistent_alone ms))

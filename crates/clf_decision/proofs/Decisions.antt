@@ -11,7 +11,7 @@ use Rattle.clf_rules.specs.Typing.{HasType, Synthesizes, ExpressionHasType}
 use Rattle.clf_rules.specs.WellFormed.{WellFormedType, WellFormedKind, WellFormedEntry}
 use Rattle.clf_rules.specs.Refusal.{Cause}
 use Rattle.clf_rules.specs.Explained.{ExplainedAt, ExplainedInNeutral, ExplainedInType, ExplainedInKind, ExplainedInClass}
-use Rattle.clf_check.proofs.UsedParts.{some-part}
+use Rattle.clf_rules.proofs.UsedParts.{some-part}
 use Rattle.clf_decision.specs.Outcome.{Outcome, passed, refused, answer_of}
 use Rattle.clf_decision.specs.Checking.{Puts, checked, inferred, checked_expression}
 use Rattle.clf_decision.specs.Formation.{type_formed, kind_formed, class_formed}

@@ -13,7 +13,7 @@ use Rattle.use_contexts.proofs.RowLaws.{IsSubholding-stands}
 use Rattle.clf_sig.specs.Entry.{PlainSignature}
 use Rattle.clf_rules.specs.Typing.{HasType}
 use Rattle.clf_rules.specs.Explained.{DiffersAt}
-use Rattle.clf_check.proofs.UsedParts.{used, used_stands, used_of, length-used_of, each-used_of}
+use Rattle.clf_rules.proofs.UsedParts.{used, used_stands, used_of, length-used_of, each-used_of}
 
 -- ---- entries of parts
 pub get-now : (p : Holding) (n : ℕ) (b : Bool) → length p ≡ suc n → newest p ≡ b → slice_get p 0 ≡ Some b

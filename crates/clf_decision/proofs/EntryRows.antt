@@ -1,16 +1,16 @@
 -- What an entry of a tuple leaves of the row that it started from.
-use Rattle.std.proofs.Common.{◌≡◌, ℕ, zero, suc, Bool, true, false, if◌then◌else◌, List, [], ◌∷◌, Option, None, Some, slice_get, refl, ap, ◌∙◌}
+use Rattle.std.proofs.Common.{◌≡◌, ℕ, zero, suc, true, false, List, [], ◌∷◌, Option, None, Some, slice_get, refl, ap, ◌∙◌}
 use Rattle.std.proofs.Math.Logic.{◌⊎◌, inl, inr}
 use Rattle.clf_syntax.specs.declared.tree.Mode.{Mode}
 use Rattle.clf_syntax.specs.declared.tree.Mode.TheVariants.{Persistent, Affine, Linear}
 use Rattle.use_contexts.specs.Context.{Context, modes}
-use Rattle.use_contexts.specs.Holding.{Holding, WellMarked, is_persistent, is_linear, is_weak, is_unrestricted, persistent_alone, may_use, allowed}
-use Rattle.use_contexts.specs.Rows.{IsSubholding, EachWithin, Agrees, Leftover, linear_of, outside, slack_outside}
+use Rattle.use_contexts.specs.Holding.{Holding, WellMarked, is_persistent, is_weak, is_unrestricted, persistent_alone, may_use, allowed}
+use Rattle.use_contexts.specs.Rows.{IsSubholding, EachWithin, Agrees, Leftover, outside, slack_outside}
 use Rattle.use_contexts.proofs.RowLaws.{agrees-same}
-use Rattle.use_contexts.proofs.UseLaws.{IsSubholding-self, WellMarked-part}
+use Rattle.use_contexts.proofs.UseLaws.{IsSubholding-self}
 use Rattle.use_contexts.proofs.ArgumentLaws.{affine-agrees, alone_length, alone_bare, alone_part, alone_stands}
 use Rattle.clf_rules.specs.Explained.{CanSpare, Leaves}
-use Rattle.clf_check.proofs.Leavings.{row-leaves, modes_length}
+use Rattle.clf_rules.proofs.Leavings.{row-leaves, modes_length}
 
 -- ---- the persistent entries alone
 alone_within : (ms : List Mode) (h : Holding) → WellMarked ms h → EachWithin ms h (persistent_alone ms)
@@ -38,24 +38,6 @@ no-mark [] (x ∷ h) i w e f = w
 no-mark (m ∷ ms) [] i w e f = w
 no-mark (m ∷ ms) (x ∷ h) zero w e f = cc
 no-mark (m ∷ ms) (x ∷ h) (suc i) w e f = no-mark ms h i w.1 e f
-
-linear-marked : (ms : List Mode) (h l : Holding) → WellMarked ms h → WellMarked ms l → WellMarked ms (linear_of ms h l)
-linear-marked [] [] l w v = tt
-linear-marked [] (x ∷ h) l w v = absurd w
-linear-marked (m ∷ ms) [] l w v = absurd w
-linear-marked (m ∷ ms) (x ∷ h) [] w v = absurd v
-linear-marked (m ∷ ms) (x ∷ h) (y ∷ l) w v = (kept m x y w.0 v.0, linear-marked ms h l w.1 v.1)
-  where
-    kept : (m : Mode) (x y : Bool) → (is_persistent m ≡ true → x ≡ true) → (is_persistent m ≡ true → y ≡ true) → is_persistent m ≡ true → (if is_linear m then x else y) ≡ true
-    kept Persistent x y e f q = f q
-    kept Affine x y e f q = f q
-    kept Linear x y e f q = e q
-
--- The row outside an entry marks the context as well.
-pub outside-marked : (m : Mode) (g : Context) (h : Holding) (y : Leftover) → WellMarked (modes g) h → IsSubholding (modes g) (allowed m (modes g) h) y.0 → WellMarked (modes g) (outside m (modes g) h y.0)
-outside-marked Persistent g h y w s = w
-outside-marked Affine g h y w s = linear-marked (modes g) h y.0 w (WellMarked-part (modes g) (allowed Affine (modes g) h) y.0 s)
-outside-marked Linear g h y w s = WellMarked-part (modes g) h y.0 s
 
 module _ (g : Context) (h : Holding) (w : WellMarked (modes g) h) (P : Holding → Type 0) where
   -- A persistent entry of a tuple leaves all.

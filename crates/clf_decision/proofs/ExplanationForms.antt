@@ -9,7 +9,7 @@ use Rattle.clf_sig.specs.Entry.{PlainSignature}
 use Rattle.clf_rules.specs.Typing.{Synthesizes}
 use Rattle.clf_rules.specs.Refusal.{Cause}
 use Rattle.clf_rules.specs.Explained.{MaySynthesize, CheckedPart, ReachesInExpression, ReachesInTuple, Refuses, ExplainedAt, ExplainedInNeutral}
-use Rattle.clf_check.proofs.UsedParts.{some-part}
+use Rattle.clf_rules.proofs.UsedParts.{some-part}
 use Rattle.clf_decision.specs.Outcome.{Outcome, passed, refused}
 use Rattle.clf_decision.proofs.AgreesWith.{AgreesWithType}
 

@@ -61,10 +61,14 @@ module _ (puts : Puts) (are : ArePuts puts) (sig : PlainSignature) (agree : Chec
         step-explained sig g h r e s place ms (inferred puts sig g h r) (λ u row. checked_expression puts sig (with_entries u g) row (suc place) e (ren_telescope (up (length ms)) s))
         (agree.neutrals r g h w) (neutral-explained r g h w)
         (λ u row p x q.
-            let k = rest-starts sig g h r u row ms w p x q in
-            let y = formed-entered sig u g ms s q f in
-            (k.marked, (agree.expressions e (with_entries u g) (all_held ms row) (suc place) (ren_telescope (up (length ms)) s) k y,
-            expression-explained e (with_entries u g) (all_held ms row) (suc place) (ren_telescope (up (length ms)) s) k y)))
+        let k = rest-starts sig g h r u row ms w p x q in
+        let y = formed-entered sig u g ms s q f in (
+          k.marked,
+          (
+            agree.expressions e (with_entries u g) (all_held ms row) (suc place) (ren_telescope (up (length ms)) s) k y,
+            expression-explained e (with_entries u g) (all_held ms row) (suc place) (ren_telescope (up (length ms)) s) k y,
+          ),
+        ))
     expression-explained (done t) g h place s w f = result-explained sig g h t s place (checked_tuple puts sig g h place 0 t s) (tuple-explained t g h place 0 s w f)
 
     tuple-explained : (t : PlainTuple) (g : Context) (h : Holding) (steps before : ℕ) (s : PlainTelescope) → Starts sig g h → SimplyFormedTelescope (families_of sig) (simple_of sig g) s
@@ -75,8 +79,8 @@ module _ (puts : Puts) (are : ArePuts puts) (sig : PlainSignature) (agree : Chec
         entry-explained sig g h steps before puts n t (λ row u. checked_tuple puts sig g row steps (suc before) t u) m s (λ row a. checked puts sig g row n a) w.marked f
         (λ a x. (agree.objects n g (allowed m (modes g) h) a from x, object-explained n g (allowed m (modes g) h) a from x))
         (λ a u x row marked y.
-            let p = telescope-put puts are sig g (allowed m (modes g) h) n a u y x in
-            (p.0, tuple-explained t g row steps (suc before) (puts.into_telescope n a u) (starts-from sig g h row w marked) p.1))
+        let p = telescope-put puts are sig g (allowed m (modes g) h) n a u y x in
+        (p.0, tuple-explained t g row steps (suc before) (puts.into_telescope n a u) (starts-from sig g h row w marked) p.1))
 
   -- in words of an equation
   pub explained-object : (g : Context) (h : Holding) (n : PlainObject) (t : PlainType) (path : List ℕ) (why : Cause) → Starts sig g h → SimplyFormed (families_of sig) (simple_of sig g) t

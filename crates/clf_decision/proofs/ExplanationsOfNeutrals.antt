@@ -13,9 +13,8 @@ use Rattle.clf_sig.specs.Entry.{PlainSignature, constant_type}
 use Rattle.clf_rules.specs.Typing.{Synthesizes}
 use Rattle.clf_rules.specs.Refusal.{mode_differs, eliminations}
 use Rattle.clf_rules.specs.Explained.{neutral_with, at_head, at_argument, at_first, at_second, before_argument, before_first, before_second, in_argument_part, argument_to_none, first_of_none, second_of_none, metavariable_stands, argument_differs, variable_not_held, no_variable, no_constant}
-use Rattle.clf_check.proofs.UsedParts.{some-part}
-use Rattle.clf_check.proofs.Leavings.{row-leaves}
-use Rattle.clf_check.proofs.Agreement.{same-mode, other-mode, marked-there}
+use Rattle.clf_rules.proofs.UsedParts.{some-part}
+use Rattle.clf_rules.proofs.Leavings.{row-leaves}
 use Rattle.trace_equal.specs.Search.{same_mode}
 use Rattle.typing_laws.specs.SimpleTyping.{simple_of, families_of}
 use Rattle.clf_decision.specs.Outcome.{Outcome, passed, refused, at_part, and_then}
@@ -24,6 +23,9 @@ use Rattle.clf_decision.specs.Puts.{Starts}
 use Rattle.clf_decision.proofs.AgreesWith.{AgreesWithType}
 use Rattle.clf_decision.proofs.Starting.{starts-part, starts-allowed, formed-synthesized}
 use Rattle.clf_decision.proofs.ExplanationForms.{Explained, NeutralExplained, synthesized}
+use Rattle.trace_equal.proofs.FirstMatching.{mode_sound}
+use Rattle.clf_decision.proofs.Tests.{other-mode}
+use Rattle.clf_decision.proofs.Marked.{marked-there}
 
 module _ (puts : Puts) (sig : PlainSignature) (g : Context) (h : Holding) where
   -- ---- applications
@@ -39,7 +41,7 @@ module _ (puts : Puts) (sig : PlainSignature) (g : Context) (h : Holding) where
       → NeutralExplained sig g h (app m r n)
       (if z then and_then (at_part (eliminations r) o) (λ y. passed (puts.into_type n a c, (outside m (modes g) x.0 y.0, x.1 || slack_outside m y.1))) else refused (eliminations r ∷ []) (mode_differs k m))
   mode-explained m k true e r n a c x o u v =
-      argument-explained m r n a c x o (subst (λ j. Agrees (modes g) h (Some x) (λ p. Synthesizes sig g p r (function j a c))) (sym (same-mode m k e)) u.0) v
+      argument-explained m r n a c x o (subst (λ j. Agrees (modes g) h (Some x) (λ p. Synthesizes sig g p r (function j a c))) (sym (mode_sound m k e)) u.0) v
   mode-explained m k false e r n a c x o u v =
       (g, h, neutral_with (app m r n), at_argument, argument_differs a c (synthesized sig g h r (function k a c, x) u) (other-mode m k e))
 

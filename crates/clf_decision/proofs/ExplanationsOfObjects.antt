@@ -15,8 +15,7 @@ use Rattle.clf_rules.specs.Refusal.{unused, mode_differs, family_differs}
 use Rattle.clf_rules.specs.Explained.{MaySynthesize, object_at, whole, in_body, in_left_part, in_right_part, in_expression, in_neutral, lambda_at_none, pair_at_none, unit_at_none, monadic_at_none, neutral_at_none, neutral_of_none, lambda_differs, variable_unused, parts_differ, other_family, other_index}
 use Rattle.clf_rules.proofs.Held.{same_number}
 use Rattle.typing_laws.specs.SimpleTyping.{simple_of, families_of}
-use Rattle.clf_check.proofs.UsedParts.{some-part}
-use Rattle.clf_check.proofs.Agreement.{same-mode, other-mode, other-number}
+use Rattle.clf_rules.proofs.UsedParts.{some-part}
 use Rattle.trace_equal.specs.Search.{same_mode}
 use Rattle.clf_decision.specs.Outcome.{Outcome, passed, refused, at_part, and_then, answer_of}
 use Rattle.clf_decision.specs.Checking.{closed_scope, lambda_left, joined_left, pair_left, unit_left, first_unjoined, indices_left, found_left, atomic_left, monadic_left}
@@ -24,6 +23,8 @@ use Rattle.clf_decision.proofs.AgreesWith.{AgreesWithType}
 use Rattle.clf_decision.proofs.Differences.{get-now, differ-at, differ-found, rows-differ, parts-differ, not-newer}
 use Rattle.clf_decision.proofs.FirstPlaces.{first-indices}
 use Rattle.clf_decision.proofs.ExplanationForms.{Explained, NeutralExplained, ExpressionExplained, synthesized}
+use Rattle.trace_equal.proofs.FirstMatching.{mode_sound}
+use Rattle.clf_decision.proofs.Tests.{other-mode, other-number}
 
 -- ---- lambdas
 unheld : (l s p : Bool) → (l && not s) ≡ true → stands Linear true l s p ≡ true → p ≡ false
@@ -60,7 +61,7 @@ module _ (sig : PlainSignature) (g : Context) (h : Holding) where
       → Explained sig ((m, a) ∷ g) (true ∷ h) b c r
       → Explained sig g h (lam m b) (function k a c) (if x then and_then (at_part 0 r) (closed_scope m g) else refused [] (mode_differs k m))
   function-explained m k true e b a c r u v =
-      subst (λ j. Explained sig g h (lam m b) (function j a c) (and_then (at_part 0 r) (closed_scope m g))) (same-mode m k e) (body-explained m b a c r u v)
+      subst (λ j. Explained sig g h (lam m b) (function j a c) (and_then (at_part 0 r) (closed_scope m g))) (mode_sound m k e) (body-explained m b a c r u v)
   function-explained m k false e b a c r u v = (g, h, object_at (lam m b) (function k a c), whole, lambda_differs (other-mode m k e))
 
   pub lambda-explained : (m : Mode) (b : PlainObject) (t : PlainType) (body : PlainType → PlainType → Outcome Leftover) → SimplyFormed (families_of sig) (simple_of sig g) t

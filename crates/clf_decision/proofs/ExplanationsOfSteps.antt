@@ -15,9 +15,8 @@ use Rattle.clf_rules.proofs.Held.{same_number}
 use Rattle.clf_rules.specs.Typing.{HasType, Synthesizes, ExpressionHasType}
 use Rattle.clf_rules.specs.Refusal.{mode_differs, width}
 use Rattle.clf_rules.specs.Explained.{MayHaveType, MaySynthesize, Leaves, step_at, entry_at, rest_at, at_step, in_right_side, in_later_steps, at_rest, at_entry, in_entry, in_later_entries, telescope_width, IsIdle, step_of_none, pattern_differs, pattern_width, entry_differs, tuple_too_short, tuple_too_long, step_unused}
-use Rattle.clf_check.proofs.UsedParts.{some-part}
-use Rattle.clf_check.proofs.Leavings.{row-leaves}
-use Rattle.clf_check.proofs.Agreement.{same-mode, other-mode, other-number}
+use Rattle.clf_rules.proofs.UsedParts.{some-part}
+use Rattle.clf_rules.proofs.Leavings.{row-leaves}
 use Rattle.trace_equal.specs.Search.{same_mode}
 use Rattle.typing_laws.specs.SimpleTyping.{simple_of, families_of}
 use Rattle.clf_decision.specs.Outcome.{Outcome, passed, refused, at_part, and_then, answer_of}
@@ -25,8 +24,11 @@ use Rattle.clf_decision.specs.Checking.{Puts, with_slack, first_other_mode, same
 use Rattle.clf_decision.proofs.AgreesWith.{AgreesWithType}
 use Rattle.clf_decision.proofs.FirstPlaces.{first-modes, same-modes}
 use Rattle.clf_decision.proofs.IdleEntries.{left-is-idle, idle-is-left, entered-held, ScopesEnd, scopes-end}
-use Rattle.clf_decision.proofs.EntryRows.{entry-leaves, outside-marked}
+use Rattle.clf_decision.proofs.EntryRows.{entry-leaves}
 use Rattle.clf_decision.proofs.ExplanationForms.{Explained, NeutralExplained, ExpressionExplained, TupleExplained, ExplainedInExpression, synthesized}
+use Rattle.trace_equal.proofs.FirstMatching.{mode_sound}
+use Rattle.clf_decision.proofs.Tests.{other-mode, other-number}
+use Rattle.clf_decision.proofs.Marked.{outside-marked}
 
 -- ---- steps
 -- what is known of what follows a step, behind a row
@@ -130,7 +132,7 @@ module _ (sig : PlainSignature) (g : Context) (h : Holding) (steps before : ℕ)
         (and_then (at_part (steps + before) o) (λ y. and_then (later (outside m (modes g) h y.0) (puts.into_telescope n a u)) (with_slack (slack_outside m y.1))))
     object-explained m a u (refused path why) w c v l = (v.0, v.1, v.2, in_entry v.3, v.4)
     object-explained m a u (passed y) w c v l =
-        let k = l (outside m (modes g) h y.0) (outside-marked m g h y w c.0) (some-part (modes g) (allowed m (modes g) h) y (λ q. HasType sig g q n a) c) in
+        let k = l (outside m (modes g) h y.0) (outside-marked m g h w y (λ q. HasType sig g q n a) c) (some-part (modes g) (allowed m (modes g) h) y (λ q. HasType sig g q n a) c) in
         later-explained m a u y (later (outside m (modes g) h y.0) (puts.into_telescope n a u)) w c k.0 k.1
 
     entry-at-explained : (m k : Mode) (b : Bool) → same_mode m k ≡ b → (a : PlainType) (u : PlainTelescope) (o : Outcome Leftover) → WellMarked (modes g) h
@@ -140,7 +142,7 @@ module _ (sig : PlainSignature) (g : Context) (h : Holding) (steps before : ℕ)
     entry-at-explained m k false e a u o w c v l = (g, h, entry_at m k, at_entry, entry_differs (other-mode m k e))
     entry-at-explained m k true e a u o w c v l =
         subst (λ j. TupleExplained sig g h (entry m n t) (binding j a u) steps before
-        (and_then (at_part (steps + before) o) (λ y. and_then (later (outside m (modes g) h y.0) (puts.into_telescope n a u)) (with_slack (slack_outside m y.1))))) (same-mode m k e) (object-explained m a u o w c v l)
+        (and_then (at_part (steps + before) o) (λ y. and_then (later (outside m (modes g) h y.0) (puts.into_telescope n a u)) (with_slack (slack_outside m y.1))))) (mode_sound m k e) (object-explained m a u o w c v l)
 
     pub entry-explained : (m : Mode) (s : PlainTelescope) (object : Holding → PlainType → Outcome Leftover) → WellMarked (modes g) h → SimplyFormedTelescope (families_of sig) (simple_of sig g) s
         → ((a : PlainType) → SimplyFormed (families_of sig) (simple_of sig g) a

@@ -15,7 +15,6 @@ use Rattle.clf_rules.specs.WellFormed.{WellFormedSignature, WellFormedType}
 use Rattle.clf_rules.specs.Refusal.{Cause, family_arity}
 use Rattle.clf_rules.specs.Explained.{CheckedPart, type_at, ReachesInIndices, in_index, in_later_index, whole_type, in_indices, in_domain, in_range, in_first_type, in_second_type, in_monad, ReachesInTelescope, in_entry_type, in_later_types, ReachesInKind, in_kind_argument, in_later_argument, Refuses, no_family, other_arity, ExplainedInType, ExplainedInKind, ExplainedInClass}
 use Rattle.typing_laws.specs.SimpleTyping.{constants_of, simple_of, families_of}
-use Rattle.clf_check.proofs.Agreement.{other-number, alone-marked}
 use Rattle.clf_decision.specs.Outcome.{Outcome, passed, refused, at_part, and_then}
 use Rattle.clf_decision.specs.Checking.{Puts, checked}
 use Rattle.clf_decision.specs.Formation.{indices_formed, arity_formed, family_formed, parts_formed, type_formed, telescope_formed, kind_formed, class_formed}
@@ -27,6 +26,8 @@ use Rattle.clf_decision.proofs.AgreementOfTypes.{IndicesFit, index-decided, inde
 use Rattle.clf_decision.proofs.FittingIndices.{fit-takes}
 use Rattle.clf_decision.proofs.ExplanationForms.{Explained}
 use Rattle.clf_decision.proofs.Explanations.{object-explained}
+use Rattle.clf_decision.proofs.Tests.{other-number}
+use Rattle.clf_decision.proofs.Marked.{alone-marked}
 
 -- ---- what it means that a refusal is explained
 abbrev pub IndicesExplained : PlainSignature → Context → List PlainObject → PlainKind → ℕ → Outcome (Unit {0}) → Type 0

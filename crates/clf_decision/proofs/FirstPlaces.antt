@@ -3,27 +3,15 @@
 use Rattle.std.proofs.Common.{◌≡◌, ◌≢◌, ℕ, zero, suc, ◌<◌, Bool, true, false, if◌then◌else◌, List, [], ◌∷◌, length, take, None, Some, slice_get, refl, sym, ap, ◌∙◌, arith}
 use Rattle.std.proofs.lemmas.Bool.{cond-true, cond-false}
 use Rattle.clf_syntax.specs.declared.tree.Mode.{Mode}
-use Rattle.clf_syntax.specs.declared.tree.Mode.TheVariants.{Persistent, Affine, Linear}
 use Rattle.clf_syntax.specs.Tree.{PlainObject}
 use Rattle.trace_equal.specs.Exchange.{Joined}
 use Rattle.trace_equal.specs.Search.{same_mode, is_joined}
-use Rattle.trace_equal.proofs.FirstMatching.{same_is_joined}
+use Rattle.trace_equal.proofs.FirstMatching.{same_is_joined, mode_sound, mode_complete}
 use Rattle.clf_rules.specs.Explained.{FirstModes, FirstIndices}
-use Rattle.clf_check.proofs.Agreement.{same-mode, itself-mode, other-mode}
 use Rattle.clf_decision.specs.Checking.{first_other_mode, first_unjoined}
+use Rattle.clf_decision.proofs.Tests.{other-mode, modes-differ}
 
 -- ---- modes
-pub modes-differ : (m k : Mode) → (k ≡ m → ⊥) → same_mode m k ≡ false
-modes-differ Persistent Persistent f = absurd (f refl)
-modes-differ Affine Affine f = absurd (f refl)
-modes-differ Linear Linear f = absurd (f refl)
-modes-differ Persistent Affine f = refl
-modes-differ Persistent Linear f = refl
-modes-differ Affine Persistent f = refl
-modes-differ Affine Linear f = refl
-modes-differ Linear Persistent f = refl
-modes-differ Linear Affine f = refl
-
 later-modes : (j n : Mode) (ks ms : List Mode) (k m : Mode) → n ≡ j → FirstModes ks ms k m → FirstModes (j ∷ ks) (n ∷ ms) k m
 later-modes j n ks ms k m e f = record {
   place = suc f.place;
@@ -39,7 +27,7 @@ first-modes (k ∷ ks) [] d e = absurd (cc)
 first-modes (k ∷ ks) (m ∷ ms) d e = by (same_mode m k) refl e (λ q. first-modes ks ms d q)
   where
     by : (b : Bool) → same_mode m k ≡ b → (if b then first_other_mode ks ms else Some (k, m)) ≡ Some d → (first_other_mode ks ms ≡ Some d → FirstModes ks ms d.0 d.1) → FirstModes (k ∷ ks) (m ∷ ms) d.0 d.1
-    by true s e rest = later-modes k m ks ms d.0 d.1 (same-mode m k s) (rest e)
+    by true s e rest = later-modes k m ks ms d.0 d.1 (mode_sound m k s) (rest e)
     by false s e rest =
         let x : k ≡ d.0 = cc in
         let y : m ≡ d.1 = cc in
@@ -58,12 +46,12 @@ same-modes (k ∷ ks) [] n e = absurd (omega arith)
 same-modes (k ∷ ks) (m ∷ ms) n e = by (same_mode m k) refl e (λ q. same-modes ks ms (omega arith) q)
   where
     by : (b : Bool) → same_mode m k ≡ b → (if b then first_other_mode ks ms else Some (k, m)) ≡ None → (first_other_mode ks ms ≡ None → ks ≡ ms) → k ∷ ks ≡ m ∷ ms
-    by true s e rest = let x = same-mode m k s in let y = rest e in cc
+    by true s e rest = let x = mode_sound m k s in let y = rest e in cc
     by false s e rest = absurd (cc)
 
 pub no-other-mode : (ks : List Mode) → first_other_mode ks ks ≡ None
 no-other-mode [] = refl
-no-other-mode (k ∷ ks) = cond-true (same_mode k k) (first_other_mode ks ks) (Some (k, k)) (itself-mode k) ∙ no-other-mode ks
+no-other-mode (k ∷ ks) = cond-true (same_mode k k) (first_other_mode ks ks) (Some (k, k)) (mode_complete k) ∙ no-other-mode ks
 
 modes-at : (ks ms : List Mode) (k m : Mode) (place : ℕ) → slice_get ks place ≡ Some k → slice_get ms place ≡ Some m → k ≢ m → take place ks ≡ take place ms → first_other_mode ks ms ≡ Some (k, m)
 modes-at [] ms k m place a b d s = absurd (cc)
@@ -75,7 +63,7 @@ modes-at (j ∷ ks) (n ∷ ms) k m zero a b d s =
 modes-at (j ∷ ks) (n ∷ ms) k m (suc place) a b d s =
     let x : n ≡ j = cc in
     let y : take place ks ≡ take place ms = cc in
-    cond-true (same_mode n j) (first_other_mode ks ms) (Some (j, n)) (ap (λ z. same_mode z j) x ∙ itself-mode j) ∙ modes-at ks ms k m place a b d y
+    cond-true (same_mode n j) (first_other_mode ks ms) (Some (j, n)) (ap (λ z. same_mode z j) x ∙ mode_complete j) ∙ modes-at ks ms k m place a b d y
 
 pub modes-first : (ks ms : List Mode) (k m : Mode) → FirstModes ks ms k m → first_other_mode ks ms ≡ Some (k, m)
 modes-first ks ms k m f = modes-at ks ms k m f.place f.wanted_there f.found_there f.differ f.same_before

@@ -11,7 +11,6 @@ use Rattle.use_contexts.specs.Rows.{newest_difference}
 use Rattle.clf_sig.specs.Entry.{PlainSignature}
 use Rattle.clf_rules.specs.Refusal.{Cause, mode_differs, eliminations}
 use Rattle.clf_rules.specs.Explained.{CheckedPart, Reaches, ReachesInNeutral, ReachesInExpression, ReachesInTuple, whole, in_body, in_left_part, in_right_part, in_expression, in_neutral, at_head, at_argument, at_first, at_second, before_argument, before_first, before_second, in_argument_part, at_step, in_right_side, in_later_steps, in_tuple, at_rest, at_entry, in_entry, in_later_entries, Refuses, ExplainedAt, ExplainedInNeutral}
-use Rattle.clf_check.proofs.Agreement.{itself-mode}
 use Rattle.trace_equal.specs.Search.{same_mode}
 use Rattle.typing_laws.specs.SimpleTyping.{simple_of, families_of}
 use Rattle.clf_decision.specs.Outcome.{refused, at_part, and_then}
@@ -22,6 +21,7 @@ use Rattle.clf_decision.proofs.Starting.{starts-under, starts-allowed}
 use Rattle.clf_decision.proofs.Explanations.{explained-object, explained-neutral}
 use Rattle.clf_decision.proofs.FirstRefusalsOfObjects.{checked-as, whole-exact, head-exact, argument-exact, first-exact, second-exact, argument-reached}
 use Rattle.clf_decision.proofs.FirstRefusalsOfSteps.{rest-reached, step-exact, rest-exact, entry-exact, entry-reached, later-reached}
+use Rattle.trace_equal.proofs.FirstMatching.{mode_complete}
 
 module _ (puts : Puts) (are : ArePuts puts) (sig : PlainSignature) (agree : ChecksAgree puts sig) where
   mutual
@@ -30,7 +30,7 @@ module _ (puts : Puts) (are : ArePuts puts) (sig : PlainSignature) (agree : Chec
     object-exact g h n t path k l x why whole u w f = whole-exact puts sig agree g h w n t why u f
     object-exact g h n t path k l x why (in_body {m = m} {b = b} {a = a} {c = c} {path = q} v) u w f =
         let r = object-exact ((m, a) ∷ g) (true ∷ h) b c q k l x why v u (starts-under sig g h m a w f.0) f.1 in
-        cond-true (same_mode m m) (and_then (at_part 0 (checked puts sig ((m, a) ∷ g) (true ∷ h) b c)) (closed_scope m g)) (refused [] (mode_differs m m)) (itself-mode m)
+        cond-true (same_mode m m) (and_then (at_part 0 (checked puts sig ((m, a) ∷ g) (true ∷ h) b c)) (closed_scope m g)) (refused [] (mode_differs m m)) (mode_complete m)
         ∙ ap (λ o. and_then (at_part 0 o) (closed_scope m g)) r
     object-exact g h n t path k l x why (in_left_part {o = o} {u = r} {a = a} {c = c} {path = q} v) u w f =
         let z = object-exact g h o a q k l x why v u w f.0 in

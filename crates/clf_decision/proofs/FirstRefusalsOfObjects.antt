@@ -15,9 +15,8 @@ use Rattle.clf_sig.specs.Entry.{PlainSignature}
 use Rattle.clf_rules.specs.Typing.{HasType, Synthesizes}
 use Rattle.clf_rules.specs.Refusal.{Cause, unused, mode_differs, family_differs, pairs_differ, eliminations}
 use Rattle.clf_rules.specs.Explained.{MayHaveType, MaySynthesize, object_at, neutral_with, Leaves, DiffersAt, Refuses, lambda_at_none, argument_to_none, pair_at_none, first_of_none, second_of_none, unit_at_none, monadic_at_none, neutral_at_none, neutral_of_none, hole_stands, metavariable_stands, lambda_differs, argument_differs, variable_not_held, variable_unused, parts_differ, other_family, other_index, no_variable, no_constant}
-use Rattle.clf_check.proofs.UsedParts.{some-part}
-use Rattle.clf_check.proofs.Leavings.{row-leaves, leaves-one}
-use Rattle.clf_check.proofs.Agreement.{itself-mode}
+use Rattle.clf_rules.proofs.UsedParts.{some-part}
+use Rattle.clf_rules.proofs.Leavings.{row-leaves, leaves-one}
 use Rattle.trace_equal.specs.Search.{same_mode}
 use Rattle.typing_laws.specs.SimpleTyping.{simple_of, families_of}
 use Rattle.clf_decision.specs.Outcome.{Outcome, passed, refused, at_part, and_then, answer_of}
@@ -26,8 +25,10 @@ use Rattle.clf_decision.specs.Puts.{Starts}
 use Rattle.clf_decision.proofs.AgreesWith.{AgreesWithType, ChecksAgree}
 use Rattle.clf_decision.proofs.Starting.{starts-under, starts-part, formed-synthesized}
 use Rattle.clf_decision.proofs.Differences.{differ-at, differ-found, rows-differ, parts-differ}
-use Rattle.clf_decision.proofs.FirstPlaces.{modes-differ, indices-first}
-use Rattle.clf_decision.proofs.RefusedForms.{typed-passes, synthesized-passes, lambda-at-none, pair-at-none, unit-at-none, monadic-at-none, neutral-at-none, neutral-of-none, argument-to-none, first-of-none, second-of-none, numbers-differ, itself-number}
+use Rattle.clf_decision.proofs.FirstPlaces.{indices-first}
+use Rattle.clf_decision.proofs.RefusedForms.{typed-passes, synthesized-passes, lambda-at-none, pair-at-none, unit-at-none, monadic-at-none, neutral-at-none, neutral-of-none, argument-to-none, first-of-none, second-of-none}
+use Rattle.trace_equal.proofs.FirstMatching.{mode_complete}
+use Rattle.clf_decision.proofs.Tests.{modes-differ, numbers-differ, itself-number}
 
 -- ---- a linear variable that no part holds
 abbrev unused_at : Context → Outcome Leftover
@@ -152,6 +153,6 @@ module _ (puts : Puts) (sig : PlainSignature) (agree : ChecksAgree puts sig) (g 
       let same = leaves-one g h (λ p. Synthesizes sig g p r (function m a d)) x.0.0 left (row-leaves g h x.0 (λ p. Synthesizes sig g p r (function m a d)) x.2.0) s in
       let from = subst (λ z. Starts sig g z) same (starts-part sig g h x.0.0 w x.2.0.0) in
       ap (λ o. and_then o (λ f. argument_left puts m g n (eliminations r) f (λ row a. checked puts sig g row n a))) x.1
-      ∙ cond-true (same_mode m m) (argument_passed m g r (puts.into_type n a d) x.0 (checked puts sig g (allowed m (modes g) x.0.0) n a)) (refused (eliminations r ∷ []) (mode_differs m m)) (itself-mode m)
+      ∙ cond-true (same_mode m m) (argument_passed m g r (puts.into_type n a d) x.0 (checked puts sig g (allowed m (modes g) x.0.0) n a)) (refused (eliminations r ∷ []) (mode_differs m m)) (mode_complete m)
       ∙ ap (λ z. argument_passed m g r (puts.into_type n a d) x.0 (checked puts sig g (allowed m (modes g) z) n a)) same
       ∙ ap (λ o. argument_passed m g r (puts.into_type n a d) x.0 o) (v from (formed-synthesized sig g h r (function m a d) w u).0)

@@ -16,8 +16,7 @@ use Rattle.clf_sig.specs.Entry.{PlainSignature}
 use Rattle.clf_rules.specs.Typing.{HasType, Synthesizes, ExpressionHasType}
 use Rattle.clf_rules.specs.Refusal.{Cause, mode_differs, width, unused, level}
 use Rattle.clf_rules.specs.Explained.{MayHaveType, MaySynthesize, Leaves, step_at, entry_at, rest_at, telescope_width, IsIdle, Refuses, step_of_none, pattern_differs, pattern_width, entry_differs, tuple_too_short, tuple_too_long, step_unused}
-use Rattle.clf_check.proofs.Leavings.{row-leaves, leaves-one}
-use Rattle.clf_check.proofs.Agreement.{itself-mode}
+use Rattle.clf_rules.proofs.Leavings.{row-leaves, leaves-one}
 use Rattle.trace_equal.specs.Search.{same_mode}
 use Rattle.typing_laws.specs.SimpleTyping.{simple_of, families_of}
 use Rattle.clf_decision.specs.Outcome.{Outcome, passed, refused, at_part, and_then, answer_of}
@@ -25,18 +24,21 @@ use Rattle.clf_decision.specs.Checking.{Puts, with_slack, first_other_mode, same
 use Rattle.clf_decision.specs.Puts.{ArePuts, Starts}
 use Rattle.clf_decision.proofs.AgreesWith.{ChecksAgree}
 use Rattle.clf_decision.proofs.Starting.{starts-from, starts-allowed, formed-entered, telescope-put}
-use Rattle.clf_decision.proofs.FirstPlaces.{modes-differ, modes-first, no-other-mode}
+use Rattle.clf_decision.proofs.FirstPlaces.{modes-first, no-other-mode}
 use Rattle.clf_decision.proofs.IdleEntries.{left-is-idle, idle-is-left, entered-held, scopes-end, scopes-refused}
-use Rattle.clf_decision.proofs.EntryRows.{entry-leaves, outside-marked}
+use Rattle.clf_decision.proofs.EntryRows.{entry-leaves}
 use Rattle.clf_decision.proofs.Explanations.{rest-starts}
-use Rattle.clf_decision.proofs.RefusedForms.{typed-passes, step-of-none, numbers-differ, itself-number}
+use Rattle.clf_decision.proofs.RefusedForms.{typed-passes, step-of-none}
 use Rattle.clf_decision.proofs.FirstRefusalsOfObjects.{inferred-as, checked-as}
+use Rattle.trace_equal.proofs.FirstMatching.{mode_complete}
+use Rattle.clf_decision.proofs.Tests.{modes-differ, numbers-differ, itself-number}
+use Rattle.clf_decision.proofs.Marked.{outside-marked}
 
 -- ---- patterns
 pattern-passes : (ms : List Mode) (u : PlainTelescope) → telescope_modes u ≡ ms → pattern_left ms u ≡ passed tt
 pattern-passes ms u e = subst (λ ns. pattern_left ns u ≡ passed tt) e (
-  cond-true (telescope_width u == telescope_width u) (same_modes_left (first_other_mode (telescope_modes u) (telescope_modes u))) (refused [] (width (telescope_width u) (telescope_width u))) (itself-number (telescope_width u))
-  ∙ ap same_modes_left (no-other-mode (telescope_modes u)))
+    cond-true (telescope_width u == telescope_width u) (same_modes_left (first_other_mode (telescope_modes u) (telescope_modes u))) (refused [] (width (telescope_width u) (telescope_width u))) (itself-number (telescope_width u))
+    ∙ ap same_modes_left (no-other-mode (telescope_modes u)))
 
 pattern-other : (ms : List Mode) (u : PlainTelescope) (k m : Mode) → length ms ≡ telescope_width u → first_other_mode (telescope_modes u) ms ≡ Some (k, m) → pattern_left ms u ≡ refused [] (mode_differs k m)
 pattern-other ms u k m n e =
@@ -131,7 +133,7 @@ module _ (puts : Puts) (are : ArePuts puts) (sig : PlainSignature) (agree : Chec
       later y = and_then (checked_tuple puts sig g (outside m (modes g) h y.0) steps (suc before) t (puts.into_telescope n a u)) (with_slack (slack_outside m y.1))
 
       entry-same : checked_tuple puts sig g h steps before (entry m n t) (binding m a u) ≡ and_then (at_part (steps + before) (checked puts sig g (allowed m (modes g) h) n a)) later
-      entry-same = cond-true (same_mode m m) (and_then (at_part (steps + before) (checked puts sig g (allowed m (modes g) h) n a)) later) (refused ((steps + before) ∷ []) (mode_differs m m)) (itself-mode m)
+      entry-same = cond-true (same_mode m m) (and_then (at_part (steps + before) (checked puts sig g (allowed m (modes g) h) n a)) later) (refused ((steps + before) ∷ []) (mode_differs m m)) (mode_complete m)
 
       pub entry-reached : (path : List ℕ) (why : Cause) → checked puts sig g (allowed m (modes g) h) n a ≡ refused path why
           → checked_tuple puts sig g h steps before (entry m n t) (binding m a u) ≡ refused ((steps + before) ∷ path) why
@@ -148,7 +150,7 @@ module _ (puts : Puts) (are : ArePuts puts) (sig : PlainSignature) (agree : Chec
           let types : puts.into_telescope n a u ≡ v = determined_telescope put.0 p in
           let row = outside m (modes g) h y.0.0 in
           let same : row ≡ left = leaves-one g h (λ q. (may_use m (modes g) q ≡ true) × HasType sig g q n a) row left (entry-leaves g h w.marked (λ q. HasType sig g q n a) m y.0 y.2) l in
-          let from = starts-from sig g h row w (outside-marked m g h y.0 w.marked y.2.0) in
+          let from = starts-from sig g h row w (outside-marked m g h w.marked y.0 (λ q. HasType sig g q n a) y.2) in
           let refusal = next (subst (λ z. Starts sig g z) same from) (subst (λ z. SimplyFormedTelescope (families_of sig) (simple_of sig g) z) types put.1) in
           entry-same
           ∙ ap (λ o. and_then (at_part (steps + before) o) later) y.1

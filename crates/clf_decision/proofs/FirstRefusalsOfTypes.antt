@@ -14,7 +14,6 @@ use Rattle.clf_rules.specs.WellFormed.{WellFormedSignature, IndicesHaveTypes, We
 use Rattle.clf_rules.specs.Refusal.{Cause, family_arity}
 use Rattle.clf_rules.specs.Explained.{CheckedPart, type_at, ReachesInIndices, in_index, in_later_index, ReachesInType, whole_type, in_indices, in_domain, in_range, in_first_type, in_second_type, in_monad, ReachesInTelescope, in_entry_type, in_later_types, ReachesInKind, in_kind_argument, in_later_argument, Refuses, no_family, other_arity, ExplainedInType, ExplainedInKind, ExplainedInClass}
 use Rattle.typing_laws.specs.SimpleTyping.{constants_of, simple_of, families_of}
-use Rattle.clf_check.proofs.Agreement.{alone-marked}
 use Rattle.clf_decision.specs.Outcome.{Outcome, passed, refused, at_part, and_then}
 use Rattle.clf_decision.specs.Checking.{Puts, checked}
 use Rattle.clf_decision.specs.Formation.{indices_formed, arity_formed, family_formed, parts_formed, type_formed, telescope_formed, kind_formed, class_formed}
@@ -24,9 +23,10 @@ use Rattle.clf_decision.proofs.DecidedOutcomes.{Decided}
 use Rattle.clf_decision.proofs.SimpleForms.{family-kind-formed}
 use Rattle.clf_decision.proofs.AgreementOfTypes.{put-length, index-decided, index-put, under, formation_agrees}
 use Rattle.clf_decision.proofs.FittingIndices.{put-take}
-use Rattle.clf_decision.proofs.RefusedForms.{numbers-differ}
 use Rattle.clf_decision.proofs.FirstRefusals.{refuses_exactly}
 use Rattle.clf_decision.proofs.ExplanationsOfTypes.{explained-type, explained-kind, explained-class}
+use Rattle.clf_decision.proofs.Marked.{alone-marked}
+use Rattle.clf_decision.proofs.Tests.{numbers-differ}
 
 -- what is decided and holds has passed
 decided-passes : {A : Type 0} (o : Outcome A) (P : Type 0) → Decided o P → P → (x : A) × (o ≡ passed x)

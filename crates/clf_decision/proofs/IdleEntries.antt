@@ -10,8 +10,8 @@ use Rattle.use_contexts.specs.Rows.{implies, within, stands, is_unused, newest, 
 use Rattle.use_contexts.proofs.Bits.{at_entry, given_2}
 use Rattle.clf_rules.specs.Refusal.{unused, level}
 use Rattle.clf_rules.specs.Explained.{telescope_width}
-use Rattle.clf_check.proofs.UsedParts.{used_of, used-part}
-use Rattle.clf_check.proofs.Leavings.{row-leaves}
+use Rattle.clf_rules.proofs.UsedParts.{used_of, used-part}
+use Rattle.clf_rules.proofs.Leavings.{row-leaves}
 use Rattle.clf_decision.specs.Outcome.{Outcome, passed, refused, and_then}
 use Rattle.clf_decision.specs.Checking.{closed_scope, closed_scopes}
 
@@ -189,7 +189,7 @@ scopes-end (binding m t s) g y = one-more m t s g y (closed_scopes s ((m, t) ∷
 
 -- The newest entry that is left is the one that is refused.
 newest-one : (i j : ℕ) (P : ℕ → Type 0) → P i → P j → ((k : ℕ) → k < i → P k → ⊥) → ((k : ℕ) → k < j → P k → ⊥) → i ≡ j
-newest-one i j P a b f g = by (i_or j) 
+newest-one i j P a b f g = by (i_or j)
   where
     i_or : (j : ℕ) → (i < j) ⊎ (i ≡ j) ⊎ (j < i)
     i_or j = grind arith

@@ -1,3 +1,5 @@
+pub mod Tests
+pub mod Marked
 pub mod AgreesWith
 pub mod SimpleForms
 pub mod AgreementOfObjects

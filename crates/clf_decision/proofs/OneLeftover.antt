@@ -9,8 +9,8 @@ use Rattle.use_contexts.specs.Rows.{implies, within, stands, newest, older, Each
 use Rattle.use_contexts.proofs.Bits.{at_entry, given_2, given_3, and-left, and-right}
 use Rattle.use_contexts.proofs.UseLaws.{IsSubholding-self}
 use Rattle.clf_rules.specs.Typing.{HasType, Synthesizes}
-use Rattle.clf_check.proofs.UsedParts.{some-part}
-use Rattle.clf_check.proofs.Leavings.{row-leaves, leaves-one}
+use Rattle.clf_rules.proofs.UsedParts.{some-part}
+use Rattle.clf_rules.proofs.Leavings.{row-leaves, leaves-one}
 use Rattle.clf_decision.proofs.IdleEntries.{each_whole}
 use Rattle.clf_decision.specs.Laws.{LeaveTheSame, SlackIsIdle, LeftoverIsOne, InferredIsOne}
 

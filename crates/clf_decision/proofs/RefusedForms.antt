@@ -1,5 +1,5 @@
 -- What is refused for its form: where a type is no function, pair, unit, family or monad; and what may have a type passes.
-use Rattle.std.proofs.Common.{◌≡◌, ℕ, ◌==◌, true, false, List, [], ◌∷◌, refl, sym, ap, arith}
+use Rattle.std.proofs.Common.{◌≡◌, ℕ, List, [], ◌∷◌, refl, sym, ap}
 use Rattle.clf_syntax.specs.declared.tree.Mode.{Mode}
 use Rattle.clf_syntax.specs.Tree.{PlainObject}
 use Rattle.clf_syntax.specs.TypeTree.{PlainType, family, function, both, top, monad, PlainTelescope}
@@ -95,10 +95,3 @@ step-of-none place ms g (family i ns) x rest f = refl
 step-of-none place ms g (function m a c) x rest f = refl
 step-of-none place ms g (both a c) x rest f = refl
 step-of-none place ms g top x rest f = refl
-
--- ---- refusals of numbers
-pub numbers-differ : (i v : ℕ) → (i ≡ v → ⊥) → (i == v) ≡ false
-numbers-differ i v f = grind arith
-
-pub itself-number : (i : ℕ) → (i == i) ≡ true
-itself-number i = grind arith

@@ -23,9 +23,9 @@ use Rattle.clf_rules.specs.Explained.{MayHaveType, MaySynthesize}
 use Rattle.typing_laws.specs.SimpleTyping.{simple_of, families_of}
 use Rattle.typing_laws.proofs.Erased.{object}
 use Rattle.typing_laws.proofs.FormedTypes.{renames, as_inserted, synthesized_is_simply_formed}
-use Rattle.clf_check.proofs.Agreement.{allowed-marked}
 use Rattle.clf_decision.specs.Checking.{Puts}
 use Rattle.clf_decision.specs.Puts.{ArePuts, Starts}
+use Rattle.clf_decision.proofs.Marked.{allowed-marked}
 
 -- ---- contexts and holdings
 pub starts-under : (sig : PlainSignature) (g : Context) (h : Holding) (m : Mode) (a : PlainType) → Starts sig g h → SimplyFormed (families_of sig) (simple_of sig g) a → Starts sig ((m, a) ∷ g) (true ∷ h)
@@ -77,7 +77,7 @@ telescope-put puts are sig g h n a u p f =
     let t : SimplyTyped (simple_of sig g) n (erase a) = object true sig g p.0 n a p.2 in
     let s = are.telescopes (families_of sig) (simple_of sig g) n a u t f in
     let x : ResultsAreTyped true (families_of sig) (inserted 0 (erase a) (simple_of sig g)) (simple_of sig g) (single n 0) =
-        result_is_typed true (families_of sig) (inserted 0 (erase a) (simple_of sig g)) (simple_of sig g) (single n 0) (keeps_single true (simple_of sig g) 0 n (erase a) t) in
+    result_is_typed true (families_of sig) (inserted 0 (erase a) (simple_of sig g)) (simple_of sig g) (single n 0) (keeps_single true (simple_of sig g) 0 n (erase a) t) in
     (s, (x.telescope u (puts.into_telescope n a u) (subst (λ y. SimplyFormedTelescope (families_of sig) y u) (sym (as_inserted (erase a) (simple_of sig g))) f) s).0)
 
 -- the type of a neutral

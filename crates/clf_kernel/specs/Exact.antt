@@ -15,7 +15,7 @@ use Rattle.clf_sig.specs.Entry.{PlainSignature, PlainEntry}
 use Rattle.clf_kernel.specs.declared.refusal.Refusal.{Refusal}
 use Rattle.clf_kernel.specs.declared.refusal.Inferred.{Inferred}
 use Rattle.clf_rules.specs.Typing.{HasType, Synthesizes, ExpressionHasType}
-use Rattle.clf_check.specs.Laws.{InferredIs}
+use Rattle.clf_decision.specs.Laws.{InferredIs}
 use Rattle.clf_rules.specs.WellFormed.{WellFormedType, WellFormedKind, WellFormedEntry}
 use Rattle.clf_rules.specs.Explained.{ExplainedAt, ExplainedInNeutral, ExplainedInType, ExplainedInKind, ExplainedInClass}
 use Rattle.clf_kernel.specs.Answers.{plain_left, plain_inferred, plain_cause, IsWide}

@@ -8,7 +8,7 @@ use Rattle.use_contexts.specs.Holding.{Holding}
 use Rattle.use_contexts.specs.Rows.{within, stands, newest, older, EachWithin, EachStands, Agrees, Leftover}
 use Rattle.use_contexts.proofs.Bits.{and-left, and-right}
 use Rattle.clf_rules.specs.Explained.{CanSpare, Leaves}
-use Rattle.clf_check.proofs.UsedParts.{used_of, used-part}
+use Rattle.clf_rules.proofs.UsedParts.{used_of, used-part}
 
 -- ---- one entry
 within_held : (m : Mode) (h : Bool) → within m h true ≡ true → h ≡ true
