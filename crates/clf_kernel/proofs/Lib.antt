@@ -6,6 +6,7 @@ pub mod Exactness
 pub mod Raised
 pub mod Variables
 pub mod Held
+pub mod Differences
 pub mod Growing
 pub mod Closings
 pub mod Opening

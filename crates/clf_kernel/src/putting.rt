@@ -1,9 +1,8 @@
-//! What follows a variable, once an object is put for it; and whether indices are joined.
+//! What follows a variable, once an object is put for it.
 ghost use Rattle.std.specs.Prelude.{◌≡◌, IfOk, IfErr, map};
 ghost use Rattle.clf_syntax.specs.Plain.{plain_obj};
 ghost use Rattle.clf_syntax.specs.PlainTypes.{plain_ty, plain_tele_entry};
 ghost use Rattle.clf_syntax.specs.TypeTree.{telescope_of};
-ghost use Rattle.clf_kernel.specs.Answers.{IsFirstDifference};
 ghost use Rattle.clf_decision.specs.Hereditary.{hereditary};
 ghost use Rattle.clf_kernel.specs.Stops.{IsShort};
 
@@ -41,18 +40,6 @@ pub fn put_in_arguments(
     later: &[Ty],
 ) -> Result<Items<Ty>, Stop>
     ensures put { IfOk result (λ k. map plain_ty k ≡ hereditary.into_kind (plain_obj obj.now) (plain_ty ty.now) (map plain_ty later.now)) }
-    ensures short { IfErr result IsShort }
-{
-    Err(Stop::NoMemory)
-}
-
-/// The first place where indices that are found are not joined with those that are wanted.
-pub fn first_difference(
-    alloc: Global,
-    found: &[Obj],
-    wanted: &[Obj],
-) -> Result<Option<usize>, Stop>
-    ensures difference { IfOk result (IsFirstDifference (map plain_obj found.now) (map plain_obj wanted.now)) }
     ensures short { IfErr result IsShort }
 {
     Err(Stop::NoMemory)
