@@ -12,3 +12,4 @@ pub mod Closings
 pub mod Opening
 pub mod TupleSteps
 pub mod Patterns
+pub mod Entering

@@ -46,7 +46,7 @@ module _ (entries : List TeleEntry) (ms : List Mode) (i : ℕ) (x : TeleEntry) (
 wanted_tele : (t : Tele) → telescope_modes (plain_tele t) ≡ wanted_modes (out-Tele t).entries
 wanted_tele t = ap telescope_modes (plain-tele t)
 
-wanted_width : (t : Tele) → telescope_width (plain_tele t) ≡ length (out-Tele t).entries
+pub wanted_width : (t : Tele) → telescope_width (plain_tele t) ≡ length (out-Tele t).entries
 wanted_width t = ap length (wanted_tele t ∙ modes_of (map plain_tele_entry (out-Tele t).entries))
     ∙ length-map (map plain_tele_entry (out-Tele t).entries) (λ (e : Mode × PlainType). e.0) ∙ length-map (out-Tele t).entries plain_tele_entry
 
