@@ -1,5 +1,5 @@
 -- Rows with newer variables that are held.
-use Rattle.std.proofs.Common.{◌≡◌, ℕ, zero, suc, ◌+◌, true, Bool, List, [], ◌∷◌, ◌++◌, length, reverse, refl, ap, ◌∙◌, arith}
+use Rattle.std.proofs.Common.{◌≡◌, ℕ, zero, suc, ◌+◌, true, Bool, List, [], ◌∷◌, ◌++◌, length, reverse, refl, ap, arith}
 use Rattle.std.proofs.lemmas.List.{reverse-append}
 use Rattle.clf_syntax.specs.declared.tree.Mode.{Mode}
 use Rattle.use_contexts.specs.Holding.{Holding, all_held}

@@ -1,5 +1,5 @@
 -- A pattern against a telescope, place by place.
-use Rattle.std.proofs.Common.{◌≡◌, ℕ, zero, suc, ◌+◌, ◌<◌, ◌≤◌, ◌==◌, Bool, true, false, if◌then◌else◌, List, [], ◌∷◌, length, map, drop, get_or, Some, None, refl, sym, ap, subst, ◌∙◌, add-one, arith}
+use Rattle.std.proofs.Common.{◌≡◌, ℕ, suc, ◌+◌, ◌<◌, ◌≤◌, ◌==◌, true, false, if◌then◌else◌, List, [], ◌∷◌, length, map, drop, get_or, Some, refl, sym, ap, subst, ◌∙◌, add-one, arith}
 use Rattle.std.proofs.Math.Seq.{drop-cons}
 use Rattle.clf_syntax.specs.declared.tree.Mode.{Mode}
 use Rattle.clf_syntax.specs.declared.tree.Mode.TheVariants.{Persistent}
@@ -7,7 +7,7 @@ use Rattle.std.proofs.lemmas.List.{length-map, drop_all, get_or_default}
 use Rattle.clf_syntax.specs.declared.tree.Tele.{Tele, out-Tele}
 use Rattle.clf_syntax.specs.declared.tree.TeleEntry.{TeleEntry, out-TeleEntry}
 use Rattle.clf_syntax.specs.TypeTree.{PlainType, telescope_of}
-use Rattle.clf_syntax.specs.PlainTypes.{plain_ty, plain_tele, plain_tele_entry, plain-tele, plain-tele-entry}
+use Rattle.clf_syntax.specs.PlainTypes.{plain_tele, plain_tele_entry, plain-tele, plain-tele-entry}
 use Rattle.use_contexts.specs.Context.{telescope_modes}
 use Rattle.trace_equal.specs.Search.{same_mode}
 use Rattle.clf_rules.specs.Refusal.{width, mode_differs}

@@ -1,4 +1,4 @@
-use Rattle.std.proofs.Common.{◌≡◌, [], length, sym, subst}
+use Rattle.std.proofs.Common.{[], sym, subst}
 use Rattle.use_contexts.specs.Marks.{context}
 use Rattle.clf_kernel.specs.Answers.{plain_left}
 use Rattle.clf_kernel.specs.Stops.{Stops}

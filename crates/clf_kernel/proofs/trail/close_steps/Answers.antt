@@ -1,8 +1,7 @@
-use Rattle.std.proofs.Common.{◌≡◌, ℕ, suc, ◌+◌, ◌-◌, ◌<◌, ◌≤◌, ◌^◌, List, length, take, get_or, Err, ap, sym, subst, ◌∙◌, arith}
+use Rattle.std.proofs.Common.{◌≡◌, ℕ, suc, ◌+◌, ◌-◌, ◌<◌, ◌≤◌, List, length, take, get_or, Err, ap, sym, subst, ◌∙◌, arith}
 use Rattle.std.proofs.Math.Seq.{take-length}
 use Rattle.std.proofs.lemmas.Result.{err_from_is_err_and}
 use Rattle.use_contexts.specs.Rows.{Leftover}
-use Rattle.use_contexts.specs.Marks.{marks}
 use Rattle.clf_decision.specs.Outcome.{passed, at_part, and_then}
 use Rattle.clf_decision.specs.Checking.{with_slack}
 use Rattle.clf_kernel.specs.declared.refusal.Stop.{Stop}

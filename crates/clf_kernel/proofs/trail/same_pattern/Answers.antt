@@ -1,9 +1,6 @@
-use Rattle.std.proofs.Common.{◌≡◌, ◌∙◌, [], length, true, false, sym, ap, subst, arith}
-use Rattle.clf_syntax.specs.PlainTypes.{plain_tele}
-use Rattle.clf_syntax.specs.declared.tree.Tele.{out-Tele}
+use Rattle.std.proofs.Common.{◌∙◌, [], length, sym, ap, subst, arith}
 use Rattle.clf_rules.specs.Refusal.{width}
 use Rattle.clf_decision.specs.Outcome.{refused}
-use Rattle.clf_decision.specs.Checking.{pattern_left}
 use Rattle.clf_kernel.specs.Stops.{Stops}
 use Rattle.clf_kernel.proofs.Stops.{refusal_stops}
 use Rattle.clf_kernel.proofs.Patterns.{pattern_agrees, pattern_differs, pattern_passes, pattern_of_other_width}
