@@ -11,5 +11,6 @@ pub mod Growing
 pub mod Closings
 pub mod Opening
 pub mod TupleSteps
+pub mod Expressions
 pub mod Patterns
 pub mod Entering
