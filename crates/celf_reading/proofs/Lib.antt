@@ -14,4 +14,3 @@ pub mod ObjectSpelled
 pub mod PairSign
 pub mod ObjectText
 pub mod ChecksBack
-pub mod WithinReach
