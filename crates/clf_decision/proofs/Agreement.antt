@@ -17,7 +17,8 @@ use Rattle.typing_laws.proofs.Erased.{typed_is_simply_typed}
 use Rattle.clf_rules.proofs.UsedParts.{some-part}
 use Rattle.clf_decision.specs.Outcome.{Outcome, passed, answer_of}
 use Rattle.clf_decision.specs.Checking.{Puts, checked, inferred, checked_expression, checked_tuple}
-use Rattle.clf_decision.specs.Puts.{ArePuts, Starts}
+use Rattle.clf_decision.specs.Puts.{ArePuts}
+use Rattle.clf_decision.specs.Starts.{Starts}
 use Rattle.clf_decision.proofs.AgreesWith.{AgreesWithType, ChecksAgree}
 use Rattle.clf_decision.proofs.Starting.{starts-under, starts-from, starts-part, starts-allowed, starts-entered, formed-entered, telescope-put, formed-synthesized}
 use Rattle.clf_decision.proofs.AgreementOfObjects.{lambda-agrees, pair-left-agrees, unit-left-agrees}

@@ -13,7 +13,7 @@ use Rattle.typing_laws.specs.SimpleTyping.{constants_of, simple_of, families_of}
 use Rattle.clf_decision.specs.Outcome.{Outcome, passed, refused, answer_of}
 use Rattle.clf_decision.specs.Checking.{Puts, checked, inferred, checked_expression, checked_tuple}
 use Rattle.clf_decision.specs.Formation.{type_formed, telescope_formed, kind_formed, class_formed}
-use Rattle.clf_decision.specs.Puts.{Starts}
+use Rattle.clf_decision.specs.Starts.{Starts}
 use Rattle.clf_decision.proofs.DecidedOutcomes.{Decided}
 
 -- An outcome with a type agrees with a property of parts and types: where it passed, the row that is left stands for exactly the parts

@@ -14,7 +14,8 @@ use Rattle.clf_rules.specs.Explained.{MaySynthesize, object_at, whole, in_tuple,
 use Rattle.typing_laws.specs.SimpleTyping.{simple_of, families_of}
 use Rattle.clf_decision.specs.Outcome.{Outcome, passed, refused}
 use Rattle.clf_decision.specs.Checking.{Puts, checked, inferred, checked_expression, checked_tuple}
-use Rattle.clf_decision.specs.Puts.{ArePuts, Starts}
+use Rattle.clf_decision.specs.Puts.{ArePuts}
+use Rattle.clf_decision.specs.Starts.{Starts}
 use Rattle.clf_decision.proofs.AgreesWith.{ChecksAgree}
 use Rattle.clf_decision.proofs.Starting.{starts-under, starts-from, starts-part, starts-allowed, starts-entered, formed-entered, formed-synthesized, telescope-put}
 use Rattle.clf_decision.proofs.ExplanationForms.{Explained, NeutralExplained, ExpressionExplained, TupleExplained}

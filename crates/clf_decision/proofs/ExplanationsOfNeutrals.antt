@@ -19,7 +19,7 @@ use Rattle.trace_equal.specs.Search.{same_mode}
 use Rattle.typing_laws.specs.SimpleTyping.{simple_of, families_of}
 use Rattle.clf_decision.specs.Outcome.{Outcome, passed, refused, at_part, and_then}
 use Rattle.clf_decision.specs.Checking.{Puts, constant_left, held_left, variable_left, head_left, argument_left, first_left, second_left}
-use Rattle.clf_decision.specs.Puts.{Starts}
+use Rattle.clf_decision.specs.Starts.{Starts}
 use Rattle.clf_decision.proofs.AgreesWith.{AgreesWithType}
 use Rattle.clf_decision.proofs.Starting.{starts-part, starts-allowed, formed-synthesized}
 use Rattle.clf_decision.proofs.ExplanationForms.{Explained, NeutralExplained, synthesized}

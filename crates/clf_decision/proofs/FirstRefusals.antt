@@ -15,7 +15,8 @@ use Rattle.trace_equal.specs.Search.{same_mode}
 use Rattle.typing_laws.specs.SimpleTyping.{simple_of, families_of}
 use Rattle.clf_decision.specs.Outcome.{refused, at_part, and_then}
 use Rattle.clf_decision.specs.Checking.{Puts, closed_scope, joined_left, atomic_left, argument_left, first_left, second_left, step_left, checked, inferred, checked_expression, checked_tuple}
-use Rattle.clf_decision.specs.Puts.{ArePuts, Starts}
+use Rattle.clf_decision.specs.Puts.{ArePuts}
+use Rattle.clf_decision.specs.Starts.{Starts}
 use Rattle.clf_decision.proofs.AgreesWith.{ChecksAgree}
 use Rattle.clf_decision.proofs.Starting.{starts-under, starts-allowed}
 use Rattle.clf_decision.proofs.Explanations.{explained-object, explained-neutral}

@@ -21,7 +21,7 @@ use Rattle.trace_equal.specs.Search.{same_mode}
 use Rattle.typing_laws.specs.SimpleTyping.{simple_of, families_of}
 use Rattle.clf_decision.specs.Outcome.{Outcome, passed, refused, at_part, and_then, answer_of}
 use Rattle.clf_decision.specs.Checking.{Puts, constant_left, held_left, variable_left, head_left, closed_scope, joined_left, first_unjoined, indices_left, atomic_left, argument_left, first_left, second_left, checked, inferred, checked_expression}
-use Rattle.clf_decision.specs.Puts.{Starts}
+use Rattle.clf_decision.specs.Starts.{Starts}
 use Rattle.clf_decision.proofs.AgreesWith.{AgreesWithType, ChecksAgree}
 use Rattle.clf_decision.proofs.Starting.{starts-under, starts-part, formed-synthesized}
 use Rattle.clf_decision.proofs.Differences.{differ-at, differ-found, rows-differ, parts-differ}

@@ -21,7 +21,8 @@ use Rattle.trace_equal.specs.Search.{same_mode}
 use Rattle.typing_laws.specs.SimpleTyping.{simple_of, families_of}
 use Rattle.clf_decision.specs.Outcome.{Outcome, passed, refused, at_part, and_then, answer_of}
 use Rattle.clf_decision.specs.Checking.{Puts, with_slack, first_other_mode, same_modes_left, pattern_left, closed_scopes, rest_left, step_left, checked, inferred, checked_expression, checked_tuple}
-use Rattle.clf_decision.specs.Puts.{ArePuts, Starts}
+use Rattle.clf_decision.specs.Puts.{ArePuts}
+use Rattle.clf_decision.specs.Starts.{Starts}
 use Rattle.clf_decision.proofs.AgreesWith.{ChecksAgree}
 use Rattle.clf_decision.proofs.Starting.{starts-from, starts-allowed, formed-entered, telescope-put}
 use Rattle.clf_decision.proofs.FirstPlaces.{modes-first, no-other-mode}

@@ -17,7 +17,8 @@ use Rattle.typing_laws.specs.SimpleTyping.{constants_of, simple_of, families_of}
 use Rattle.clf_decision.specs.Outcome.{Outcome, passed, refused, at_part, and_then}
 use Rattle.clf_decision.specs.Checking.{Puts, checked}
 use Rattle.clf_decision.specs.Formation.{indices_formed, arity_formed, family_formed, parts_formed, type_formed, telescope_formed, kind_formed, class_formed}
-use Rattle.clf_decision.specs.Puts.{ArePuts, Starts}
+use Rattle.clf_decision.specs.Puts.{ArePuts}
+use Rattle.clf_decision.specs.Starts.{Starts}
 use Rattle.clf_decision.proofs.AgreesWith.{ChecksAgree}
 use Rattle.clf_decision.proofs.DecidedOutcomes.{Decided}
 use Rattle.clf_decision.proofs.SimpleForms.{family-kind-formed}

@@ -24,7 +24,8 @@ use Rattle.typing_laws.specs.SimpleTyping.{simple_of, families_of}
 use Rattle.typing_laws.proofs.Erased.{object}
 use Rattle.typing_laws.proofs.FormedTypes.{renames, as_inserted, synthesized_is_simply_formed}
 use Rattle.clf_decision.specs.Checking.{Puts}
-use Rattle.clf_decision.specs.Puts.{ArePuts, Starts}
+use Rattle.clf_decision.specs.Puts.{ArePuts}
+use Rattle.clf_decision.specs.Starts.{Starts}
 use Rattle.clf_decision.proofs.Marked.{allowed-marked}
 
 -- ---- contexts and holdings

@@ -12,7 +12,7 @@ use Rattle.clf_rules.specs.WellFormed.{WellFormedType, WellFormedKind, WellForme
 use Rattle.clf_rules.specs.Refusal.{Cause}
 use Rattle.clf_rules.specs.Explained.{ExplainedAt, ExplainedInNeutral, ExplainedInType, ExplainedInKind, ExplainedInClass}
 use Rattle.typing_laws.specs.SimpleTyping.{simple_of, families_of}
-use Rattle.clf_decision.specs.Puts.{Starts, FormationStarts, EntryStarts}
+use Rattle.clf_decision.specs.Starts.{Starts, FormationStarts, EntryStarts}
 
 -- ---- what is left
 

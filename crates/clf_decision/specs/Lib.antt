@@ -8,6 +8,7 @@ pub use Rattle.typing_laws.specs.SimpleTyping
 pub mod Outcome
 pub mod Checking
 pub mod Formation
+pub mod Starts
 pub mod Puts
 pub mod Laws
 pub mod Hereditary

@@ -5,6 +5,8 @@ pub mod Entries
 pub mod Exactness
 pub mod Raised
 pub mod Variables
+pub mod Held
+pub mod Growing
 pub mod Closings
 pub mod Opening
 pub mod TupleSteps

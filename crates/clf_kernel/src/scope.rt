@@ -73,7 +73,7 @@ pub fn leave_to(ctx: &mut Ctx, len: usize)
     ensures { (outer : DeclaredCtx) → IsGrown outer ctx.old → length outer.entries ≡ len → ctx.new ≡ outer }
 {
     while ctx.len() > len {
-        ctx.entries.pop();
+        leave(ctx);
     }
 }
 
