@@ -13,7 +13,7 @@ use Rattle.clf_rules.specs.Refusal.{Cause}
 use Rattle.clf_rules.specs.Explained.{ExplainedAt}
 use Rattle.typing_laws.specs.SimpleTyping.{families_of, simple_of}
 use Rattle.typing_laws.proofs.FormedTypes.{well_formed_is_simply_formed}
-use Rattle.clf_decision.specs.Puts.{Starts}
+use Rattle.clf_decision.specs.Starts.{Starts}
 use Rattle.clf_decision.specs.Laws.{IsDecided}
 use Rattle.clf_decision.specs.Hereditary.{hereditary}
 use Rattle.clf_decision.proofs.Decisions.{objects_are_decided}
