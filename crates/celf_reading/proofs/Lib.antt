@@ -7,6 +7,5 @@ pub mod Locals
 pub mod PrintedObjects
 pub mod ReadsBack
 pub mod ChecksBack
-pub mod WithinReach
 pub mod Named
 pub mod WellFormedLines
