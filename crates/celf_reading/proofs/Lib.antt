@@ -9,3 +9,4 @@ pub mod ReadsBack
 pub mod ChecksBack
 pub mod Named
 pub mod WellFormedLines
+pub mod LinesBack
