@@ -72,15 +72,15 @@ module _ (puts : Puts) (sig : PlainSignature) where
   pub expression_closed : (e : Expr) (steps : List Step) → steps ≡ (out-Expr e).steps → (entries : List TupleEntry) → entries ≡ (out-Expr e).result
       → (g inner : Context) (h row : Holding) (os : List Opened) (types : Tele) (s : PlainTelescope) (by count n : ℕ)
       → ((t : PlainTuple) (s : PlainTelescope) → checked_expression puts sig g h 0 (steps_on (map plain_step steps) (done t)) s
-          ≡ closed_steps (length g) (opened_by os) (checked_tuple puts sig inner row (length (map plain_step steps)) 0 t (ren_telescope (up (opened_width (opened_by os))) s)))
+      ≡ closed_steps (length g) (opened_by os) (checked_tuple puts sig inner row (length (map plain_step steps)) 0 t (ren_telescope (up (opened_width (opened_by os))) s)))
       → plain_tele types ≡ ren_telescope (up by) s → by ≡ opened_width (opened_by os) → count ≡ length steps → n ≡ length g
       → checked_expression puts sig g h 0 (plain_expr e) s
-        ≡ closed_steps n (opened_by os) (checked_tuple puts sig inner row count 0 (tuple_of (map plain_entry entries)) (telescope_of (map plain_tele_entry (out-Tele types).entries)))
+      ≡ closed_steps n (opened_by os) (checked_tuple puts sig inner row count 0 (tuple_of (map plain_entry entries)) (telescope_of (map plain_tele_entry (out-Tele types).entries)))
   expression_closed e steps a entries b g inner h row os types s by count n f y w k l =
       let ds = opened_by os in
       let t = tuple_of (map plain_entry entries) in
       ap (λ x. checked_expression puts sig g h 0 x s)
-          (plain-expr e ∙ ap (λ l. steps_on (map plain_step l) (done (tuple_of (map plain_entry (out-Expr e).result)))) (sym a) ∙ ap (λ l. steps_on (map plain_step steps) (done (tuple_of (map plain_entry l)))) (sym b))
+      (plain-expr e ∙ ap (λ l. steps_on (map plain_step l) (done (tuple_of (map plain_entry (out-Expr e).result)))) (sym a) ∙ ap (λ l. steps_on (map plain_step steps) (done (tuple_of (map plain_entry l)))) (sym b))
       ∙ f t s
       ∙ ap (λ j. closed_steps (length g) ds (checked_tuple puts sig inner row j 0 t (ren_telescope (up (opened_width ds)) s))) (length-map steps plain_step ∙ sym k)
       ∙ ap (λ j. closed_steps (length g) ds (checked_tuple puts sig inner row count 0 t (ren_telescope (up j) s))) (sym w)
@@ -91,13 +91,14 @@ module _ (puts : Puts) (sig : PlainSignature) where
   pub step_opens : (r : Result Entered Stop) (place : ℕ) (d : List Mode × PlainNeutral) (g inner : Context) (h : Holding) (found : PlainType × Leftover) → inferred puts sig g h d.1 ≡ passed found
       → EntersStep place d.0 g found inner r → OpensStep puts sig place d g h inner r
   step_opens (Ok e) place d g inner h found i x =
-      let p = subst (λ (o : Outcome (Unit {0})). Decided o (telescope_modes x.entries ≡ d.0)) x.pattern (pattern-decided d.0 x.entries) in
-      (x.modes,
-          (λ y s.
-              opens puts sig place d.0 d.1 g h x.entries found.1 (i ∙ ap (λ a. passed (a, found.1)) x.type) x.pattern p y s
-              ∙ ap (λ b. closed_step place d.0 (length g) b (checked_expression puts sig (with_entries x.entries g) (all_held d.0 found.1.0) (suc place) y (ren_telescope (up (length d.0)) s))) (sym x.slack)
-              ∙ ap (λ k. closed_step place d.0 (length g) e.opened.slack (checked_expression puts sig k (all_held d.0 found.1.0) (suc place) y (ren_telescope (up (length d.0)) s))) (sym x.context)
-              ∙ ap (λ k. closed_step place d.0 (length g) e.opened.slack (checked_expression puts sig inner k (suc place) y (ren_telescope (up (length d.0)) s))) (sym x.held)))
+      let p = subst (λ (o : Outcome (Unit {0})). Decided o (telescope_modes x.entries ≡ d.0)) x.pattern (pattern-decided d.0 x.entries) in (
+        x.modes,
+        (λ y s.
+            opens puts sig place d.0 d.1 g h x.entries found.1 (i ∙ ap (λ a. passed (a, found.1)) x.type) x.pattern p y s
+            ∙ ap (λ b. closed_step place d.0 (length g) b (checked_expression puts sig (with_entries x.entries g) (all_held d.0 found.1.0) (suc place) y (ren_telescope (up (length d.0)) s))) (sym x.slack)
+            ∙ ap (λ k. closed_step place d.0 (length g) e.opened.slack (checked_expression puts sig k (all_held d.0 found.1.0) (suc place) y (ren_telescope (up (length d.0)) s))) (sym x.context)
+            ∙ ap (λ k. closed_step place d.0 (length g) e.opened.slack (checked_expression puts sig inner k (suc place) y (ren_telescope (up (length d.0)) s))) (sym x.held)),
+      )
   step_opens (Err q) place d g inner h found i x = λ y s.
       let rest = λ (v : PlainTelescope) (row : Holding). checked_expression puts sig (with_entries v g) row (suc place) y (ren_telescope (up (length d.0)) s) in
       subst (λ (w : Outcome (PlainType × Leftover)). Stops (and_then (at_part place w) (λ f. step_left place d.0 g f rest)) q) (sym i) (x rest)
@@ -127,9 +128,9 @@ module _ (puts : Puts) (sig : PlainSignature) where
   -- one entry, and the types that it leaves
   pub behind_first : (g : Context) (place : ℕ) (e : Mode × PlainObject) (ts later : List TeleEntry) (x : TeleEntry) (y : Leftover) → ts ≡ x ∷ later
       → entry_behind puts sig g place e (telescope_of (map plain_tele_entry ts), y)
-        ≡ (if same_mode e.0 (out-TeleEntry x).mode
-          then and_then (argument_used e.0 g place y (λ row. checked puts sig g row e.1 (plain_ty (out-TeleEntry x).ty))) (λ z. passed (puts.into_telescope e.1 (plain_ty (out-TeleEntry x).ty) (telescope_of (map plain_tele_entry later)), z))
-          else refused (place ∷ []) (mode_differs (out-TeleEntry x).mode e.0))
+      ≡ (if same_mode e.0 (out-TeleEntry x).mode
+      then and_then (argument_used e.0 g place y (λ row. checked puts sig g row e.1 (plain_ty (out-TeleEntry x).ty))) (λ z. passed (puts.into_telescope e.1 (plain_ty (out-TeleEntry x).ty) (telescope_of (map plain_tele_entry later)), z))
+      else refused (place ∷ []) (mode_differs (out-TeleEntry x).mode e.0))
   behind_first g place e ts later x y a =
       ap (λ l. entry_behind puts sig g place e (telescope_of (map plain_tele_entry l), y)) a
       ∙ ap (λ p. entry_behind puts sig g place e (binding p.0 p.1 (telescope_of (map plain_tele_entry later)), y)) (plain-tele-entry x)
@@ -142,7 +143,7 @@ module _ (puts : Puts) (sig : PlainSignature) where
         ≡ and_then (argument_used e.0 g place y (λ row. checked puts sig g row e.1 (plain_ty (out-TeleEntry x).ty))) (λ z. passed (puts.into_telescope e.1 (plain_ty (out-TeleEntry x).ty) (telescope_of (map plain_tele_entry later)), z))
     behind_same b = behind_first g place e ts later x y a
         ∙ if_true (same_mode e.0 (out-TeleEntry x).mode) (and_then (argument_used e.0 g place y (λ row. checked puts sig g row e.1 (plain_ty (out-TeleEntry x).ty))) (λ z. passed (puts.into_telescope e.1 (plain_ty (out-TeleEntry x).ty) (telescope_of (map plain_tele_entry later)), z)))
-            (refused (place ∷ []) (mode_differs (out-TeleEntry x).mode e.0)) b
+        (refused (place ∷ []) (mode_differs (out-TeleEntry x).mode e.0)) b
 
   module _ (g : Context) (steps : ℕ) where
     pub more_entries : (entries : List TupleEntry) (i : ℕ) (x : TupleEntry) → i < length entries → x ≡ get_or entries i x → (types : List TeleEntry) (y : Leftover) (f : PlainTelescope × Leftover) → 0 < length types

@@ -38,7 +38,7 @@ rest_step place u g slack o = then_same o (λ y. and_then (at_part place (closed
 module _ (puts : Puts) (sig : PlainSignature) (place : ℕ) (ms : List Mode) (r : PlainNeutral) (g : Context) (h : Holding) where
   pub opens : (u : PlainTelescope) (x : Leftover) → inferred puts sig g h r ≡ passed (monad u, x) → pattern_left ms u ≡ passed tt → telescope_modes u ≡ ms → (e : PlainExpression) (s : PlainTelescope)
       → checked_expression puts sig g h place (step ms r e) s
-        ≡ closed_step place ms (length g) x.1 (checked_expression puts sig (with_entries u g) (all_held ms x.0) (suc place) e (ren_telescope (up (length ms)) s))
+      ≡ closed_step place ms (length g) x.1 (checked_expression puts sig (with_entries u g) (all_held ms x.0) (suc place) e (ren_telescope (up (length ms)) s))
   opens u x i p m e s =
       let rest = λ (v : PlainTelescope) (row : Holding). checked_expression puts sig (with_entries v g) row (suc place) e (ren_telescope (up (length ms)) s) in
       ap (λ w. and_then (at_part place w) (λ f. step_left place ms g f rest)) i
@@ -60,10 +60,10 @@ module _ (puts : Puts) (sig : PlainSignature) (steps : List Step) (i : ℕ) (x :
   -- The check of what is left is that of one step fewer, and then the end of the step.
   pub open_more : (g inner : Context) (h row : Holding) (n : ℕ) (os : List Opened) (o : Opened) → length os ≡ i → length g ≡ opened_width (opened_by os) + n → o.modes ≡ (plain_step x).0
       → ((e : PlainExpression) (s : PlainTelescope) → checked_expression puts sig g h i (steps_on (plain_step x ∷ []) e) s
-          ≡ closed_step i (plain_step x).0 (length g) o.slack (checked_expression puts sig inner row (suc i) e (ren_telescope (up (length (plain_step x).0)) s)))
+      ≡ closed_step i (plain_step x).0 (length g) o.slack (checked_expression puts sig inner row (suc i) e (ren_telescope (up (length (plain_step x).0)) s)))
       → (t : PlainTuple) (s : PlainTelescope)
       → closed_steps n (opened_by os) (checked_expression puts sig g h i (steps_on (map plain_step (drop i steps)) (done t)) (ren_telescope (up (opened_width (opened_by os))) s))
-        ≡ closed_steps n (opened_by (os ++ o ∷ [])) (checked_expression puts sig inner row (suc i) (steps_on (map plain_step (drop (suc i) steps)) (done t)) (ren_telescope (up (opened_width (opened_by (os ++ o ∷ [])))) s))
+      ≡ closed_steps n (opened_by (os ++ o ∷ [])) (checked_expression puts sig inner row (suc i) (steps_on (map plain_step (drop (suc i) steps)) (done t)) (ren_telescope (up (opened_width (opened_by (os ++ o ∷ [])))) s))
   open_more g inner h row n os o k w m p t s =
       let ds = opened_by os in
       let e = steps_on (map plain_step (drop (suc i) steps)) (done t) in

@@ -59,7 +59,7 @@ module _ (puts : Puts) (sig : PlainSignature) (g : Context) (steps : ℕ) where
 
       by : (b : Bool) (w : Outcome Leftover)
           → and_then (if b then and_then (at_part (steps + i) w) (λ y. and_then (later (outside m (modes g) x.0 y.0)) (with_slack (slack_outside m y.1))) else refused ((steps + i) ∷ []) (mode_differs k m)) (with_slack x.1)
-            ≡ and_then (if b then and_then (and_then (at_part (steps + i) w) (λ y. passed (outside m (modes g) x.0 y.0, x.1 || slack_outside m y.1))) (λ y. passed (puts.into_telescope n a u, y)) else refused ((steps + i) ∷ []) (mode_differs k m)) (tuple_rest (suc i) t)
+          ≡ and_then (if b then and_then (and_then (at_part (steps + i) w) (λ y. passed (outside m (modes g) x.0 y.0, x.1 || slack_outside m y.1))) (λ y. passed (puts.into_telescope n a u, y)) else refused ((steps + i) ∷ []) (mode_differs k m)) (tuple_rest (suc i) t)
       by true (passed y) = slacks (slack_outside m y.1) x.1 (later (outside m (modes g) x.0 y.0))
       by true (refused path cause) = refl
       by false w = refl

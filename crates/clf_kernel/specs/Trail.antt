@@ -73,12 +73,12 @@ EntersStep place ms g found inner (Err stop) = (rest : PlainTelescope → Holdin
 abbrev pub OpensStep : Puts → PlainSignature → ℕ → List Mode × PlainNeutral → Context → Holding → Context → Result Entered Stop → Type 0
 OpensStep puts sig place d g h inner (Ok e) = (e.opened.modes ≡ d.0) × ((x : PlainExpression) (s : PlainTelescope)
     → checked_expression puts sig g h place (steps_on (d ∷ []) x) s
-      ≡ closed_step place d.0 (length g) e.opened.slack (checked_expression puts sig inner (marks e.row) (suc place) x (ren_telescope (up (length d.0)) s)))
+    ≡ closed_step place d.0 (length g) e.opened.slack (checked_expression puts sig inner (marks e.row) (suc place) x (ren_telescope (up (length d.0)) s)))
 OpensStep puts sig place d g h inner (Err stop) = (x : PlainExpression) (s : PlainTelescope) → Stops (checked_expression puts sig g h place (steps_on (d ∷ []) x) s) stop
 
 -- So it is with all steps of an expression.
 abbrev pub OpensSteps : Puts → PlainSignature → List (List Mode × PlainNeutral) → Context → Holding → Context → Result Trail Stop → Type 0
 OpensSteps puts sig ds g h inner (Ok trail) = (t : PlainTuple) (s : PlainTelescope)
     → checked_expression puts sig g h 0 (steps_on ds (done t)) s
-      ≡ closed_steps (length g) (opened_by trail.opened) (checked_tuple puts sig inner (marks trail.row) (length ds) 0 t (ren_telescope (up (opened_width (opened_by trail.opened))) s))
+    ≡ closed_steps (length g) (opened_by trail.opened) (checked_tuple puts sig inner (marks trail.row) (length ds) 0 t (ren_telescope (up (opened_width (opened_by trail.opened))) s))
 OpensSteps puts sig ds g h inner (Err stop) = (t : PlainTuple) (s : PlainTelescope) → Stops (checked_expression puts sig g h 0 (steps_on ds (done t)) s) stop

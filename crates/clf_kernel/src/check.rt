@@ -536,7 +536,9 @@ fn check_tuple_entry(
         let (wanted, found) = (first.mode, entry.mode);
         return Err(refuse_at(alloc, place, Cause::ModeDiffers { wanted, found }));
     }
-    let left = check_argument(alloc, entry.mode, &entry.obj, &first.ty, place, left, sig, ctx)?;
+    let left = check_argument(
+        alloc, entry.mode, &entry.obj, &first.ty, place, left, sig, ctx,
+    )?;
     let types = put_in_entries(alloc, &entry.obj, &first.ty, &types.as_slice()[1..])?;
     Ok(Rest { types, left })
 }

@@ -146,7 +146,13 @@ fn form_entry(
 
 /// The type of the part with this number.
 #[cycle(form)]
-fn form_part(alloc: Global, place: usize, ty: &Ty, sig: &Signature, ctx: &mut Ctx) -> Result<(), Stop>
+fn form_part(
+    alloc: Global,
+    place: usize,
+    ty: &Ty,
+    sig: &Signature,
+    ctx: &mut Ctx,
+) -> Result<(), Stop>
     requires numbered { length (context ctx.old) < 2 ^ 32 }
     ensures formed { Gives (λ x. x) (at_part place (type_formed hereditary (plain_signature sig.now) (context ctx.old) (plain_ty ty.now))) result }
     ensures kept { OnOk result (ctx.new ≡ ctx.old) }

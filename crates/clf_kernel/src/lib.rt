@@ -5,13 +5,13 @@ mod check;
 mod entry;
 mod head;
 mod object;
+mod parts;
+mod putting;
 mod refusal;
 mod rows;
 mod scope;
 mod trail;
 mod tuple;
-mod parts;
-mod putting;
 
 pub use entry::{check_entry, check_kind, check_type};
 pub use object::{check_object, check_run, infer};

@@ -50,12 +50,7 @@ pub fn put_in_entries(
 
 /// The later arguments of a kind with an object put for the first one's variable.
 #[tactic(auto, using(clf_decision::proofs::Hereditary::hereditary_laws))]
-pub fn put_in_arguments(
-    alloc: Global,
-    obj: &Obj,
-    ty: &Ty,
-    later: &[Ty],
-) -> Result<Items<Ty>, Stop>
+pub fn put_in_arguments(alloc: Global, obj: &Obj, ty: &Ty, later: &[Ty]) -> Result<Items<Ty>, Stop>
     ensures put { IfOk result (λ k. map plain_ty k ≡ hereditary.into_kind (plain_obj obj.now) (plain_ty ty.now) (map plain_ty later.now)) }
     ensures short { IfErr result IsShort }
 {

@@ -12,7 +12,12 @@ use use_contexts::{Ctx, Holding};
 
 /// The row from which what its mode allows of a row starts.
 #[tactic(auto, using(crate::proofs::RowSteps::length_laws))]
-pub fn allowed_of(alloc: Global, mode: Mode, ctx: &Ctx, row: &Holding) -> Result<Holding, AllocError>
+pub fn allowed_of(
+    alloc: Global,
+    mode: Mode,
+    ctx: &Ctx,
+    row: &Holding,
+) -> Result<Holding, AllocError>
     requires { length (marks row.now) ≡ length (context ctx.now) }
     ensures marks { IfOk result (λ start. marks start ≡ allowed mode (modes (context ctx.now)) (marks row.now)) }
     ensures marked { IfOk result (λ start. length (marks start) ≡ length (context ctx.now)) }

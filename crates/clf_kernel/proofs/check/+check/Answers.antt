@@ -258,7 +258,7 @@ open_steps-loop-step-preserved t c =
     let q = c.in_ok-push.ensures.ok in
     let more = opened_more os o in
     let x = subst (λ n. (x : PlainExpression) (s : PlainTelescope) → checked_expression hereditary (plain_signature c.args.sig.now) (context c.loop-step.ctx) (marks c.loop-step.row) n (steps_on (plain_step c.step-item.result ∷ []) x) s
-        ≡ closed_step n (plain_step c.step-item.result).0 (length (context c.loop-step.ctx)) o.slack (checked_expression hereditary (plain_signature c.args.sig.now) (context c.open_step.new.ctx) (marks c.in_ok-entered.entered.row) (suc n) x (ren_telescope (up (length (plain_step c.step-item.result).0)) s))) v.0 c.in_ok-entered.ensures.outcome.1 in
+    ≡ closed_step n (plain_step c.step-item.result).0 (length (context c.loop-step.ctx)) o.slack (checked_expression hereditary (plain_signature c.args.sig.now) (context c.open_step.new.ctx) (marks c.in_ok-entered.entered.row) (suc n) x (ren_telescope (up (length (plain_step c.step-item.result).0)) s))) v.0 c.in_ok-entered.ensures.outcome.1 in
     let w = c.in_ok-entered.ensures.width in
     let k = v.3 in
     let m = ap opened_width more in
@@ -272,7 +272,7 @@ open_steps-loop-step-preserved t c =
       (λ u s.
           v.6 u s
           ∙ open_more hereditary (plain_signature c.args.sig.now) c.args.steps.now c.loop-step.step-index c.step-item.result (omega (arith, c.loop-step-test.true)) c.step-item.is (context c.loop-step.ctx) (context c.open_step.new.ctx) (marks c.loop-step.row) (marks c.in_ok-entered.entered.row)
-              (length (context c.args.ctx.now)) os o v.1 v.3 c.in_ok-entered.ensures.outcome.0 x u s
+          (length (context c.args.ctx.now)) os o v.1 v.3 c.in_ok-entered.ensures.outcome.0 x u s
           ∙ ap (λ n. closed_steps (length (context c.args.ctx.now)) (opened_by (os ++ o ∷ [])) (checked_expression hereditary (plain_signature c.args.sig.now) (context c.open_step.new.ctx) (marks c.in_ok-entered.entered.row) n (steps_on (map plain_step (drop n c.args.steps.now)) (done u)) (ren_telescope (up (opened_width (opened_by (os ++ o ∷ [])))) s))) (sym (add-one c.loop-step.step-index))
           ∙ ap (λ l. closed_steps (length (context c.args.ctx.now)) (opened_by l) (checked_expression hereditary (plain_signature c.args.sig.now) (context c.open_step.new.ctx) (marks c.in_ok-entered.entered.row) (c.loop-step.step-index + 1) (steps_on (map plain_step (drop (c.loop-step.step-index + 1) c.args.steps.now)) (done u)) (ren_telescope (up (opened_width (opened_by l))) s))) (sym q)),
     )

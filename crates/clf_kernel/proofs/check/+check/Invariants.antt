@@ -30,12 +30,12 @@ invariant-open_steps-loop-step l = (l.place ≡ l.step-index)
     × (length (marks l.row) ≡ length (context l.ctx))
     × (length (context l.ctx) < 2 ^ 32)
     × ((t : PlainTuple) (s : PlainTelescope)
-        → checked_expression hereditary (plain_signature l.fn.sig) (context l.fn.ctx) (marks l.fn.row) 0 (steps_on (map plain_step l.fn.steps) (done t)) s
-          ≡ closed_steps (length (context l.fn.ctx)) (opened_by l.opened) (checked_expression hereditary (plain_signature l.fn.sig) (context l.ctx) (marks l.row) l.step-index (steps_on (map plain_step (drop l.step-index l.fn.steps)) (done t)) (ren_telescope (up (opened_width (opened_by l.opened))) s)))
+    → checked_expression hereditary (plain_signature l.fn.sig) (context l.fn.ctx) (marks l.fn.row) 0 (steps_on (map plain_step l.fn.steps) (done t)) s
+    ≡ closed_steps (length (context l.fn.ctx)) (opened_by l.opened) (checked_expression hereditary (plain_signature l.fn.sig) (context l.ctx) (marks l.row) l.step-index (steps_on (map plain_step (drop l.step-index l.fn.steps)) (done t)) (ren_telescope (up (opened_width (opened_by l.opened))) s)))
 
 abbrev pub invariant-check_tuple-loop-entry : goal.invariant-check_tuple-loop-entry
 invariant-check_tuple-loop-entry l = (l.ctx ≡ l.fn.ctx)
     × (length (marks l.rest.left.row) ≡ length (context l.fn.ctx))
     × (l.before ≡ l.entry-index)
     × (checked_tuple hereditary (plain_signature l.fn.sig) (context l.fn.ctx) (marks l.fn.row) l.fn.steps 0 (tuple_of (map plain_entry l.fn.entries)) (telescope_of (map plain_tele_entry l.fn.types))
-        ≡ tuple_rest hereditary (plain_signature l.fn.sig) (context l.fn.ctx) l.fn.steps l.entry-index (tuple_of (map plain_entry (drop l.entry-index l.fn.entries))) (plain_rest l.rest))
+    ≡ tuple_rest hereditary (plain_signature l.fn.sig) (context l.fn.ctx) l.fn.steps l.entry-index (tuple_of (map plain_entry (drop l.entry-index l.fn.entries))) (plain_rest l.rest))

@@ -12,4 +12,4 @@ use Rattle.clf_kernel.proofs.entry.+form.Given as goal
 abbrev pub invariant-form_telescope-loop-entry : goal.invariant-form_telescope-loop-entry
 invariant-form_telescope-loop-entry l = (l.place ≡ l.entry-index) × IsGrown l.fn.ctx l.ctx × (length (context l.ctx) < 2 ^ 32)
     × (telescope_formed hereditary (plain_signature l.fn.sig) (context l.fn.ctx) 0 (telescope_of (map plain_tele_entry l.fn.entries))
-        ≡ telescope_formed hereditary (plain_signature l.fn.sig) (context l.ctx) l.entry-index (telescope_of (map plain_tele_entry (drop l.entry-index l.fn.entries))))
+    ≡ telescope_formed hereditary (plain_signature l.fn.sig) (context l.ctx) l.entry-index (telescope_of (map plain_tele_entry (drop l.entry-index l.fn.entries))))

@@ -11,4 +11,4 @@ use Rattle.clf_kernel.proofs.entry.form_indices.Given as goal
 abbrev pub invariant-loop-obj : goal.invariant-loop-obj
 invariant-loop-obj l = (l.ctx ≡ l.fn.ctx) × (l.place ≡ l.obj-index)
     × (indices_formed hereditary (plain_signature l.fn.sig) (context l.fn.ctx) 0 (map plain_obj l.fn.indices) (plain_kind l.fn.kind)
-        ≡ indices_formed hereditary (plain_signature l.fn.sig) (context l.fn.ctx) l.obj-index (map plain_obj (drop l.obj-index l.fn.indices)) (map plain_ty l.rest))
+    ≡ indices_formed hereditary (plain_signature l.fn.sig) (context l.fn.ctx) l.obj-index (map plain_obj (drop l.obj-index l.fn.indices)) (map plain_ty l.rest))
