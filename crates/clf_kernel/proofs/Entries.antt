@@ -26,13 +26,13 @@ use Rattle.clf_kernel.specs.Indices.{index_behind}
 use Rattle.clf_kernel.proofs.Stops.{then_stops}
 
 -- a refusal is one, whatever else would pass
-refused_stops : {A B : Type 0} (path : List ℕ) (cause : Cause) (s : Stop) → Stops {A = A} (refused path cause) s → Stops {A = B} (refused path cause) s
-refused_stops path cause (Refused outward c) q =
+refused_stops : (A B : Type 0) (path : List ℕ) (cause : Cause) (s : Stop) → Stops {A = A} (refused path cause) s → Stops {A = B} (refused path cause) s
+refused_stops A B path cause (Refused outward c) q =
     let p : path ≡ reverse outward.items = cc in
     let k : cause ≡ plain_cause c = cc in
     ap (λ x. refused x cause) p ∙ ap (λ y. refused (reverse outward.items) y) k
-refused_stops path cause NoMemory q = tt
-refused_stops path cause (TooFar w) q = q
+refused_stops A B path cause NoMemory q = tt
+refused_stops A B path cause (TooFar w) q = q
 
 module _ (puts : Puts) (sig : PlainSignature) where
   -- ---- the entries of a telescope
@@ -88,7 +88,7 @@ module _ (puts : Puts) (sig : PlainSignature) where
       where
         by : (w : Outcome Leftover) (s : Stop) → Stops (and_then w (λ y. passed (puts.into_kind (plain_obj x) a k))) s
             → Stops (and_then w (λ y. indices_formed puts sig g (suc i) (map plain_obj (drop (suc i) indices)) (puts.into_kind (plain_obj x) a k))) s
-        by (refused path cause) s q = refused_stops path cause s q
+        by (refused path cause) s q = refused_stops PlainKind (Unit {0}) path cause s q
         by (passed y) (Refused outward c) q = absurd (cc)
         by (passed y) NoMemory q = tt
         by (passed y) (TooFar w) q = q

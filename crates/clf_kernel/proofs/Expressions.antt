@@ -1,7 +1,7 @@
 -- Expressions and tuples, whole: what their steps and entries come to.
-use Rattle.std.proofs.Common.{◌≡◌, ◌<◌, ℕ, zero, suc, ◌+◌, true, false, Bool, if◌then◌else◌, List, [], ◌∷◌, ◌++◌, length, map, drop, get_or, Result, Ok, Err, IfOk, refl, sym, ap, subst, ◌∙◌, arith}
-use Rattle.std.proofs.Math.Seq.{drop-cons}
-use Rattle.std.proofs.lemmas.List.{append_assoc, append-nil, length-map}
+use Rattle.std.proofs.Common.{◌≡◌, ◌<◌, ℕ, zero, suc, ◌+◌, true, false, Bool, if◌then◌else◌, List, [], ◌∷◌, ◌++◌, length, map, take, drop, get_or, ◌-◌, Result, Ok, Err, IfOk, refl, sym, ap, subst, ◌∙◌, arith}
+use Rattle.std.proofs.Math.Seq.{drop-cons, take-length}
+use Rattle.std.proofs.lemmas.List.{append_assoc, append-nil, length-map, length-drop}
 use Rattle.clf_syntax.specs.declared.tree.Mode.{Mode}
 use Rattle.clf_syntax.specs.declared.tree.Expr.{Expr, out-Expr}
 use Rattle.clf_syntax.specs.declared.tree.Step.{Step}
@@ -59,6 +59,10 @@ if_true false x y e = cc
 if_false : {A : Type 0} (b : Bool) (x y : A) → b ≡ false → (if b then x else y) ≡ y
 if_false false x y e = refl
 if_false true x y e = cc
+
+-- a slice without its first element
+pub tail_slice : {X : Type 0} (l : List X) → take (length l - 1) (drop 1 l) ≡ drop 1 l
+tail_slice l = ap (λ n. take n (drop 1 l)) (sym (length-drop 1 l)) ∙ take-length (drop 1 l)
 
 module _ (puts : Puts) (sig : PlainSignature) where
   -- ---- the steps of an expression, and its tuple

@@ -2,7 +2,7 @@
 ghost use Rattle.std.specs.Prelude.{◌≡◌, ◌∷◌, ◌<◌, ◌^◌, ◌==◌, if◌then◌else◌, [], length, map, option_map, option_copied, OnOk};
 ghost use Rattle.clf_syntax.specs.Plain.{plain_obj};
 ghost use Rattle.clf_syntax.specs.PlainTypes.{plain_ty, plain_tele_entry, plain_kind};
-ghost use Rattle.clf_syntax.specs.TypeTree.{function, telescope_of};
+ghost use Rattle.clf_syntax.specs.TypeTree.{telescope_of};
 ghost use Rattle.clf_sig.specs.Entry.{family_kind as kind_of_family};
 ghost use Rattle.clf_sig.specs.Signature.{plain_signature, plain_class, plain_entry};
 ghost use Rattle.use_contexts.specs.Marks.{context};
@@ -173,7 +173,12 @@ fn form_type(alloc: Global, ty: &Ty, sig: &Signature, ctx: &mut Ctx) -> Result<(
 {
     match ty {
         Ty::Fam { family, indices } => form_family(alloc, *family, indices.as_slice(), sig, ctx),
-        Ty::Fun { mode, dom, cod } => form_function(alloc, *mode, dom.get(), cod.get(), sig, ctx),
+        Ty::Fun { mode, dom, cod } => {
+            form_entry(alloc, 0, *mode, dom.get(), sig, ctx)?;
+            form_part(alloc, 1, cod.get(), sig, ctx)?;
+            leave(ctx);
+            Ok(())
+        }
         Ty::With { left, right } => {
             form_part(alloc, 0, left.get(), sig, ctx)?;
             form_part(alloc, 1, right.get(), sig, ctx)
@@ -181,27 +186,6 @@ fn form_type(alloc: Global, ty: &Ty, sig: &Signature, ctx: &mut Ctx) -> Result<(
         Ty::Top => Ok(()),
         Ty::Monad { tele } => form_telescope(alloc, tele.entries.as_slice(), sig, ctx),
     }
-}
-
-/// A function, which adds its variable to the context of its range.
-#[cycle(form)]
-#[tactic(auto, using(crate::proofs::Stops::stop_laws))]
-fn form_function(
-    alloc: Global,
-    mode: Mode,
-    dom: &Ty,
-    cod: &Ty,
-    sig: &Signature,
-    ctx: &mut Ctx,
-) -> Result<(), Stop>
-    requires numbered { length (context ctx.old) < 2 ^ 32 }
-    ensures formed { Gives (λ x. x) (type_formed hereditary (plain_signature sig.now) (context ctx.old) (function mode (plain_ty dom.now) (plain_ty cod.now))) result }
-    ensures kept { OnOk result (ctx.new ≡ ctx.old) }
-{
-    form_entry(alloc, 0, mode, dom, sig, ctx)?;
-    form_part(alloc, 1, cod, sig, ctx)?;
-    leave(ctx);
-    Ok(())
 }
 
 /// The entries of a telescope, each of which adds its variable.

@@ -27,7 +27,7 @@ use Rattle.clf_kernel.proofs.Closings.{steps_stop, opened_more}
 use Rattle.clf_kernel.proofs.Growing.{entries_length}
 use Rattle.clf_kernel.proofs.Opening.{open_more, open_stops}
 use Rattle.clf_kernel.proofs.TupleSteps.{tuple_rest, too_long}
-use Rattle.clf_kernel.proofs.Expressions.{not_grown, grown_again, some_entries, first_entry, behind_other, behind_same, expression_stops, expression_closed, step_opens, entered_width, none_opened, more_entries, stopped_entries, short_entries}
+use Rattle.clf_kernel.proofs.Expressions.{not_grown, grown_again, some_entries, first_entry, tail_slice, behind_other, behind_same, expression_stops, expression_closed, step_opens, entered_width, none_opened, more_entries, stopped_entries, short_entries}
 use Rattle.clf_kernel.proofs.check.+check.Goals as goal
 
 pub check_part-returns-in-Err-clause-outcome : goal.check_part-returns-in-Err-clause-outcome
@@ -213,7 +213,9 @@ check_tuple_entry-returns-clause-outcome t c =
     ap (λ e. entry_behind hereditary (plain_signature c.args.sig.now) (context c.args.ctx.now) c.args.place e (plain_rest c.args.rest)) (plain-entry c.args.entry.now)
     ∙ behind_same hereditary (plain_signature c.args.sig.now) (context c.args.ctx.now) c.args.place ((out-TupleEntry c.args.entry.now).mode, plain_obj (out-TupleEntry c.args.entry.now).obj) ts (drop 1 ts) x (plain_left c.args.rest.left) a (sym c.is_same.ensures ∙ c.if-not-is_same.false)
     ∙ ap (λ w. and_then w (λ z. passed (hereditary.into_telescope (plain_obj (out-TupleEntry c.args.entry.now).obj) (plain_ty (out-TeleEntry x).ty) (telescope_of (map plain_tele_entry (drop 1 ts))), z))) c.in_ok-left.ensures.outcome
-    ∙ ap (λ v. passed (v, plain_left c.in_ok-left.left)) (ap (λ l. hereditary.into_telescope (plain_obj (out-TupleEntry c.args.entry.now).obj) (plain_ty (out-TeleEntry x).ty) (telescope_of (map plain_tele_entry (drop 1 l)))) (sym c.as_slice-2.ensures) ∙ sym c.in_ok-types.ensures.put)
+    ∙ ap (λ v. passed (v, plain_left c.in_ok-left.left)) (ap (λ l. hereditary.into_telescope (plain_obj (out-TupleEntry c.args.entry.now).obj) (plain_ty (out-TeleEntry x).ty) (telescope_of (map plain_tele_entry (drop 1 l)))) (sym c.as_slice-2.ensures)
+    ∙ ap (λ l. hereditary.into_telescope (plain_obj (out-TupleEntry c.args.entry.now).obj) (plain_ty (out-TeleEntry x).ty) (telescope_of (map plain_tele_entry l))) (sym (tail_slice c.as_slice-2.result.now))
+    ∙ sym c.in_ok-types.ensures.put)
 
 -- ---- steps
 pub open_step-returns-in-Ok-clause-outcome : goal.open_step-returns-in-Ok-clause-outcome
