@@ -1,13 +1,15 @@
 -- Laws of bare signatures: what is in them, what is read over them, and what they grow by.
-use Rattle.std.proofs.Common.{ℕ, ◌≡◌, ◌+◌, suc, zero, true, false, refl, ap, ◌∙◌, Option, Some, None, List, [], ◌∷◌, ◌++◌, length, append_assoc, append-nil, arith, slice_get, IsTrue, length-append}
+use Rattle.std.proofs.Common.{ℕ, ◌≡◌, ◌+◌, suc, zero, true, false, refl, ap, subst, ◌∙◌, Option, Some, None, List, [], ◌∷◌, ◌++◌, length, append_assoc, append-nil, arith, slice_get, IsTrue, length-append}
 use Rattle.celf_sugar.specs.PlainTree as plain
 use Rattle.clf_syntax.specs.Word.{is_declarable}
 use Rattle.clf_syntax.specs.Occurs.{occurs_type}
+use Rattle.clf_syntax.specs.Simple.{erase}
+use Rattle.clf_syntax.specs.Tree.{PlainObject}
 use Rattle.clf_syntax.specs.TypeTree.{PlainType, family, function, both as additive_pair, top as additive_unit, monad}
 use Rattle.clf_sig.specs.Entry.{PlainClass, family_of, constant_of, PlainEntry, PlainSignature, place_of, class_at}
 use Rattle.clf_rules.specs.Reach.{without_indices}
 use Rattle.celf_explicit.specs.Names.{family_only, family_named}
-use Rattle.celf_explicit.specs.Reading.{read_type}
+use Rattle.celf_explicit.specs.Reading.{read_type, read_object, read_against, read_check, with_type}
 use Rattle.celf_explicit.specs.Entries.{read_class, fresh_entry, read_entry}
 use Rattle.celf_reading.specs.Bare.{IsBareType, IsBareClass, IsBareEntry, AreBare, IsBareSignature}
 use Rattle.celf_explicit.proofs.Options.{option_map-some, option_and_then-some, combined-some}
@@ -90,6 +92,14 @@ read_entry-bare sig zero t e h at =
     let found = option_map-some fresh_entry (read_class sig t) e at in
     rw (← found.2) (read_class-bare sig t found.0 h found.1, refl)
 read_entry-bare sig (suc n) t e h at = absurd (cc)
+
+-- and so is the type that is read of a check
+pub read_check-bare : (sig : PlainSignature) (o : plain.DesugaredObject) (t : plain.DesugaredType) (n : PlainObject) (a : PlainType) → IsBareSignature sig → read_check sig o t ≡ Some (n, a) → IsBareType sig a
+read_check-bare sig o t n a formed e =
+    let typed = option_and_then-some (read_against sig o) (read_type sig t) (n, a) e in
+    let read = option_map-some (with_type typed.0) (read_object sig [] (Some (erase typed.0)) o) (n, a) typed.2 in
+    let a_is : typed.0 ≡ a = ap (λ (p : PlainObject × PlainType). p.1) read.2 in
+    subst (λ (x : PlainType). IsBareType sig x) a_is (read_type-bare sig t typed.0 formed typed.1)
 
 -- A bare signature grows by an entry of a new name that can be declared.
 pub AreBare-append : (front es : PlainSignature) (name : List ℕ) (entry : PlainEntry) → AreBare front es → place_of name (front ++ es) ≡ None

@@ -7,7 +7,6 @@ pub mod Locals
 pub mod PrintedObjects
 pub mod ReadsBack
 pub mod ChecksBack
-pub mod WithinReach
 pub mod Named
 pub mod WellFormedLines
 pub mod LinesBack

@@ -120,14 +120,14 @@ accepts options sig new at name e reply reach is added =
 -- An object that has its type is told.
 pub tells-typed : (options : Options) (sig : PlainSignature) (at : ℕ) (n : PlainObject) (a : PlainType) → IsWithinReach sig (checks n a) → HasType sig [] [] n a
     → AnswersCore options (holding sig) at (checks n a) (checked n a) (holding sig)
-tells-typed options sig at n a reach has = fits (typed (bare-type sig [] a reach.1) has)
+tells-typed options sig at n a reach has = fits (typed (bare-type sig [] a reach) has)
 
 -- An object that has not is refused.
 pub tells-refusal : (options : Options) (sig : PlainSignature) (at : ℕ) (n : PlainObject) (a : PlainType) (path : List ℕ) (cause : Cause) (reply : PlainReply) → IsWithinReach sig (checks n a)
     → (HasType sig [] [] n a → ⊥) → ExplainedAt sig [] [] n a path cause → reply ≡ refused_by_rules at (1 ∷ path) cause
     → AnswersCore options (holding sig) at (checks n a) reply (holding sig)
 tells-refusal options sig at n a path cause reply reach none why is =
-    let told : AnswersCore options (holding sig) at (checks n a) (refused_by_rules at (1 ∷ path) cause) (holding sig) = explained (in_object (bare-type sig [] a reach.1) none why) in
+    let told : AnswersCore options (holding sig) at (checks n a) (refused_by_rules at (1 ∷ path) cause) (holding sig) = explained (in_object (bare-type sig [] a reach) none why) in
     subst (λ (r : PlainReply). AnswersCore options (holding sig) at (checks n a) r (holding sig)) (sym is) told
 
 -- What a core comes to answers its item.

@@ -7,11 +7,7 @@ use Rattle.clf_sig.specs.Core.{PlainCore, declares, queries, traces, equates, ch
 use Rattle.clf_rules.specs.Typing.{HasType}
 use Rattle.clf_rules.specs.Explained.{ExplainedAt}
 use Rattle.clf_rules.specs.Refusal.{Cause}
-use Rattle.clf_check.specs.Outcome.{Outcome, passed, refused as refused_outcome, answer_of}
-use Rattle.clf_check.specs.Checking.{staying, checked as checked_outcome}
-use Rattle.clf_check.proofs.InReach.{object_in_reach}
-use Rattle.clf_check.proofs.Agreement.{checks_exactly}
-use Rattle.clf_check.proofs.OneAnswer.{refused_is_explained}
+use Rattle.clf_decision.specs.Laws.{IsDecided}
 use Rattle.use_contexts.specs.Rows.{Agrees, Leftover}
 use Rattle.celf_surface.specs.Surface.{WrittenItem}
 use Rattle.celf_sugar.specs.declared.plain.PName.{PName}
@@ -23,8 +19,7 @@ use Rattle.celf_explicit.specs.Unknown.{first_unknown}
 use Rattle.celf_explicit.specs.Explicit.{explicit}
 use Rattle.celf_parser.specs.Place.{HasDeclarableName}
 use Rattle.celf_reading.specs.Bare.{IsBareSignature, IsBareType}
-use Rattle.celf_reading.proofs.Bare.{without_indices-bare}
-use Rattle.celf_reading.proofs.WithinReach.{simple-signature}
+use Rattle.celf_reading.proofs.WellFormed.{bare-type, bare-signature}
 use Rattle.celf_replies.specs.Reply.{PlainWhy, duplicate, full, unknown_name, kernel, not_yet, PlainReply, entry, checked, refused}
 use Rattle.celf_run.specs.declared.options.Options.{Options}
 use Rattle.celf_run.specs.Source.{Task, written, faulty}
@@ -32,6 +27,7 @@ use Rattle.celf_run.specs.Allowed.{Held, holding, room, declared_name, NameBarre
 use Rattle.celf_run.specs.Answering.{MayBeDeclared, IsWithinReach, AnswersCore, fits, explained, refused_by_rules}
 use Rattle.celf_run.specs.Laws.{EachTaskHasReply, IsTaskOfText}
 use Rattle.celf_run.proofs.Decisions.{decide-number, decide-bare, Decided}
+use Rattle.celf_run.proofs.Closed.{left-typed, closed-decided}
 use Rattle.celf_run.proofs.Answering.{may-be-declared, nameless-passes, new-passes, within-reach, accepts, tells-typed, tells-refusal, core-allowed}
 
 -- Something stands against the name, or nothing does.
@@ -59,22 +55,24 @@ abbrev CoreHasReply : Options → PlainSignature → ℕ → PlainCore → Type 
 CoreHasReply options sig at core = (reply : PlainReply) × (new : PlainSignature) × AnswersCore options (holding sig) at core reply (holding new)
 
 refused-reply : (options : Options) (sig : PlainSignature) (at : ℕ) (n : PlainObject) (a : PlainType) → IsWithinReach sig (checks n a) → (HasType sig [] [] n a → ⊥)
-    → ((path : List ℕ) × (cause : Cause) × ExplainedAt sig [] [] n a path cause) → CoreHasReply options sig at (checks n a)
-refused-reply options sig at n a reach none (path, cause, why) =
+    → (path : List ℕ) (cause : Cause) → ExplainedAt sig [] [] n a path cause → CoreHasReply options sig at (checks n a)
+refused-reply options sig at n a reach none path cause why =
     (refused_by_rules at (1 ∷ path) cause, sig, tells-refusal options sig at n a path cause (refused_by_rules at (1 ∷ path) cause) reach none why refl)
 
-check-reply : (options : Options) (sig : PlainSignature) (at : ℕ) (n : PlainObject) (a : PlainType) → IsBareSignature sig → IsWithinReach sig (checks n a)
-    → (o : Outcome Leftover) → Agrees [] [] (answer_of o) (λ p. HasType sig [] p n a) → CoreHasReply options sig at (checks n a)
-check-reply options sig at n a b reach (passed l) told = (checked n a, sig, tells-typed options sig at n a reach (told.2 [] (refl, tt) (refl, tt)))
-check-reply options sig at n a b reach (refused_outcome path cause) told =
-    refused-reply options sig at n a reach (told [] (refl, tt))
-    ((refused_is_explained sig [] [] n a (object_in_reach sig [] [] n a refl refl (simple-signature sig b) reach.0 (without_indices-bare sig a reach.1))).0 told)
+check-reply : (options : Options) (sig : PlainSignature) (at : ℕ) (n : PlainObject) (a : PlainType) → IsWithinReach sig (checks n a)
+    → IsDecided ((l : Leftover) × Agrees [] [] (Some l) (λ p. HasType sig [] p n a)) (Agrees [] [] None (λ p. HasType sig [] p n a)) (ExplainedAt sig [] [] n a)
+    → CoreHasReply options sig at (checks n a)
+check-reply options sig at n a reach d = go d.decided
+  where
+    go : ((l : Leftover) × Agrees [] [] (Some l) (λ p. HasType sig [] p n a)) ⊎ ((path : List ℕ) × (why : Cause) × ExplainedAt sig [] [] n a path why) → CoreHasReply options sig at (checks n a)
+    go (inl (l, told)) = (checked n a, sig, tells-typed options sig at n a reach (left-typed sig n a l told))
+    go (inr (path, why, x)) = refused-reply options sig at n a reach (d.explained.1 (path, why, x) [] (refl, tt)) path why x
 
 core-reply : (options : Options) (sig : PlainSignature) (at : ℕ) (core : PlainCore) → IsBareSignature sig → IsWithinReach sig core → CoreHasReply options sig at core
 core-reply options sig at (declares n e) b reach =
     (entry (length sig), sig ++ (n, e) ∷ [], accepts options sig (sig ++ (n, e) ∷ []) at n e (entry (length sig)) reach refl refl)
 core-reply options sig at (checks n a) b reach =
-    check-reply options sig at n a b reach (checked_outcome staying sig [] [] n a) (checks_exactly sig [] [] n a (object_in_reach sig [] [] n a refl refl (simple-signature sig b) reach.0 (without_indices-bare sig a reach.1)))
+    check-reply options sig at n a reach (closed-decided sig n a (bare-signature sig b) (bare-type sig [] a reach))
 core-reply options sig at (queries a) b reach = absurd reach
 core-reply options sig at (traces t) b reach = absurd reach
 core-reply options sig at (equates n o a) b reach = absurd reach

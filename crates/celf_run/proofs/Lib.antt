@@ -9,3 +9,4 @@ pub mod EachReply
 pub mod OneReply
 pub mod OneTask
 pub mod OneTranscript
+pub mod Closed

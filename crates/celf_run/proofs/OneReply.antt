@@ -5,21 +5,18 @@ use Rattle.clf_syntax.specs.TypeTree.{PlainType}
 use Rattle.clf_sig.specs.Entry.{PlainEntry, PlainSignature, place_of}
 use Rattle.clf_sig.specs.Core.{PlainCore, declares, queries, traces, equates, checks}
 use Rattle.clf_rules.specs.Refusal.{Cause}
-use Rattle.clf_check.proofs.InReach.{object_in_reach}
-use Rattle.clf_check.proofs.OneAnswer.{refusal_is_one}
 use Rattle.celf_surface.specs.Surface.{WrittenItem}
 use Rattle.celf_sugar.specs.PlainTree.{DesugaredItem}
 use Rattle.celf_sugar.specs.Sugar.{desugared}
 use Rattle.celf_explicit.specs.Explicit.{explicit}
 use Rattle.celf_reading.specs.Bare.{IsBareSignature}
-use Rattle.celf_reading.proofs.Bare.{without_indices-bare}
-use Rattle.celf_reading.proofs.WithinReach.{simple-signature}
+use Rattle.celf_reading.proofs.WellFormed.{bare-signature}
 use Rattle.celf_replies.specs.Reply.{PlainWhy, duplicate, full, unknown_name, kernel, PlainRefusal, PlainReply, refused}
 use Rattle.celf_run.specs.declared.options.Options.{Options}
 use Rattle.celf_run.specs.Source.{Task, written, faulty}
 use Rattle.celf_run.specs.Allowed.{Held, holding, NameBarred, is_duplicate, is_full, NamePasses, Barred, by_name, by_unknown, Passes, HasCore, is_explicit, IsExplained, in_object, Declined, by_rules, not_explicit, not_bare, Fits, accepted, typed, PlainAllowed, barred, declined, answered, Allowed, at_fault, sugar_fault, plainly, sugar_refusal}
 use Rattle.celf_run.specs.Laws.{ReplyIsOne}
-use Rattle.celf_run.proofs.Cores.{explicit-read}
+use Rattle.celf_run.proofs.Closed.{closed-decided}
 
 -- what stands in the same option
 some-one : {A : Type 0} (o : Option A) (x y : A) → o ≡ Some x → o ≡ Some y → x ≡ y
@@ -47,23 +44,22 @@ passes-free : (sig : PlainSignature) (item : DesugaredItem) (r : PlainRefusal) �
 passes-free sig item r p (by_name x) = p.name _ x
 passes-free sig item r p (by_unknown {name = name} q e) = not-both _ name p.known e
 
-explained-one : (sig : PlainSignature) (item : DesugaredItem) (core : PlainCore) (path other : List ℕ) (cause because : Cause) → IsBareSignature sig → explicit sig item ≡ Some core
+explained-one : (sig : PlainSignature) (core : PlainCore) (path other : List ℕ) (cause because : Cause) → IsBareSignature sig
     → IsExplained sig core path cause → IsExplained sig core other because → kernel path cause ≡ kernel other because
-explained-one sig item (checks n a) path other cause because b h (in_object {path = p} f none x) (in_object {path = q} g never y) =
-    let reach = explicit-read sig item.body (checks n a) b h in
-    let one = refusal_is_one sig [] [] n a p q cause because (object_in_reach sig [] [] n a refl refl (simple-signature sig b) reach.0 (without_indices-bare sig a reach.1)) x y in
+explained-one sig (checks n a) path other cause because b (in_object {path = p} f none x) (in_object {path = q} g never y) =
+    let one = (closed-decided sig n a (bare-signature sig b) f).one p q cause because x y in
     let path_is : p ≡ q = one.0 in
     let cause_is : cause ≡ because = one.1 in
     rw (path_is, cause_is) refl
-explained-one sig item (declares n e) path other cause because b h x y = elim x [ ]
-explained-one sig item (queries a) path other cause because b h x y = elim x [ ]
-explained-one sig item (traces t) path other cause because b h x y = elim x [ ]
-explained-one sig item (equates n o a) path other cause because b h x y = elim x [ ]
+explained-one sig (declares n e) path other cause because b x y = elim x [ ]
+explained-one sig (queries a) path other cause because b x y = elim x [ ]
+explained-one sig (traces t) path other cause because b x y = elim x [ ]
+explained-one sig (equates n o a) path other cause because b x y = elim x [ ]
 
 declined-one : (sig : PlainSignature) (item : DesugaredItem) (why because : PlainWhy) → IsBareSignature sig → Declined sig item why → Declined sig item because → why ≡ because
 declined-one sig item why because b (by_rules {core = core} {path = path} {cause = cause} (is_explicit h) x) (by_rules {core = core'} {path = path'} {cause = cause'} (is_explicit k) y) =
     let same = some-one _ core' core k h in
-    explained-one sig item core path path' cause cause' b h x (subst (λ (c : PlainCore). IsExplained sig c path' cause') same y)
+    explained-one sig core path path' cause cause' b x (subst (λ (c : PlainCore). IsExplained sig c path' cause') same y)
 declined-one sig item why because b (by_rules {core = core} (is_explicit h) x) (not_explicit e) = absurd (not-both _ core e h)
 declined-one sig item why because b (not_explicit e) (by_rules {core = core} (is_explicit h) x) = absurd (not-both _ core e h)
 declined-one sig item why because b (not_explicit e) (not_explicit f) = refl

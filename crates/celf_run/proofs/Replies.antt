@@ -28,7 +28,7 @@ fits-reads_back options held new item (declares name e) (entry k) b h (accepted 
     (name, e, refl, subst (λ (l : List ℕ). Reads l held.signature name e) (sym (entry-line held.signature name e read.1)) back)
 fits-reads_back options held new item (checks o a) (checked o' a') b h (typed formed has) n =
     let read = explicit-read held.signature item.body (checks o a) b h in
-    checks_read_back held.signature o a b read.1 n has
+    checks_read_back held.signature o a b read n has
 fits-reads_back options held new item (declares name e) (checked o a) b h x n = elim x [ ]
 fits-reads_back options held new item (declares name e) (refused r) b h x n = elim x [ ]
 fits-reads_back options held new item (queries a) reply b h x n = elim x [ ]

@@ -13,7 +13,6 @@ use Rattle.clf_syntax.specs.Wide.{IsWide, IsWant}
 use Rattle.clf_kernel.specs.Answers.{plain_cause}
 use Rattle.clf_rules.specs.Typing.{HasType}
 use Rattle.clf_rules.specs.Explained.{ExplainedAt}
-use Rattle.clf_rules.specs.Reach.{without_monads}
 use Rattle.clf_rules.specs.Refusal.{Cause}
 use Rattle.celf_sugar.specs.PlainTree.{DesugaredItem}
 use Rattle.celf_reading.specs.Bare.{IsBareType, IsBareEntry}
@@ -33,13 +32,13 @@ NameVerdict sig item (Some why) = NameBarred sig item why
 abbrev pub MayBeDeclared : DesugaredItem → Type 0
 MayBeDeclared item = (name : List ℕ) → declared_name item.body ≡ Some name → is_declarable name ≡ true
 
--- A core of the kinds that are answered, with its parts within reach; a declared name is new, and there is room for it.
+-- A core of the kinds that are answered, with its type or kind within reach; a declared name is new, and there is room for it.
 abbrev pub IsWithinReach : PlainSignature → PlainCore → Type 0
 IsWithinReach sig (declares n e) = (place_of n sig ≡ None) × (length sig ≢ room) × (is_declarable n ≡ true) × IsBareEntry sig e
 IsWithinReach sig (queries a) = ⊥
 IsWithinReach sig (traces t) = ⊥
 IsWithinReach sig (equates n o a) = ⊥
-IsWithinReach sig (checks n a) = (without_monads n ≡ true) × IsBareType sig a
+IsWithinReach sig (checks n a) = IsBareType sig a
 
 -- the refusal of an item that begins at a byte, by the rules
 abbrev pub refused_by_rules : ℕ → List ℕ → Cause → PlainReply

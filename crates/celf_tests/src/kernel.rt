@@ -1,44 +1,19 @@
 //! The call of the kernel that the program does not make. Those that it makes are tried by checks, as files in tests/.
 ghost use Rattle.std.specs.Prelude.{◌≡◌};
 ghost use Rattle.clf_sig.specs.Signature.{plain_entry, plain_signature};
-ghost use Rattle.clf_rules.specs.Reach.{SignatureInReach, ClassInReach};
+ghost use Rattle.clf_rules.specs.WellFormed.{WellFormedSignature};
 
 use crate::trees::{atom, constant, family, function};
 use clf_kernel::{Cause, Refusal, check_entry};
 use clf_sig::{Entry, Signature};
-use clf_syntax::{Head, Mode, OrWide};
+use clf_syntax::{Head, Mode, OrWide, Ty};
 use std::alloc::Global;
 use std::process::Abort;
 use std::test::Fail;
 
-/// The signature with one entry more.
-#[tactic(auto, using(crate::proofs::SimpleSignatures::simple_more))]
-fn declared(rt: &impl Abort, sig: Signature, name: &str, entry: Entry) -> Signature
-    requires signature { SignatureInReach (plain_signature sig) }
-    requires class { ClassInReach (plain_entry entry).class }
-    ensures { SignatureInReach (plain_signature result) }
-{
-    let mut sig = sig;
-    match sig.add(name, entry) {
-        Ok(_) => sig,
-        Err(_fault) => panic!(rt; "not added"),
-    }
-}
-
-/// `a : type. b : type. z : a.`
-fn signature(rt: &impl Abort, alloc: Global) -> Signature
-    ensures { SignatureInReach (plain_signature result) }
-{
-    let sig = declared(rt, Signature::new(alloc), "a", family(alloc));
-    let sig = declared(rt, sig, "b", family(alloc));
-    declared(rt, sig, "z", constant(atom(alloc, 0)))
-}
-
 /// The answer about an entry none of whose arguments is implicit.
-#[tactic(auto, using(clf_kernel::proofs::InReach::reach_laws))]
 fn checked(alloc: Global, sig: &Signature, entry: Entry) -> Result<(), OrWide<Refusal>>
-    requires signature { SignatureInReach (plain_signature sig.now) }
-    requires class { ClassInReach (plain_entry entry).class }
+    requires signature { WellFormedSignature (plain_signature sig.now) }
     requires implicit { (plain_entry entry).implicit ≡ 0 }
 {
     let answer = check_entry(alloc, sig, &entry);
@@ -53,14 +28,14 @@ fn assert_accepted(rt: &impl Abort, answer: Result<(), OrWide<Refusal>>) {
     assert!(rt; accepted);
 }
 
-/// Asserts that the constant `z` is refused as the family on the right of a function.
+/// Asserts that the family on the right of a function is refused, which the signature does not have.
 fn assert_unknown(rt: &impl Abort, refusal: &Refusal) {
     assert!(rt; refusal.path.as_slice() == [1].as_slice());
     assert!(rt;
         matches!(
             refusal.cause,
             Cause::UnknownHead {
-                head: Head::Const(2)
+                head: Head::Const(0)
             }
         )
     );
@@ -81,10 +56,10 @@ fn assert_refused(rt: &impl Abort, answer: Result<(), OrWide<Refusal>>) {
 #[test]
 fn entries_are_checked(rt: HostRuntime) -> Result<(), Fail> {
     let alloc = rt.alloc();
-    // `b -o 2`, where 2 is the constant `z`
-    let ty = function(alloc, Mode::Linear, atom(alloc, 1), atom(alloc, 2))?;
-    let sig = signature(&rt, alloc);
+    let sig = Signature::new(alloc);
     assert_accepted(&rt, checked(alloc, &sig, family(alloc)));
+    // `<T> -o a`, where nothing is declared
+    let ty = function(alloc, Mode::Linear, Ty::Top, atom(alloc, 0))?;
     assert_refused(&rt, checked(alloc, &sig, constant(ty)));
     Ok(())
 }

@@ -10,42 +10,43 @@ use Rattle.use_contexts.specs.Context.{Context}
 use Rattle.use_contexts.specs.Holding.{Holding}
 use Rattle.clf_sig.specs.Entry.{PlainSignature}
 use Rattle.clf_rules.specs.Refusal.{eliminations}
-use Rattle.clf_check.specs.Outcome.{Outcome, passed, refused, and_then}
+use Rattle.clf_decision.specs.Outcome.{Outcome, passed, refused, and_then}
 use Rattle.use_contexts.specs.Rows.{Leftover}
-use Rattle.clf_check.specs.Checking.{staying, head_left, inferred}
+use Rattle.clf_decision.specs.Checking.{head_left, inferred}
+use Rattle.clf_decision.specs.Hereditary.{hereditary}
 use Rattle.clf_kernel.specs.declared.refusal.Stop.{Stop}
 use Rattle.clf_kernel.specs.Spine.{elimination_left, spine_left}
 use Rattle.clf_kernel.specs.Stops.{Stops}
 use Rattle.clf_kernel.proofs.Stops.{then_stops}
 
-then_passed : {A : Type 0} (w : Outcome A) → and_then w passed ≡ w
+pub then_passed : {A : Type 0} (w : Outcome A) → and_then w passed ≡ w
 then_passed (passed a) = refl
 then_passed (refused path cause) = refl
 
-then_then : {A B C : Type 0} (w : Outcome A) (f : A → Outcome B) (k : B → Outcome C) → and_then (and_then w f) k ≡ and_then w (λ x. and_then (f x) k)
+pub then_then : {A B C : Type 0} (w : Outcome A) (f : A → Outcome B) (k : B → Outcome C) → and_then (and_then w f) k ≡ and_then w (λ x. and_then (f x) k)
 then_then (passed a) f k = refl
 then_then (refused path cause) f k = refl
 
 module _ (sig : PlainSignature) (g : Context) (h : Holding) where
-  spine_inferred : (es : List PlainElimination) (r : PlainNeutral) → inferred staying sig g h (spine_on es r) ≡ and_then (inferred staying sig g h r) (spine_left staying sig g (eliminations r) es)
-  spine_inferred [] r = sym (then_passed (inferred staying sig g h r))
-  spine_inferred (arg m n ∷ es) r = spine_inferred es _ ∙ then_then (inferred staying sig g h r) (elimination_left staying sig g (eliminations r) (arg m n)) (spine_left staying sig g (suc (eliminations r)) es)
-  spine_inferred (first ∷ es) r = spine_inferred es _ ∙ then_then (inferred staying sig g h r) (elimination_left staying sig g (eliminations r) first) (spine_left staying sig g (suc (eliminations r)) es)
-  spine_inferred (second ∷ es) r = spine_inferred es _ ∙ then_then (inferred staying sig g h r) (elimination_left staying sig g (eliminations r) second) (spine_left staying sig g (suc (eliminations r)) es)
+  spine_inferred : (es : List PlainElimination) (r : PlainNeutral) → inferred hereditary sig g h (spine_on es r) ≡ and_then (inferred hereditary sig g h r) (spine_left hereditary sig g (eliminations r) es)
+  spine_inferred [] r = sym (then_passed (inferred hereditary sig g h r))
+  spine_inferred (arg m n ∷ es) r = spine_inferred es _ ∙ then_then (inferred hereditary sig g h r) (elimination_left hereditary sig g (eliminations r) (arg m n)) (spine_left hereditary sig g (suc (eliminations r)) es)
+  spine_inferred (first ∷ es) r = spine_inferred es _ ∙ then_then (inferred hereditary sig g h r) (elimination_left hereditary sig g (eliminations r) first) (spine_left hereditary sig g (suc (eliminations r)) es)
+  spine_inferred (second ∷ es) r = spine_inferred es _ ∙ then_then (inferred hereditary sig g h r) (elimination_left hereditary sig g (eliminations r) second) (spine_left hereditary sig g (suc (eliminations r)) es)
 
-  pub neutral_inferred : (n : Neutral) → inferred staying sig g h (plain_neutral n) ≡ and_then (head_left sig g h n.head) (spine_left staying sig g 0 (map plain_elim n.spine))
-  neutral_inferred n = ap (inferred staying sig g h) (plain-neutral n) ∙ spine_inferred (map plain_elim n.spine) (head_alone n.head)
+  pub neutral_inferred : (n : Neutral) → inferred hereditary sig g h (plain_neutral n) ≡ and_then (head_left sig g h n.head) (spine_left hereditary sig g 0 (map plain_elim n.spine))
+  neutral_inferred n = ap (inferred hereditary sig g h) (plain-neutral n) ∙ spine_inferred (map plain_elim n.spine) (head_alone n.head)
 
 -- ---- one step along a spine
 module _ (sig : PlainSignature) (g : Context) (spine : List Elim) (i : ℕ) (x : Elim) (l : i < length spine) (e : x ≡ get_or spine i x) where
   from_here : map plain_elim (drop i spine) ≡ plain_elim x ∷ map plain_elim (drop (suc i) spine)
   from_here = ap (map plain_elim) (drop-cons spine i x l ∙ ap (λ y. y ∷ drop (suc i) spine) (sym e))
 
-  pub spine_more : (f k : PlainType × Leftover) → elimination_left staying sig g i (plain_elim x) f ≡ passed k
-      → spine_left staying sig g i (map plain_elim (drop i spine)) f ≡ spine_left staying sig g (i + 1) (map plain_elim (drop (i + 1) spine)) k
-  spine_more f k p = rw (from_here, add-one) (ap (λ w. and_then w (spine_left staying sig g (suc i) (map plain_elim (drop (suc i) spine)))) p)
+  pub spine_more : (f k : PlainType × Leftover) → elimination_left hereditary sig g i (plain_elim x) f ≡ passed k
+      → spine_left hereditary sig g i (map plain_elim (drop i spine)) f ≡ spine_left hereditary sig g (i + 1) (map plain_elim (drop (i + 1) spine)) k
+  spine_more f k p = rw (from_here, add-one) (ap (λ w. and_then w (spine_left hereditary sig g (suc i) (map plain_elim (drop (suc i) spine)))) p)
 
-  pub spine_stops : (f : PlainType × Leftover) (s : Stop) → Stops (elimination_left staying sig g i (plain_elim x) f) s → Stops (spine_left staying sig g i (map plain_elim (drop i spine)) f) s
-  spine_stops f s p = subst (λ es. Stops (spine_left staying sig g i es f) s) (sym from_here) (then_stops (elimination_left staying sig g i (plain_elim x) f) (spine_left staying sig g (suc i) (map plain_elim (drop (suc i) spine))) s p)
+  pub spine_stops : (f : PlainType × Leftover) (s : Stop) → Stops (elimination_left hereditary sig g i (plain_elim x) f) s → Stops (spine_left hereditary sig g i (map plain_elim (drop i spine)) f) s
+  spine_stops f s p = subst (λ es. Stops (spine_left hereditary sig g i es f) s) (sym from_here) (then_stops (elimination_left hereditary sig g i (plain_elim x) f) (spine_left hereditary sig g (suc i) (map plain_elim (drop (suc i) spine))) s p)
 
 pub ruleset spine_laws = (neutral_inferred)

@@ -5,8 +5,8 @@
 use Rattle.std.specs.Prelude.{◌≡◌, Result, Ok, Err, Some, None}
 use Rattle.clf_syntax.specs.declared.fault.OrWide.{OrWide}
 use Rattle.clf_syntax.specs.declared.fault.OrWide.TheVariants.{Fault, NoMemory, TooFar}
-use Rattle.clf_syntax.specs.Tree.{PlainObject, PlainNeutral}
-use Rattle.clf_syntax.specs.TypeTree.{PlainType}
+use Rattle.clf_syntax.specs.Tree.{PlainObject, monadic, PlainNeutral, PlainExpression}
+use Rattle.clf_syntax.specs.TypeTree.{PlainType, monad, PlainTelescope, PlainKind}
 use Rattle.use_contexts.specs.declared.join.Left.{Left}
 use Rattle.use_contexts.specs.Context.{Context, modes}
 use Rattle.use_contexts.specs.Holding.{Holding}
@@ -14,10 +14,10 @@ use Rattle.use_contexts.specs.Rows.{IsSubholding, Agrees, Leftover}
 use Rattle.clf_sig.specs.Entry.{PlainSignature, PlainEntry}
 use Rattle.clf_kernel.specs.declared.refusal.Refusal.{Refusal}
 use Rattle.clf_kernel.specs.declared.refusal.Inferred.{Inferred}
-use Rattle.clf_rules.specs.Typing.{HasType, Synthesizes}
-use Rattle.clf_check.specs.Laws.{InferredIs}
-use Rattle.clf_rules.specs.WellFormed.{WellFormedEntry}
-use Rattle.clf_rules.specs.Explained.{ExplainedAt, ExplainedInNeutral, ExplainedInClass}
+use Rattle.clf_rules.specs.Typing.{HasType, Synthesizes, ExpressionHasType}
+use Rattle.clf_decision.specs.Laws.{InferredIs}
+use Rattle.clf_rules.specs.WellFormed.{WellFormedType, WellFormedKind, WellFormedEntry}
+use Rattle.clf_rules.specs.Explained.{ExplainedAt, ExplainedInNeutral, ExplainedInType, ExplainedInKind, ExplainedInClass}
 use Rattle.clf_kernel.specs.Answers.{plain_left, plain_inferred, plain_cause, IsWide}
 
 -- What is left stands for exactly the parts of the holding under which the object has the type. A refusal comes exactly where there is no
@@ -42,3 +42,24 @@ ChecksEntry sig e (Ok x) = WellFormedEntry sig e
 ChecksEntry sig e (Err (Fault r)) = (WellFormedEntry sig e → ⊥) × ExplainedInClass sig e.class r.path.items (plain_cause r.cause)
 ChecksEntry sig e (Err NoMemory) = Unit {0}
 ChecksEntry sig e (Err (TooFar w)) = IsWide w
+
+-- A type is accepted exactly where it is well formed. A refusal's cause is that of the part at its path.
+abbrev pub ChecksType : PlainSignature → Context → PlainType → Result (Unit {0}) (OrWide Refusal) → Type 0
+ChecksType sig g a (Ok x) = WellFormedType sig g a
+ChecksType sig g a (Err (Fault r)) = (WellFormedType sig g a → ⊥) × ExplainedInType sig g a r.path.items (plain_cause r.cause)
+ChecksType sig g a (Err NoMemory) = Unit {0}
+ChecksType sig g a (Err (TooFar w)) = IsWide w
+
+-- So it is with a kind.
+abbrev pub ChecksKind : PlainSignature → Context → PlainKind → Result (Unit {0}) (OrWide Refusal) → Type 0
+ChecksKind sig g k (Ok x) = WellFormedKind sig g k
+ChecksKind sig g k (Err (Fault r)) = (WellFormedKind sig g k → ⊥) × ExplainedInKind sig g k r.path.items (plain_cause r.cause)
+ChecksKind sig g k (Err NoMemory) = Unit {0}
+ChecksKind sig g k (Err (TooFar w)) = IsWide w
+
+-- And with an expression: what is left stands for exactly the parts of the holding under which its result has the telescope.
+abbrev pub ChecksExpression : PlainSignature → Context → Holding → PlainExpression → PlainTelescope → Result Left (OrWide Refusal) → Type 0
+ChecksExpression sig g h e s (Ok left) = Agrees (modes g) h (Some (plain_left left)) (λ p. ExpressionHasType sig g p e s)
+ChecksExpression sig g h e s (Err (Fault r)) = Agrees (modes g) h None (λ p. ExpressionHasType sig g p e s) × ExplainedAt sig g h (monadic e) (monad s) r.path.items (plain_cause r.cause)
+ChecksExpression sig g h e s (Err NoMemory) = Unit {0}
+ChecksExpression sig g h e s (Err (TooFar w)) = IsWide w

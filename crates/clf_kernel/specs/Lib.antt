@@ -20,3 +20,6 @@ pub mod Answers
 pub mod Exact
 pub mod Spine
 pub mod Stops
+pub mod Trail
+pub mod TupleEntries
+pub mod Indices

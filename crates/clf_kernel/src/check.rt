@@ -1,26 +1,35 @@
 //! The check of objects, and the types of neutrals, over one context that grows under lambdas.
-ghost use Rattle.std.specs.Prelude.{◌≡◌, ◌∷◌, ◌<◌, ◌^◌, true, map, IfOk, OnOk, length};
+ghost use Rattle.std.specs.Prelude.{◌≡◌, ◌∷◌, ◌+◌, ◌<◌, ◌^◌, true, map, IfOk, OnOk, length};
 ghost use Rattle.clf_syntax.specs.declared.tree.Mode.TheVariants.{Persistent, Affine, Linear};
-ghost use Rattle.clf_syntax.specs.Plain.{plain_obj, plain_elim, plain_neutral};
-ghost use Rattle.clf_syntax.specs.PlainTypes.{plain_ty};
+ghost use Rattle.clf_syntax.specs.Plain.{plain_obj, plain_elim, plain_neutral, plain_expr, plain_step, plain_entry};
+ghost use Rattle.clf_syntax.specs.PlainTypes.{plain_ty, plain_tele, plain_tele_entry};
+ghost use Rattle.clf_syntax.specs.Tree.{tuple_of};
+ghost use Rattle.clf_syntax.specs.TypeTree.{telescope_of};
 ghost use Rattle.clf_sig.specs.Signature.{plain_signature};
 ghost use Rattle.use_contexts.specs.Context.{modes};
 ghost use Rattle.use_contexts.specs.Marks.{context, marks};
 ghost use Rattle.use_contexts.specs.Rows.{newest_difference};
 ghost use Rattle.use_contexts.specs.Holding.{allowed};
-ghost use Rattle.clf_check.specs.Outcome.{and_then, at_part};
-ghost use Rattle.clf_check.specs.Checking.{staying, closed_scope, lambda_left, joined_left, atomic_left, argument_left, checked, inferred};
+ghost use Rattle.clf_decision.specs.Outcome.{and_then, at_part};
+ghost use Rattle.clf_decision.specs.Checking.{closed_scope, lambda_left, joined_left, atomic_left, argument_left, monadic_left, checked, inferred, checked_expression, checked_tuple};
+ghost use Rattle.clf_decision.specs.Hereditary.{hereditary};
 ghost use Rattle.clf_kernel.specs.Spine.{argument_used, elimination_left, spine_left};
 ghost use Rattle.clf_kernel.specs.Answers.{plain_left, plain_inferred};
 ghost use Rattle.clf_kernel.specs.Stops.{Gives};
+ghost use Rattle.clf_kernel.specs.Trail.{IsGrown, OpensStep, OpensSteps, opened_by, opened_width};
+ghost use Rattle.clf_kernel.specs.TupleEntries.{plain_rest, entry_behind};
 
-use crate::head::infer_head;
-use crate::refusal::{Cause, Inferred, Stop, from_part, not_function, not_pair, refuse, refuse_at};
-use crate::rows::{linear_of, persistent_alone, without_linear};
-use crate::scope::{close_scope, enter, leave};
-use crate::steps::{check_atomic, check_unit, first_part, is_same, join, second_part};
+use crate::head::{infer_head, raised_telescope};
+use crate::parts::{check_atomic, check_unit, first_part, is_same, join, second_part};
+use crate::putting::{put_in_entries, put_in_range};
+use crate::refusal::{AtType, Cause, Inferred, Stop, from_part, refuse, refuse_at, refuse_type};
+use crate::rows::{allowed_of, left_outside, slack_of};
+use crate::scope::{close_scope, enter, leave, leave_to};
+use crate::trail::{Entered, Trail, close_steps, enter_step};
+use crate::tuple::{Rest, too_long, too_short};
 use clf_sig::Signature;
-use clf_syntax::{Elim, Mode, Neutral, Obj, Ty};
+use clf_syntax::{Elim, Expr, Mode, Neutral, Obj, Step, Tele, TeleEntry, TupleEntry, Ty};
+use sqlite_items::Items;
 use std::alloc::Global;
 use use_contexts::{Ctx, Holding, Left};
 
@@ -37,7 +46,7 @@ pub fn check(
 ) -> Result<Left, Stop>
     requires marked { length (marks row) ≡ length (context ctx.old) }
     requires numbered { length (context ctx.old) < 2 ^ 32 }
-    ensures outcome { Gives plain_left (checked staying (plain_signature sig.now) (context ctx.old) (marks row) (plain_obj obj.now) (plain_ty ty.now)) result }
+    ensures outcome { Gives plain_left (checked hereditary (plain_signature sig.now) (context ctx.old) (marks row) (plain_obj obj.now) (plain_ty ty.now)) result }
     ensures marked { IfOk result (λ left. length (marks left.row) ≡ length (context ctx.old)) }
     ensures kept { OnOk result (ctx.new ≡ ctx.old) }
 {
@@ -52,11 +61,12 @@ pub fn check(
                 check_right(alloc, right.get(), second.get(), sig, ctx, row, one)
             }
             Ty::Fam { .. } | Ty::Fun { .. } | Ty::Top | Ty::Monad { .. } => {
-                Err(not_pair(alloc, ty))
+                Err(refuse_type(alloc, AtType::NotPair, ty))
             }
         },
         Obj::Unit => check_unit(alloc, ty, row),
-        Obj::Mon { .. } | Obj::Hole => Err(refuse(alloc, Cause::NotClosed)),
+        Obj::Mon { expr } => check_monadic(alloc, expr.get(), ty, sig, ctx, row),
+        Obj::Hole => Err(refuse(alloc, Cause::NotClosed)),
         Obj::At { neutral } => check_neutral(alloc, neutral, ty, sig, ctx, row),
     }
 }
@@ -74,12 +84,12 @@ fn check_neutral(
 ) -> Result<Left, Stop>
     requires marked { length (marks row) ≡ length (context ctx.old) }
     requires numbered { length (context ctx.old) < 2 ^ 32 }
-    ensures outcome { Gives plain_left (and_then (inferred staying (plain_signature sig.now) (context ctx.old) (marks row) (plain_neutral neutral.now)) (atomic_left (plain_ty ty.now))) result }
+    ensures outcome { Gives plain_left (and_then (inferred hereditary (plain_signature sig.now) (context ctx.old) (marks row) (plain_neutral neutral.now)) (atomic_left (context ctx.old) (plain_ty ty.now))) result }
     ensures marked { IfOk result (λ left. length (marks left.row) ≡ length (context ctx.old)) }
     ensures kept { OnOk result (ctx.new ≡ ctx.old) }
 {
     let found = infer_neutral(alloc, neutral, sig, ctx, row)?;
-    check_atomic(alloc, ty, found)
+    check_atomic(alloc, ctx, ty, found)
 }
 
 /// What the left part of a pair leaves of a row from which the right part starts too.
@@ -95,7 +105,7 @@ fn check_left(
 ) -> Result<Left, Stop>
     requires marked { length (marks row.now) ≡ length (context ctx.old) }
     requires numbered { length (context ctx.old) < 2 ^ 32 }
-    ensures outcome { Gives plain_left (at_part 0 (checked staying (plain_signature sig.now) (context ctx.old) (marks row.now) (plain_obj obj.now) (plain_ty ty.now))) result }
+    ensures outcome { Gives plain_left (at_part 0 (checked hereditary (plain_signature sig.now) (context ctx.old) (marks row.now) (plain_obj obj.now) (plain_ty ty.now))) result }
     ensures marked { IfOk result (λ left. length (marks left.row) ≡ length (context ctx.old)) }
     ensures kept { OnOk result (ctx.new ≡ ctx.old) }
 {
@@ -118,7 +128,7 @@ fn check_right(
     requires marked { length (marks row) ≡ length (context ctx.old) }
     requires numbered { length (context ctx.old) < 2 ^ 32 }
     requires first_marked { length (marks first.row) ≡ length (context ctx.old) }
-    ensures outcome { Gives plain_left (and_then (at_part 1 (checked staying (plain_signature sig.now) (context ctx.old) (marks row) (plain_obj obj.now) (plain_ty ty.now))) (λ y. joined_left (context ctx.old) (plain_left first) y (newest_difference (modes (context ctx.old)) (marks first.row) first.slack y.0 y.1))) result }
+    ensures outcome { Gives plain_left (and_then (at_part 1 (checked hereditary (plain_signature sig.now) (context ctx.old) (marks row) (plain_obj obj.now) (plain_ty ty.now))) (λ y. joined_left (context ctx.old) (plain_left first) y (newest_difference (modes (context ctx.old)) (marks first.row) first.slack y.0 y.1))) result }
     ensures marked { IfOk result (λ left. length (marks left.row) ≡ length (context ctx.old)) }
     ensures kept { OnOk result (ctx.new ≡ ctx.old) }
 {
@@ -128,7 +138,7 @@ fn check_right(
 
 /// The check of the part with this number: a refusal is at the part.
 #[cycle(check)]
-fn check_part(
+pub fn check_part(
     alloc: Global,
     place: usize,
     obj: &Obj,
@@ -139,7 +149,7 @@ fn check_part(
 ) -> Result<Left, Stop>
     requires marked { length (marks row) ≡ length (context ctx.old) }
     requires numbered { length (context ctx.old) < 2 ^ 32 }
-    ensures outcome { Gives plain_left (at_part place (checked staying (plain_signature sig.now) (context ctx.old) (marks row) (plain_obj obj.now) (plain_ty ty.now))) result }
+    ensures outcome { Gives plain_left (at_part place (checked hereditary (plain_signature sig.now) (context ctx.old) (marks row) (plain_obj obj.now) (plain_ty ty.now))) result }
     ensures marked { IfOk result (λ left. length (marks left.row) ≡ length (context ctx.old)) }
     ensures kept { OnOk result (ctx.new ≡ ctx.old) }
 {
@@ -162,7 +172,7 @@ fn check_lambda(
 ) -> Result<Left, Stop>
     requires marked { length (marks row) ≡ length (context ctx.old) }
     requires numbered { length (context ctx.old) < 2 ^ 32 }
-    ensures outcome { Gives plain_left (lambda_left mode (context ctx.old) (plain_ty ty.now) (λ a c. checked staying (plain_signature sig.now) ((mode, a) ∷ context ctx.old) (true ∷ marks row) (plain_obj body.now) c)) result }
+    ensures outcome { Gives plain_left (lambda_left mode (context ctx.old) (plain_ty ty.now) (λ a c. checked hereditary (plain_signature sig.now) ((mode, a) ∷ context ctx.old) (true ∷ marks row) (plain_obj body.now) c)) result }
     ensures marked { IfOk result (λ left. length (marks left.row) ≡ length (context ctx.old)) }
     ensures kept { OnOk result (ctx.new ≡ ctx.old) }
 {
@@ -184,7 +194,7 @@ fn check_lambda(
             check_body(alloc, mode, body, dom.get(), cod.get(), sig, ctx, row)
         }
         Ty::Fam { .. } | Ty::With { .. } | Ty::Top | Ty::Monad { .. } => {
-            Err(not_function(alloc, ty))
+            Err(refuse_type(alloc, AtType::NotFunction, ty))
         }
     }
 }
@@ -204,7 +214,7 @@ fn check_body(
 ) -> Result<Left, Stop>
     requires marked { length (marks row) ≡ length (context ctx.old) }
     requires numbered { length (context ctx.old) < 2 ^ 32 }
-    ensures outcome { Gives plain_left (and_then (at_part 0 (checked staying (plain_signature sig.now) ((mode, plain_ty dom.now) ∷ context ctx.old) (true ∷ marks row) (plain_obj body.now) (plain_ty cod.now))) (closed_scope mode (context ctx.old))) result }
+    ensures outcome { Gives plain_left (and_then (at_part 0 (checked hereditary (plain_signature sig.now) ((mode, plain_ty dom.now) ∷ context ctx.old) (true ∷ marks row) (plain_obj body.now) (plain_ty cod.now))) (closed_scope mode (context ctx.old))) result }
     ensures marked { IfOk result (λ left. length (marks left.row) ≡ length (context ctx.old)) }
     ensures kept { OnOk result (ctx.new ≡ ctx.old) }
 {
@@ -226,7 +236,7 @@ pub fn infer_neutral(
 ) -> Result<Inferred, Stop>
     requires marked { length (marks row) ≡ length (context ctx.old) }
     requires numbered { length (context ctx.old) < 2 ^ 32 }
-    ensures outcome { Gives plain_inferred (inferred staying (plain_signature sig.now) (context ctx.old) (marks row) (plain_neutral neutral.now)) result }
+    ensures outcome { Gives plain_inferred (inferred hereditary (plain_signature sig.now) (context ctx.old) (marks row) (plain_neutral neutral.now)) result }
     ensures marked { IfOk result (λ found. length (marks found.left.row) ≡ length (context ctx.old)) }
     ensures kept { OnOk result (ctx.new ≡ ctx.old) }
 {
@@ -246,7 +256,7 @@ fn infer_spine(
 ) -> Result<Inferred, Stop>
     requires marked { length (marks found.left.row) ≡ length (context ctx.old) }
     requires numbered { length (context ctx.old) < 2 ^ 32 }
-    ensures outcome { Gives plain_inferred (spine_left staying (plain_signature sig.now) (context ctx.old) 0 (map plain_elim spine.now) (plain_inferred found)) result }
+    ensures outcome { Gives plain_inferred (spine_left hereditary (plain_signature sig.now) (context ctx.old) 0 (map plain_elim spine.now) (plain_inferred found)) result }
     ensures marked { IfOk result (λ found. length (marks found.left.row) ≡ length (context ctx.old)) }
     ensures kept { OnOk result (ctx.new ≡ ctx.old) }
 {
@@ -272,7 +282,7 @@ fn eliminate(
 ) -> Result<Inferred, Stop>
     requires marked { length (marks found.left.row) ≡ length (context ctx.old) }
     requires numbered { length (context ctx.old) < 2 ^ 32 }
-    ensures outcome { Gives plain_inferred (elimination_left staying (plain_signature sig.now) (context ctx.old) place (plain_elim act.now) (plain_inferred found)) result }
+    ensures outcome { Gives plain_inferred (elimination_left hereditary (plain_signature sig.now) (context ctx.old) place (plain_elim act.now) (plain_inferred found)) result }
     ensures marked { IfOk result (λ found. length (marks found.left.row) ≡ length (context ctx.old)) }
     ensures kept { OnOk result (ctx.new ≡ ctx.old) }
 {
@@ -297,7 +307,7 @@ fn put_argument(
 ) -> Result<Inferred, Stop>
     requires marked { length (marks found.left.row) ≡ length (context ctx.old) }
     requires numbered { length (context ctx.old) < 2 ^ 32 }
-    ensures outcome { Gives plain_inferred (argument_left staying mode (context ctx.old) (plain_obj obj.now) place (plain_inferred found) (λ row a. checked staying (plain_signature sig.now) (context ctx.old) row (plain_obj obj.now) a)) result }
+    ensures outcome { Gives plain_inferred (argument_left hereditary mode (context ctx.old) (plain_obj obj.now) place (plain_inferred found) (λ row a. checked hereditary (plain_signature sig.now) (context ctx.old) row (plain_obj obj.now) a)) result }
     ensures marked { IfOk result (λ found. length (marks found.left.row) ≡ length (context ctx.old)) }
     ensures kept { OnOk result (ctx.new ≡ ctx.old) }
 {
@@ -320,7 +330,7 @@ fn put_argument(
             }
             let left = check_argument(alloc, mode, obj, dom.get(), place, left, sig, ctx)?;
             Ok(Inferred {
-                ty: cod.into_inner(),
+                ty: put_in_range(alloc, obj, dom.get(), cod.get())?,
                 left,
             })
         }
@@ -345,108 +355,190 @@ fn check_argument(
 ) -> Result<Left, Stop>
     requires marked { length (marks left.row) ≡ length (context ctx.old) }
     requires numbered { length (context ctx.old) < 2 ^ 32 }
-    ensures outcome { Gives plain_left (argument_used mode (context ctx.old) place (plain_left left) (λ row. checked staying (plain_signature sig.now) (context ctx.old) row (plain_obj obj.now) (plain_ty ty.now))) result }
+    ensures outcome { Gives plain_left (argument_used mode (context ctx.old) place (plain_left left) (λ row. checked hereditary (plain_signature sig.now) (context ctx.old) row (plain_obj obj.now) (plain_ty ty.now))) result }
     ensures marked { IfOk result (λ left. length (marks left.row) ≡ length (context ctx.old)) }
     ensures kept { OnOk result (ctx.new ≡ ctx.old) }
 {
-    match mode {
-        Mode::Persistent => check_persistent(alloc, obj, ty, place, left, sig, ctx),
-        Mode::Affine => check_affine(alloc, obj, ty, place, left, sig, ctx),
-        Mode::Linear => check_linear(alloc, obj, ty, place, left, sig, ctx),
+    let start = allowed_of(alloc, mode, ctx, &left.row)?;
+    let used = check_part(alloc, place, obj, ty, sig, ctx, start)?;
+    Ok(Left {
+        row: left_outside(alloc, mode, ctx, left.row, used.row)?,
+        slack: left.slack || slack_of(mode, used.slack),
+    })
+}
+
+/// A monadic object stands at a monad.
+#[cycle(check)]
+#[tactic(auto, using(clf_syntax::specs::PlainTypes::plain_type_laws, crate::proofs::Stops::stop_laws))]
+fn check_monadic(
+    alloc: Global,
+    expr: &Expr,
+    ty: &Ty,
+    sig: &Signature,
+    ctx: &mut Ctx,
+    row: Holding,
+) -> Result<Left, Stop>
+    requires marked { length (marks row) ≡ length (context ctx.old) }
+    requires numbered { length (context ctx.old) < 2 ^ 32 }
+    ensures outcome { Gives plain_left (monadic_left (plain_ty ty.now) (λ s. checked_expression hereditary (plain_signature sig.now) (context ctx.old) (marks row) 0 (plain_expr expr.now) s)) result }
+    ensures marked { IfOk result (λ left. length (marks left.row) ≡ length (context ctx.old)) }
+    ensures kept { OnOk result (ctx.new ≡ ctx.old) }
+{
+    match ty {
+        Ty::Monad { tele } => check_expression(alloc, expr, tele, sig, ctx, row),
+        Ty::Fam { .. } | Ty::Fun { .. } | Ty::With { .. } | Ty::Top => {
+            Err(refuse_type(alloc, AtType::NotMonad, ty))
+        }
     }
 }
 
-/// A persistent argument uses persistent variables alone, so all is left.
+/// What the check of an expression against a telescope leaves of a row: forward along its steps, then its tuple, and back over the ends
+/// of the steps' scopes.
 #[cycle(check)]
-#[tactic(auto, using(crate::proofs::Stops::stop_laws))]
-fn check_persistent(
+#[tactic(auto, using(clf_syntax::specs::Plain::plain_laws, crate::proofs::Stops::stop_laws))]
+pub fn check_expression(
     alloc: Global,
-    obj: &Obj,
-    ty: &Ty,
-    place: usize,
-    left: Left,
+    expr: &Expr,
+    tele: &Tele,
     sig: &Signature,
     ctx: &mut Ctx,
+    row: Holding,
 ) -> Result<Left, Stop>
-    requires marked { length (marks left.row) ≡ length (context ctx.old) }
+    requires marked { length (marks row) ≡ length (context ctx.old) }
     requires numbered { length (context ctx.old) < 2 ^ 32 }
-    ensures outcome { Gives plain_left (argument_used Persistent (context ctx.old) place (plain_left left) (λ row. checked staying (plain_signature sig.now) (context ctx.old) row (plain_obj obj.now) (plain_ty ty.now))) result }
+    ensures outcome { Gives plain_left (checked_expression hereditary (plain_signature sig.now) (context ctx.old) (marks row) 0 (plain_expr expr.now) (plain_tele tele.now)) result }
     ensures marked { IfOk result (λ left. length (marks left.row) ≡ length (context ctx.old)) }
     ensures kept { OnOk result (ctx.new ≡ ctx.old) }
 {
-    let start = persistent_alone(alloc, ctx)?;
-    check_part(alloc, place, obj, ty, sig, ctx, start)?;
-    Ok(left)
+    let older = ctx.len();
+    let trail = open_steps(alloc, expr.steps.as_slice(), sig, ctx, row)?;
+    let types = raised_telescope(alloc, tele, (ctx.len() - older) as u32)?;
+    let steps = expr.steps.len();
+    let entries = expr.result.as_slice();
+    let left = check_tuple(alloc, steps, entries, types.entries, sig, ctx, trail.row)?;
+    leave_to(ctx, older);
+    close_steps(alloc, trail.opened.as_slice(), older, left)
 }
 
-/// An affine argument uses no linear variable, so all of those are left.
+/// What the steps of an expression open.
 #[cycle(check)]
 #[tactic(auto, using(crate::proofs::Stops::stop_laws))]
-fn check_affine(
+fn open_steps(
     alloc: Global,
-    obj: &Obj,
-    ty: &Ty,
-    place: usize,
-    left: Left,
+    steps: &[Step],
     sig: &Signature,
     ctx: &mut Ctx,
-) -> Result<Left, Stop>
-    requires marked { length (marks left.row) ≡ length (context ctx.old) }
+    row: Holding,
+) -> Result<Trail, Stop>
+    requires marked { length (marks row) ≡ length (context ctx.old) }
     requires numbered { length (context ctx.old) < 2 ^ 32 }
-    ensures outcome { Gives plain_left (argument_used Affine (context ctx.old) place (plain_left left) (λ row. checked staying (plain_signature sig.now) (context ctx.old) row (plain_obj obj.now) (plain_ty ty.now))) result }
-    ensures marked { IfOk result (λ left. length (marks left.row) ≡ length (context ctx.old)) }
-    ensures kept { OnOk result (ctx.new ≡ ctx.old) }
+    ensures outcome { OpensSteps hereditary (plain_signature sig.now) (map plain_step steps.now) (context ctx.old) (marks row) (context ctx.new) result }
+    ensures grown { OnOk result (IsGrown ctx.old ctx.new) }
+    ensures width { IfOk result (λ trail. length (context ctx.new) ≡ opened_width (opened_by trail.opened) + length (context ctx.old)) }
+    ensures marked { IfOk result (λ trail. length (marks trail.row) ≡ length (context ctx.new)) }
+    ensures numbered { OnOk result (length (context ctx.new) < 2 ^ 32) }
 {
-    let used = check_without_linear(alloc, obj, ty, place, &left.row, sig, ctx)?;
-    Ok(Left {
-        row: linear_of(alloc, ctx, &left.row, &used.row)?,
-        slack: left.slack,
-    })
+    let mut opened = Items::new(alloc);
+    let mut row = row;
+    let mut place = 0;
+    for step in steps {
+        let entered = open_step(alloc, place, step, sig, ctx, row)?;
+        row = entered.row;
+        opened.push(entered.opened)?;
+        place += 1;
+    }
+    Ok(Trail { row, opened })
 }
 
-/// What an argument leaves of a row without its linear entries.
+/// What one step opens.
 #[cycle(check)]
-#[tactic(auto, using(crate::proofs::Stops::stop_laws))]
-fn check_without_linear(
+#[tactic(auto, using(clf_syntax::specs::Plain::plain_laws, crate::proofs::Stops::stop_laws))]
+fn open_step(
     alloc: Global,
-    obj: &Obj,
-    ty: &Ty,
     place: usize,
-    row: &Holding,
+    step: &Step,
     sig: &Signature,
     ctx: &mut Ctx,
-) -> Result<Left, Stop>
-    requires marked { length (marks row.now) ≡ length (context ctx.old) }
+    row: Holding,
+) -> Result<Entered, Stop>
+    requires marked { length (marks row) ≡ length (context ctx.old) }
     requires numbered { length (context ctx.old) < 2 ^ 32 }
-    ensures outcome { Gives plain_left (at_part place (checked staying (plain_signature sig.now) (context ctx.old) (allowed Affine (modes (context ctx.old)) (marks row.now)) (plain_obj obj.now) (plain_ty ty.now))) result }
-    ensures marked { IfOk result (λ left. length (marks left.row) ≡ length (context ctx.old)) }
-    ensures kept { OnOk result (ctx.new ≡ ctx.old) }
+    ensures outcome { OpensStep hereditary (plain_signature sig.now) place (plain_step step.now) (context ctx.old) (marks row) (context ctx.new) result }
+    ensures grown { OnOk result (IsGrown ctx.old ctx.new) }
+    ensures width { IfOk result (λ entered. length (context ctx.new) ≡ length entered.opened.modes + length (context ctx.old)) }
+    ensures marked { IfOk result (λ entered. length (marks entered.row) ≡ length (context ctx.new)) }
+    ensures numbered { OnOk result (length (context ctx.new) < 2 ^ 32) }
 {
-    let start = without_linear(alloc, ctx, row)?;
-    check_part(alloc, place, obj, ty, sig, ctx, start)
+    match infer_neutral(alloc, &step.rhs, sig, ctx, row) {
+        Ok(found) => enter_step(alloc, place, &step.modes, found, ctx),
+        Err(stop) => Err(from_part(alloc, place, stop)),
+    }
 }
 
-/// What a linear argument leaves of what its function left is left.
+/// What the entries of a tuple leave of a row, behind so many steps.
 #[cycle(check)]
 #[tactic(auto, using(crate::proofs::Stops::stop_laws))]
-fn check_linear(
+fn check_tuple(
     alloc: Global,
-    obj: &Obj,
-    ty: &Ty,
-    place: usize,
-    left: Left,
+    steps: usize,
+    entries: &[TupleEntry],
+    types: Items<TeleEntry>,
     sig: &Signature,
     ctx: &mut Ctx,
+    row: Holding,
 ) -> Result<Left, Stop>
-    requires marked { length (marks left.row) ≡ length (context ctx.old) }
+    requires room { steps + length entries.now < 2 ^ 64 }
+    requires marked { length (marks row) ≡ length (context ctx.old) }
     requires numbered { length (context ctx.old) < 2 ^ 32 }
-    ensures outcome { Gives plain_left (argument_used Linear (context ctx.old) place (plain_left left) (λ row. checked staying (plain_signature sig.now) (context ctx.old) row (plain_obj obj.now) (plain_ty ty.now))) result }
+    ensures outcome { Gives plain_left (checked_tuple hereditary (plain_signature sig.now) (context ctx.old) (marks row) steps 0 (tuple_of (map plain_entry entries.now)) (telescope_of (map plain_tele_entry types))) result }
     ensures marked { IfOk result (λ left. length (marks left.row) ≡ length (context ctx.old)) }
     ensures kept { OnOk result (ctx.new ≡ ctx.old) }
 {
-    let used = check_part(alloc, place, obj, ty, sig, ctx, left.row)?;
-    Ok(Left {
-        row: used.row,
-        slack: left.slack || used.slack,
-    })
+    let mut rest = Rest {
+        types,
+        left: Left { row, slack: false },
+    };
+    let mut before = 0;
+    for entry in entries {
+        if rest.types.is_empty() {
+            return Err(too_long(alloc, before, entries.len()));
+        }
+        rest = check_tuple_entry(alloc, steps + before, entry, rest, sig, ctx)?;
+        before += 1;
+    }
+    if !rest.types.is_empty() {
+        return Err(too_short(alloc, before, rest.types.len()));
+    }
+    Ok(rest.left)
+}
+
+/// What one entry of a tuple leaves, and the later types with its object put for its variable.
+#[cycle(check)]
+#[tactic(auto, using(clf_syntax::specs::Plain::plain_laws, crate::proofs::Stops::stop_laws))]
+fn check_tuple_entry(
+    alloc: Global,
+    place: usize,
+    entry: &TupleEntry,
+    rest: Rest,
+    sig: &Signature,
+    ctx: &mut Ctx,
+) -> Result<Rest, Stop>
+    requires there { 0 < length rest.types }
+    requires marked { length (marks rest.left.row) ≡ length (context ctx.old) }
+    requires numbered { length (context ctx.old) < 2 ^ 32 }
+    ensures outcome { Gives plain_rest (entry_behind hereditary (plain_signature sig.now) (context ctx.old) place (plain_entry entry.now) (plain_rest rest)) result }
+    ensures marked { IfOk result (λ rest. length (marks rest.left.row) ≡ length (context ctx.old)) }
+    ensures kept { OnOk result (ctx.new ≡ ctx.old) }
+{
+    let Rest { types, left } = rest;
+    let first = &types.as_slice()[0];
+    if !is_same(entry.mode, first.mode) {
+        let (wanted, found) = (first.mode, entry.mode);
+        return Err(refuse_at(alloc, place, Cause::ModeDiffers { wanted, found }));
+    }
+    let left = check_argument(
+        alloc, entry.mode, &entry.obj, &first.ty, place, left, sig, ctx,
+    )?;
+    let types = put_in_entries(alloc, &entry.obj, &first.ty, &types.as_slice()[1..])?;
+    Ok(Rest { types, left })
 }

@@ -1,18 +1,19 @@
 //! Heads of neutrals: their types, and what they leave.
-ghost use Rattle.std.specs.Prelude.{◌≡◌, ◌≤◌, ◌<◌, ◌^◌, false, IfOk, length, slice_get, option_map, option_copied};
-ghost use Rattle.clf_syntax.specs.PlainTypes.{plain_ty};
+ghost use Rattle.std.specs.Prelude.{◌≡◌, ◌+◌, ◌≤◌, ◌<◌, ◌^◌, false, IfOk, IfErr, length, slice_get, option_map, option_copied};
+ghost use Rattle.clf_syntax.specs.PlainTypes.{plain_ty, plain_tele};
+ghost use Rattle.clf_syntax.specs.Renaming.{ren_type, ren_telescope, up};
 ghost use Rattle.clf_sig.specs.Entry.{constant_type as type_of_constant};
 ghost use Rattle.clf_sig.specs.Signature.{plain_signature};
 ghost use Rattle.use_contexts.specs.Marks.{context, marks};
 ghost use Rattle.clf_rules.specs.Refusal.{level as level_of};
-ghost use Rattle.clf_check.specs.Outcome.{passed};
-ghost use Rattle.clf_check.specs.Checking.{head_left, constant_left, variable_left};
+ghost use Rattle.clf_decision.specs.Outcome.{passed};
+ghost use Rattle.clf_decision.specs.Checking.{head_left, constant_left, variable_left};
 ghost use Rattle.clf_kernel.specs.Answers.{plain_inferred};
-ghost use Rattle.clf_kernel.specs.Stops.{Gives};
+ghost use Rattle.clf_kernel.specs.Stops.{Gives, IsShort};
 
-use crate::refusal::{Cause, Inferred, Stop, refuse};
+use crate::refusal::{Cause, Inferred, Stop, refuse, unwritten};
 use clf_sig::{Class, Signature};
-use clf_syntax::{Head, Ty};
+use clf_syntax::{Head, Tele, Ty};
 use std::alloc::Global;
 use use_contexts::{Ctx, Holding, Left, take};
 
@@ -82,13 +83,50 @@ fn infer_variable(alloc: Global, var: u32, ctx: &Ctx, row: Holding) -> Result<In
     }
     let mut row = row;
     match take(ctx, &mut row, var) {
-        Ok(_) => head_of(alloc, &ctx.entry(var as usize).ty, row),
+        Ok(_) => variable_of(alloc, &ctx.entry(var as usize).ty, var, row),
         Err(_) => Err(refuse(
             alloc,
             Cause::NotHeld {
                 level: level(ctx, var),
             },
         )),
+    }
+}
+
+/// A variable, whose type is renumbered past itself and the newer entries.
+#[tactic(auto, using(crate::proofs::Stops::stop_laws))]
+fn variable_of(alloc: Global, ty: &Ty, var: u32, row: Holding) -> Result<Inferred, Stop>
+    requires { var + 1 < 2 ^ 32 }
+    ensures outcome { Gives plain_inferred (passed (ren_type (up (var + 1)) (plain_ty ty.now), (marks row, false))) result }
+    ensures row { IfOk result (λ found. found.left.row ≡ row) }
+{
+    Ok(Inferred {
+        ty: raised_type(alloc, ty, var + 1)?,
+        left: Left { row, slack: false },
+    })
+}
+
+/// A type past so many newer variables.
+#[tactic(auto, using(crate::proofs::Raised::raised_laws))]
+fn raised_type(alloc: Global, ty: &Ty, by: u32) -> Result<Ty, Stop>
+    ensures raised { IfOk result (λ t. plain_ty t ≡ ren_type (up by) (plain_ty ty.now)) }
+    ensures short { IfErr result IsShort }
+{
+    match ty.shift(alloc, by, 0) {
+        Ok(ty) => Ok(ty),
+        Err(why) => Err(unwritten(alloc, why)),
+    }
+}
+
+/// A telescope past so many newer variables.
+#[tactic(auto, using(crate::proofs::Raised::raised_laws))]
+pub fn raised_telescope(alloc: Global, tele: &Tele, by: u32) -> Result<Tele, Stop>
+    ensures raised { IfOk result (λ t. plain_tele t ≡ ren_telescope (up by) (plain_tele tele.now)) }
+    ensures short { IfErr result IsShort }
+{
+    match tele.shift(alloc, by, 0) {
+        Ok(tele) => Ok(tele),
+        Err(why) => Err(unwritten(alloc, why)),
     }
 }
 

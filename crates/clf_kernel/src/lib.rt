@@ -5,11 +5,14 @@ mod check;
 mod entry;
 mod head;
 mod object;
+mod parts;
+mod putting;
 mod refusal;
 mod rows;
 mod scope;
-mod steps;
+mod trail;
+mod tuple;
 
-pub use entry::check_entry;
-pub use object::{check_object, infer};
+pub use entry::{check_entry, check_kind, check_type};
+pub use object::{check_object, check_run, infer};
 pub use refusal::{Cause, Inferred, Refusal};

@@ -1,19 +1,22 @@
 //! The calls of the kernel for objects and neutrals.
 ghost use Rattle.std.specs.Prelude.{◌≡◌, length};
-ghost use Rattle.clf_syntax.specs.Plain.{plain_obj, plain_neutral};
-ghost use Rattle.clf_syntax.specs.PlainTypes.{plain_ty};
+ghost use Rattle.clf_syntax.specs.Plain.{plain_obj, plain_expr, plain_neutral};
+ghost use Rattle.clf_syntax.specs.PlainTypes.{plain_ty, plain_tele};
 ghost use Rattle.clf_sig.specs.Signature.{plain_signature};
 ghost use Rattle.use_contexts.specs.Marks.{context, marks};
-ghost use Rattle.clf_rules.specs.Reach.{ObjectInReach, NeutralInReach};
-ghost use Rattle.clf_kernel.specs.Exact.{ChecksObject, InfersNeutral};
-ghost use Rattle.clf_check.specs.Checking.{staying, checked, inferred};
+ghost use Rattle.clf_syntax.specs.Simple.{SimplyFormed, SimplyFormedTelescope};
+ghost use Rattle.typing_laws.specs.SimpleTyping.{families_of, simple_of};
+ghost use Rattle.clf_decision.specs.Starts.{Starts};
+ghost use Rattle.clf_decision.specs.Hereditary.{hereditary};
+ghost use Rattle.clf_kernel.specs.Exact.{ChecksObject, ChecksExpression, InfersNeutral};
+ghost use Rattle.clf_decision.specs.Checking.{checked, checked_expression, inferred};
 ghost use Rattle.clf_kernel.specs.Answers.{plain_left, plain_inferred};
 ghost use Rattle.clf_kernel.specs.Stops.{Gives};
 
-use crate::check::{check, infer_neutral};
+use crate::check::{check, check_expression, infer_neutral};
 use crate::refusal::{Inferred, Refusal, Stop, fault, too_far};
 use clf_sig::Signature;
-use clf_syntax::{Neutral, Obj, OrWide, Ty};
+use clf_syntax::{Expr, Neutral, Obj, OrWide, Tele, Ty};
 use std::alloc::Global;
 use use_contexts::{Ctx, Holding, Left};
 
@@ -31,7 +34,8 @@ pub fn check_object(
     obj: &Obj,
     ty: &Ty,
 ) -> Result<Left, OrWide<Refusal>>
-    requires reach { ObjectInReach (plain_signature sig.now) (context ctx.now) (marks holding.now) (plain_obj obj.now) (plain_ty ty.now) }
+    requires starts { Starts (plain_signature sig.now) (context ctx.now) (marks holding.now) }
+    requires formed { SimplyFormed (families_of (plain_signature sig.now)) (simple_of (plain_signature sig.now) (context ctx.now)) (plain_ty ty.now) }
     ensures exact { ChecksObject (plain_signature sig.now) (context ctx.now) (marks holding.now) (plain_obj obj.now) (plain_ty ty.now) result }
 {
     match check_in_copy(alloc, sig, ctx, holding, obj, ty) {
@@ -52,13 +56,54 @@ pub fn infer(
     holding: &Holding,
     neutral: &Neutral,
 ) -> Result<Inferred, OrWide<Refusal>>
-    requires reach { NeutralInReach (plain_signature sig.now) (context ctx.now) (marks holding.now) (plain_neutral neutral.now) }
+    requires starts { Starts (plain_signature sig.now) (context ctx.now) (marks holding.now) }
     ensures exact { InfersNeutral (plain_signature sig.now) (context ctx.now) (marks holding.now) (plain_neutral neutral.now) result }
 {
     match infer_in_copy(alloc, sig, ctx, holding, neutral) {
         Ok(found) => Ok(found),
         Err(stop) => Err(fault(stop)),
     }
+}
+
+/// What the check of an expression against a telescope leaves of a holding. It refuses as `check_object` does of `{E}`.
+#[tactic(auto, using(crate::proofs::Stops::answer_laws, crate::proofs::Exactness::exact_laws))]
+pub fn check_run(
+    alloc: Global,
+    sig: &Signature,
+    ctx: &Ctx,
+    holding: &Holding,
+    expr: &Expr,
+    tele: &Tele,
+) -> Result<Left, OrWide<Refusal>>
+    requires starts { Starts (plain_signature sig.now) (context ctx.now) (marks holding.now) }
+    requires formed { SimplyFormedTelescope (families_of (plain_signature sig.now)) (simple_of (plain_signature sig.now) (context ctx.now)) (plain_tele tele.now) }
+    ensures exact { ChecksExpression (plain_signature sig.now) (context ctx.now) (marks holding.now) (plain_expr expr.now) (plain_tele tele.now) result }
+{
+    match run_in_copy(alloc, sig, ctx, holding, expr, tele) {
+        Ok(left) => Ok(left),
+        Err(stop) => Err(fault(stop)),
+    }
+}
+
+/// The check in a copy of the context, which grows and shrinks with the scopes of the expression.
+#[tactic(auto, using(crate::proofs::Stops::stop_laws))]
+fn run_in_copy(
+    alloc: Global,
+    sig: &Signature,
+    ctx: &Ctx,
+    holding: &Holding,
+    expr: &Expr,
+    tele: &Tele,
+) -> Result<Left, Stop>
+    requires { length (marks holding.now) ≡ length (context ctx.now) }
+    ensures { Gives plain_left (checked_expression hereditary (plain_signature sig.now) (context ctx.now) (marks holding.now) 0 (plain_expr expr.now) (plain_tele tele.now)) result }
+{
+    if ctx.len() > u32::MAX as usize {
+        return Err(too_far(alloc));
+    }
+    let mut inner = ctx.copy(alloc)?;
+    let row = holding.copy(alloc)?;
+    check_expression(alloc, expr, tele, sig, &mut inner, row)
 }
 
 /// The check in a copy of the context, which grows and shrinks with the scopes of the object.
@@ -72,7 +117,7 @@ fn check_in_copy(
     ty: &Ty,
 ) -> Result<Left, Stop>
     requires { length (marks holding.now) ≡ length (context ctx.now) }
-    ensures { Gives plain_left (checked staying (plain_signature sig.now) (context ctx.now) (marks holding.now) (plain_obj obj.now) (plain_ty ty.now)) result }
+    ensures { Gives plain_left (checked hereditary (plain_signature sig.now) (context ctx.now) (marks holding.now) (plain_obj obj.now) (plain_ty ty.now)) result }
 {
     if ctx.len() > u32::MAX as usize {
         return Err(too_far(alloc));
@@ -92,7 +137,7 @@ fn infer_in_copy(
     neutral: &Neutral,
 ) -> Result<Inferred, Stop>
     requires { length (marks holding.now) ≡ length (context ctx.now) }
-    ensures { Gives plain_inferred (inferred staying (plain_signature sig.now) (context ctx.now) (marks holding.now) (plain_neutral neutral.now)) result }
+    ensures { Gives plain_inferred (inferred hereditary (plain_signature sig.now) (context ctx.now) (marks holding.now) (plain_neutral neutral.now)) result }
 {
     if ctx.len() > u32::MAX as usize {
         return Err(too_far(alloc));

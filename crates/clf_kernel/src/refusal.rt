@@ -1,11 +1,10 @@
 //! Refusals, and what else ends a check.
 ghost use Rattle.std.specs.Prelude.{◌≡◌, ◌∷◌, [], reverse, IfOk, IfErr};
 ghost use Rattle.clf_syntax.specs.PlainTypes.{plain_ty};
-ghost use Rattle.clf_rules.specs.Refusal.{not_function as function_refusal, not_pair as pair_refusal, not_top as top_refusal, not_atomic as atomic_refusal};
-ghost use Rattle.clf_kernel.specs.Answers.{plain_cause, IsWide};
+ghost use Rattle.clf_kernel.specs.Answers.{plain_cause, at_type, IsWide};
 ghost use Rattle.clf_kernel.specs.Stops.{IsPartOf, Ends, IsShort, IsFault};
 
-use clf_syntax::{Head, Mode, OrWide, Tele, TeleEntry, Ty, Wide};
+use clf_syntax::{Head, Mode, Obj, Or, OrWide, Tele, TeleEntry, TooFar, Ty, Wide};
 use sqlite_items::Items;
 use std::alloc::{AllocError, Global};
 use use_contexts::Left;
@@ -19,12 +18,16 @@ pub enum Cause {
     NotPair { found: Ty },
     /// `<>` stands at another type than `<T>`.
     NotTop { found: Ty },
+    /// A monadic object stands at, or a step's right side has, a type that is no monad.
+    NotMonad { found: Ty },
     /// A neutral stands at a type that is no family, or has one.
     NotAtomic { ty: Ty },
     /// A metavariable or a hole.
     NotClosed,
-    /// A lambda or an argument has another mode than its function.
+    /// A lambda, an argument, a pattern or an entry of a tuple has another mode than its type.
     ModeDiffers { wanted: Mode, found: Mode },
+    /// A pattern or a tuple has another number of entries than its telescope.
+    Width { wanted: u32, found: u32 },
     /// A linear or affine variable is not held.
     NotHeld { level: u32 },
     /// A linear variable is left at the end of its scope, without slack.
@@ -33,6 +36,10 @@ pub enum Cause {
     PairsDiffer { level: u32 },
     /// The families of what is found and of what is wanted differ.
     FamilyDiffers { found: u32, wanted: u32 },
+    /// The indices of what is found and of what is wanted are not joined at a place, under so many variables.
+    IndexDiffers { scope: u32, found: Obj, wanted: Obj },
+    /// A family stands with another number of indices than its kind has arguments.
+    FamilyArity { wanted: u32, found: u32 },
     /// A variable that is not in the context, or a number that is no constant or no family.
     UnknownHead { head: Head },
 }
@@ -87,42 +94,37 @@ pub fn refuse_at(alloc: Global, place: usize, cause: Cause) -> Stop
     step_out(alloc, place, Vec::new(alloc), cause)
 }
 
-/// A refusal at a type that is no function.
-pub fn not_function(alloc: Global, found: &Ty) -> Stop
-    ensures { Ends [] (function_refusal (plain_ty found.now)) result }
-{
-    match found.copy(alloc) {
-        Ok(found) => refuse(alloc, Cause::NotFunction { found }),
-        Err(_) => Stop::NoMemory,
+/// What makes a cause of a type, as `NotPair` does.
+#[derive(Clone, Copy)]
+pub enum AtType {
+    NotFunction,
+    NotPair,
+    NotTop,
+    NotMonad,
+    NotAtomic,
+}
+
+impl AtType {
+    /// The cause that keeps this type.
+    pub fn cause(self, found: Ty) -> Cause
+        ensures { plain_cause result ≡ at_type self (plain_ty found) }
+    {
+        match self {
+            AtType::NotFunction => Cause::NotFunction { found },
+            AtType::NotPair => Cause::NotPair { found },
+            AtType::NotTop => Cause::NotTop { found },
+            AtType::NotMonad => Cause::NotMonad { found },
+            AtType::NotAtomic => Cause::NotAtomic { ty: found },
+        }
     }
 }
 
-/// A refusal at a type that is no pair.
-pub fn not_pair(alloc: Global, found: &Ty) -> Stop
-    ensures { Ends [] (pair_refusal (plain_ty found.now)) result }
+/// A refusal at a type, which is copied.
+pub fn refuse_type(alloc: Global, why: AtType, found: &Ty) -> Stop
+    ensures { Ends [] (at_type why (plain_ty found.now)) result }
 {
     match found.copy(alloc) {
-        Ok(found) => refuse(alloc, Cause::NotPair { found }),
-        Err(_) => Stop::NoMemory,
-    }
-}
-
-/// A refusal at a type that is not `<T>`.
-pub fn not_top(alloc: Global, found: &Ty) -> Stop
-    ensures { Ends [] (top_refusal (plain_ty found.now)) result }
-{
-    match found.copy(alloc) {
-        Ok(found) => refuse(alloc, Cause::NotTop { found }),
-        Err(_) => Stop::NoMemory,
-    }
-}
-
-/// A refusal at a type that is no family.
-pub fn not_atomic(alloc: Global, ty: &Ty) -> Stop
-    ensures { Ends [] (atomic_refusal (plain_ty ty.now)) result }
-{
-    match ty.copy(alloc) {
-        Ok(ty) => refuse(alloc, Cause::NotAtomic { ty }),
+        Ok(found) => refuse(alloc, why.cause(found)),
         Err(_) => Stop::NoMemory,
     }
 }
@@ -175,6 +177,27 @@ pub fn too_far(alloc: Global) -> Stop
         Ok(wide) => Stop::TooFar(wide),
         Err(_) => Stop::NoMemory,
     }
+}
+
+/// What ends a check where a tree could not be written.
+pub fn unwritten(alloc: Global, why: Or<TooFar>) -> Stop
+    ensures { IsShort result }
+{
+    match why {
+        Or::Fault(_) => too_far(alloc),
+        Or::NoMemory => Stop::NoMemory,
+    }
+}
+
+/// A count of parts as a number of 32 bits.
+pub fn count(alloc: Global, parts: usize) -> Result<u32, Stop>
+    ensures count { IfOk result (λ n. n ≡ parts) }
+    ensures short { IfErr result IsShort }
+{
+    if parts > u32::MAX as usize {
+        return Err(too_far(alloc));
+    }
+    Ok(parts as u32)
 }
 
 fn wide(alloc: Global) -> Result<Wide, AllocError>

@@ -1,14 +1,61 @@
 //! The rows from which arguments start, and what they leave outside.
 ghost use Rattle.std.specs.Prelude.{◌≡◌, ◌&&◌, not, if◌then◌else◌, IfOk, length};
 ghost use Rattle.use_contexts.specs.Context.{modes};
-ghost use Rattle.use_contexts.specs.Holding.{is_linear, is_persistent, persistent_alone as persistent_marks, without_linear as without_linear_marks};
+ghost use Rattle.use_contexts.specs.Holding.{allowed, is_linear, is_persistent, persistent_alone as persistent_marks, without_linear as without_linear_marks};
 ghost use Rattle.use_contexts.specs.Marks.{context, marks};
-ghost use Rattle.use_contexts.specs.Rows.{linear_of as linear_marks};
+ghost use Rattle.use_contexts.specs.Rows.{linear_of as linear_marks, outside, slack_outside};
 
 use clf_syntax::Mode;
 use sqlite_items::Items;
 use std::alloc::{AllocError, Global};
 use use_contexts::{Ctx, Holding};
+
+/// The row from which what its mode allows of a row starts.
+#[tactic(auto, using(crate::proofs::RowSteps::length_laws))]
+pub fn allowed_of(
+    alloc: Global,
+    mode: Mode,
+    ctx: &Ctx,
+    row: &Holding,
+) -> Result<Holding, AllocError>
+    requires { length (marks row.now) ≡ length (context ctx.now) }
+    ensures marks { IfOk result (λ start. marks start ≡ allowed mode (modes (context ctx.now)) (marks row.now)) }
+    ensures marked { IfOk result (λ start. length (marks start) ≡ length (context ctx.now)) }
+{
+    match mode {
+        Mode::Persistent => persistent_alone(alloc, ctx),
+        Mode::Affine => without_linear(alloc, ctx, row),
+        Mode::Linear => row.copy(alloc),
+    }
+}
+
+/// What is left outside of a row of which a part started from what its mode allows, and left this much.
+#[tactic(auto, using(crate::proofs::RowSteps::length_laws))]
+pub fn left_outside(
+    alloc: Global,
+    mode: Mode,
+    ctx: &Ctx,
+    row: Holding,
+    left: Holding,
+) -> Result<Holding, AllocError>
+    requires row_length { length (marks row) ≡ length (context ctx.now) }
+    requires left_length { length (marks left) ≡ length (context ctx.now) }
+    ensures marks { IfOk result (λ rest. marks rest ≡ outside mode (modes (context ctx.now)) (marks row) (marks left)) }
+    ensures marked { IfOk result (λ rest. length (marks rest) ≡ length (context ctx.now)) }
+{
+    match mode {
+        Mode::Persistent => Ok(row),
+        Mode::Affine => linear_of(alloc, ctx, &row, &left),
+        Mode::Linear => Ok(left),
+    }
+}
+
+/// Whether the slack of a part of this mode counts outside of it.
+pub fn slack_of(mode: Mode, slack: bool) -> bool
+    ensures { result ≡ slack_outside mode slack }
+{
+    matches!(mode, Mode::Linear) && slack
+}
 
 /// The row of the persistent entries alone.
 #[tactic(auto, using(crate::proofs::RowSteps::length_laws))]
@@ -27,7 +74,7 @@ pub fn persistent_alone(alloc: Global, ctx: &Ctx) -> Result<Holding, AllocError>
 
 /// A row without its linear entries.
 #[tactic(auto, using(crate::proofs::RowSteps::length_laws))]
-pub fn without_linear(alloc: Global, ctx: &Ctx, row: &Holding) -> Result<Holding, AllocError>
+fn without_linear(alloc: Global, ctx: &Ctx, row: &Holding) -> Result<Holding, AllocError>
     requires { length (marks row.now) ≡ length (context ctx.now) }
     ensures marks { IfOk result (λ left. marks left ≡ without_linear_marks (modes (context ctx.now)) (marks row.now)) }
     ensures marked { IfOk result (λ left. length (marks left) ≡ length (context ctx.now)) }
@@ -43,7 +90,7 @@ pub fn without_linear(alloc: Global, ctx: &Ctx, row: &Holding) -> Result<Holding
 
 /// The linear entries of the first row, and the others of the second.
 #[tactic(auto, using(crate::proofs::RowSteps::length_laws))]
-pub fn linear_of(
+fn linear_of(
     alloc: Global,
     ctx: &Ctx,
     first: &Holding,

@@ -1,12 +1,13 @@
 //! The scope of a lambda's variable.
-ghost use Rattle.std.specs.Prelude.{◌≡◌, ◌∷◌, ◌<◌, ◌^◌, suc, true, IfOk, OnOk, IfErr, length};
+ghost use Rattle.std.specs.Prelude.{◌≡◌, ◌∷◌, ◌+◌, ◌<◌, ◌^◌, suc, true, IfOk, OnOk, IfErr, length};
 ghost use Rattle.clf_syntax.specs.PlainTypes.{plain_ty};
 ghost use Rattle.use_contexts.specs.declared.context.Ctx.{Ctx as DeclaredCtx};
 ghost use Rattle.use_contexts.specs.Marks.{context, marks};
 ghost use Rattle.use_contexts.specs.Rows.{newest, older, is_unused as is_unused_linear};
-ghost use Rattle.clf_check.specs.Checking.{closed_scope};
+ghost use Rattle.clf_decision.specs.Checking.{closed_scope};
 ghost use Rattle.clf_kernel.specs.Answers.{plain_left};
 ghost use Rattle.clf_kernel.specs.Stops.{IsShort, Gives, IsEntered};
+ghost use Rattle.clf_kernel.specs.Trail.{IsGrown, closed_mode, closed_modes};
 
 use crate::refusal::{Cause, Stop, refuse, too_far};
 use clf_syntax::{Mode, TeleEntry, Ty};
@@ -28,13 +29,25 @@ pub fn enter(
     ensures row { IfOk result (λ inner. marks inner ≡ true ∷ marks row) }
     ensures short { IfErr result IsShort }
 {
+    let mut row = row;
+    row.held.push(true)?;
+    enter_entry(alloc, mode, ty, ctx)?;
+    Ok(row)
+}
+
+/// Adds a variable.
+#[tactic(auto, using(crate::proofs::Stops::stop_laws))]
+pub fn enter_entry(alloc: Global, mode: Mode, ty: &Ty, ctx: &mut Ctx) -> Result<(), Stop>
+    ensures context { OnOk result (context ctx.new ≡ (mode, plain_ty ty.now) ∷ context ctx.old) }
+    ensures entry { OnOk result (IsEntered ctx.old ctx.new) }
+    ensures numbered { OnOk result (length (context ctx.new) < 2 ^ 32) }
+    ensures short { IfErr result IsShort }
+{
     if ctx.len() >= u32::MAX as usize {
         return Err(too_far(alloc));
     }
-    let mut row = row;
-    row.held.push(true)?;
     add_entry(alloc, mode, ty, ctx)?;
-    Ok(row)
+    Ok(())
 }
 
 /// Adds a newest variable.
@@ -55,21 +68,58 @@ pub fn leave(ctx: &mut Ctx)
     ctx.entries.pop();
 }
 
+/// Takes the newest variables away, down to so many.
+pub fn leave_to(ctx: &mut Ctx, len: usize)
+    ensures { (outer : DeclaredCtx) → IsGrown outer ctx.old → length outer.entries ≡ len → ctx.new ≡ outer }
+{
+    while ctx.len() > len {
+        leave(ctx);
+    }
+}
+
 /// The end of the scope of a variable that the context has no longer.
-#[tactic(auto, using(crate::proofs::Stops::stop_laws, crate::proofs::RowSteps::length_laws))]
+#[tactic(auto, using(crate::proofs::Stops::stop_laws))]
 pub fn close_scope(alloc: Global, mode: Mode, ctx: &Ctx, left: Left) -> Result<Left, Stop>
     requires marked { length (marks left.row) ≡ suc (length (context ctx.now)) }
     requires numbered { suc (length (context ctx.now)) < 2 ^ 32 }
     ensures outcome { Gives plain_left (closed_scope mode (context ctx.now) (plain_left left)) result }
     ensures marked { IfOk result (λ outer. length (marks outer.row) ≡ length (context ctx.now)) }
 {
+    close_mode(alloc, mode, ctx.len(), left)
+}
+
+/// The end of the scope of the newest variable, behind so many older ones.
+#[tactic(auto, using(crate::proofs::Stops::stop_laws, crate::proofs::RowSteps::length_laws))]
+fn close_mode(alloc: Global, mode: Mode, older: usize, left: Left) -> Result<Left, Stop>
+    requires marked { length (marks left.row) ≡ suc older }
+    requires numbered { suc older < 2 ^ 32 }
+    ensures outcome { Gives plain_left (closed_mode mode (suc older) (plain_left left)) result }
+    ensures marked { IfOk result (λ outer. length (marks outer.row) ≡ older) }
+{
     let Left { mut row, slack } = left;
     let is_left = take_newest(&mut row);
     if is_unused(mode, is_left, slack) {
-        let level = (ctx.len() + 1) as u32;
+        let level = (older + 1) as u32;
         return Err(refuse(alloc, Cause::Unused { level }));
     }
     Ok(Left { row, slack })
+}
+
+/// The ends of the scopes of variables of these modes, behind so many older ones; that of the newest first.
+#[tactic(auto, using(crate::proofs::Stops::stop_laws))]
+pub fn close_modes(alloc: Global, modes: &[Mode], older: usize, left: Left) -> Result<Left, Stop>
+    requires marked { length (marks left.row) ≡ older + length modes.now }
+    requires numbered { older + length modes.now < 2 ^ 32 }
+    ensures outcome { Gives plain_left (closed_modes modes.now older (plain_left left)) result }
+    ensures marked { IfOk result (λ outer. length (marks outer.row) ≡ older) }
+{
+    let mut left = left;
+    let mut at = modes.len();
+    while at > 0 {
+        at -= 1;
+        left = close_mode(alloc, modes[at], older + at, left)?;
+    }
+    Ok(left)
 }
 
 /// Takes the newest mark away, and answers it.

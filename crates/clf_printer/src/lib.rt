@@ -11,5 +11,6 @@ mod types;
 mod words;
 
 pub use laws::worked_texts;
+pub use objects::push_object;
 pub use text::{declaration_text, entry_text, object_text, type_text};
 pub use words::{push_number, push_place, push_variable};

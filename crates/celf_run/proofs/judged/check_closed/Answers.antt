@@ -9,18 +9,18 @@ use Rattle.use_contexts.specs.Holding.{Holding}
 use Rattle.use_contexts.specs.declared.join.Left.{Left}
 use Rattle.clf_kernel.specs.declared.refusal.Refusal.{Refusal}
 use Rattle.clf_kernel.specs.Exact.{ChecksObject}
-use Rattle.clf_check.proofs.InReach.{object_in_reach}
-use Rattle.celf_reading.proofs.Bare.{without_indices-bare}
-use Rattle.celf_reading.proofs.WithinReach.{simple-signature}
+use Rattle.celf_reading.proofs.WellFormed.{bare-type, bare-signature}
 use Rattle.celf_run.specs.Answering.{JudgesClosed}
+use Rattle.celf_run.proofs.Closed.{closed-starts, closed-formed}
 use Rattle.celf_run.proofs.judged.check_closed.Goals as goal
 
 pub check_object-judged-requires : goal.check_object-judged-requires
 check_object-judged-requires c =
     let sig = plain_signature c.args.sig.now in
-    let type = without_indices-bare sig (plain_ty c.args.ty.now) c.requires.reach.1 in
+    let type = bare-type sig [] (plain_ty c.args.ty.now) c.requires.reach in
     record {
-      reach = object_in_reach sig _ _ (plain_obj c.args.obj.now) (plain_ty c.args.ty.now) c.empty-ctx.ensures (ap reverse c.new.ensures) (simple-signature sig c.requires.bare) c.requires.reach.0 type;
+      starts = closed-starts sig _ _ c.empty-ctx.ensures (ap reverse c.new.ensures) (bare-signature sig c.requires.bare);
+      formed = closed-formed sig _ (plain_ty c.args.ty.now) c.empty-ctx.ensures type;
     }
 
 -- what the kernel answers in the empty context and its holding

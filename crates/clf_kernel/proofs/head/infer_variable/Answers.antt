@@ -9,7 +9,7 @@ use Rattle.clf_kernel.specs.declared.refusal.Stop.{Stop}
 use Rattle.clf_rules.specs.Refusal.{not_held}
 use Rattle.clf_kernel.specs.Stops.{Ends}
 use Rattle.clf_kernel.proofs.Stops.{refusal_stops}
-use Rattle.clf_check.proofs.Variables.{variable_used, variable_unheld}
+use Rattle.clf_kernel.proofs.Variables.{variable_used, variable_unheld}
 use Rattle.clf_kernel.proofs.head.infer_variable.Goals as goal
 
 same_length : (r : Result Inferred Stop) (row : Holding) (n : ℕ) → IfOk r (λ found. found.left.row ≡ row) → length (marks row) ≡ n → IfOk r (λ found. length (marks found.left.row) ≡ n)
@@ -20,10 +20,10 @@ pub returns-in-Ok-clause-outcome : goal.returns-in-Ok-clause-outcome
 returns-in-Ok-clause-outcome c =
     let used = variable_used (context c.args.ctx.now) (marks c.args.row) c.args.var (plain_tele_entry c.entry.result.now) c.requires.marked (search rules) c.entry.ensures (λ e. let f = c.in-Ok.ensures.not_held.1 e in cc) in
     let ty = ap (λ p. p.1) (plain-tele-entry c.entry.result.now) in
-    rw (used, ty, sym c.in-Ok.ensures.used) c.head_of.ensures.outcome
+    rw (used, ty, sym c.in-Ok.ensures.used) c.variable_of.ensures.outcome
 
 pub returns-in-Ok-clause-marked : goal.returns-in-Ok-clause-marked
-returns-in-Ok-clause-marked c = same_length c.head_of.result _ _ c.head_of.ensures.row (rw c.in-Ok.ensures.used (length-taken (modes (context c.args.ctx.now)) c.args.var (marks c.args.row) ∙ c.requires.marked))
+returns-in-Ok-clause-marked c = same_length c.variable_of.result _ _ c.variable_of.ensures.row (rw c.in-Ok.ensures.used (length-taken (modes (context c.args.ctx.now)) c.args.var (marks c.args.row) ∙ c.requires.marked))
 
 pub returns-in-Err-clause-outcome : goal.returns-in-Err-clause-outcome
 returns-in-Err-clause-outcome c =

@@ -9,18 +9,18 @@ use Rattle.clf_kernel.proofs.Exactness.{checks-object}
 use Rattle.clf_kernel.proofs.object.check_object.Goals as goal
 
 pub check_in_copy-requires : goal.check_in_copy-requires
-check_in_copy-requires c = marked_length (context c.args.ctx.now) (marks c.args.holding.now) c.requires.reach.marked
+check_in_copy-requires c = marked_length (context c.args.ctx.now) (marks c.args.holding.now) c.requires.starts.marked
 
 pub returns-in-Ok : goal.returns-in-Ok
 returns-in-Ok c =
     record {
       exact = checks-object (plain_signature c.args.sig.now) (context c.args.ctx.now) (marks c.args.holding.now) (plain_obj c.args.obj.now) (plain_ty c.args.ty.now) (Ok c.in-Ok.left)
-          c.requires.reach c.in-Ok.ensures;
+          c.requires.starts c.requires.formed c.in-Ok.ensures;
     }
 
 pub returns-in-Err : goal.returns-in-Err
 returns-in-Err c =
     record {
       exact = checks-object (plain_signature c.args.sig.now) (context c.args.ctx.now) (marks c.args.holding.now) (plain_obj c.args.obj.now) (plain_ty c.args.ty.now) (Err c.fault.result)
-          c.requires.reach (fault_answers plain_left _ _ _ c.fault.ensures c.in-Err.ensures);
+          c.requires.starts c.requires.formed (fault_answers plain_left _ _ _ c.fault.ensures c.in-Err.ensures);
     }

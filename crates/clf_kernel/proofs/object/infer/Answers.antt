@@ -8,18 +8,18 @@ use Rattle.clf_kernel.proofs.Exactness.{infers-neutral}
 use Rattle.clf_kernel.proofs.object.infer.Goals as goal
 
 pub infer_in_copy-requires : goal.infer_in_copy-requires
-infer_in_copy-requires c = marked_length (context c.args.ctx.now) (marks c.args.holding.now) c.requires.reach.marked
+infer_in_copy-requires c = marked_length (context c.args.ctx.now) (marks c.args.holding.now) c.requires.starts.marked
 
 pub returns-in-Ok : goal.returns-in-Ok
 returns-in-Ok c =
     record {
       exact = infers-neutral (plain_signature c.args.sig.now) (context c.args.ctx.now) (marks c.args.holding.now) (plain_neutral c.args.neutral.now) (Ok c.in-Ok.found)
-          c.requires.reach c.in-Ok.ensures;
+          c.requires.starts c.in-Ok.ensures;
     }
 
 pub returns-in-Err : goal.returns-in-Err
 returns-in-Err c =
     record {
       exact = infers-neutral (plain_signature c.args.sig.now) (context c.args.ctx.now) (marks c.args.holding.now) (plain_neutral c.args.neutral.now) (Err c.fault.result)
-          c.requires.reach (fault_answers plain_inferred _ _ _ c.fault.ensures c.in-Err.ensures);
+          c.requires.starts (fault_answers plain_inferred _ _ _ c.fault.ensures c.in-Err.ensures);
     }

@@ -1,0 +1,15 @@
+-- What is left of the entries follows what has been done.
+use Rattle.std.proofs.Common.{◌≡◌, ◌<◌, ◌^◌, drop, length, map}
+use Rattle.clf_syntax.specs.TypeTree.{telescope_of}
+use Rattle.clf_syntax.specs.PlainTypes.{plain_tele_entry}
+use Rattle.clf_sig.specs.Signature.{plain_signature}
+use Rattle.use_contexts.specs.Marks.{context}
+use Rattle.clf_decision.specs.Formation.{telescope_formed}
+use Rattle.clf_decision.specs.Hereditary.{hereditary}
+use Rattle.clf_kernel.specs.Trail.{IsGrown}
+use Rattle.clf_kernel.proofs.entry.+form.Given as goal
+
+abbrev pub invariant-form_telescope-loop-entry : goal.invariant-form_telescope-loop-entry
+invariant-form_telescope-loop-entry l = (l.place ≡ l.entry-index) × IsGrown l.fn.ctx l.ctx × (length (context l.ctx) < 2 ^ 32)
+    × (telescope_formed hereditary (plain_signature l.fn.sig) (context l.fn.ctx) 0 (telescope_of (map plain_tele_entry l.fn.entries))
+    ≡ telescope_formed hereditary (plain_signature l.fn.sig) (context l.ctx) l.entry-index (telescope_of (map plain_tele_entry (drop l.entry-index l.fn.entries))))
