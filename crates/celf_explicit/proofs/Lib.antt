@@ -3,3 +3,9 @@ pub mod ReadingLaws
 pub mod Forms
 pub mod Options
 pub mod Known
+pub mod AlongLaws
+pub mod Made
+pub mod Expressions
+pub mod WhereExplicit
+pub mod SimpleTypes
+pub mod LocalsLaws
