@@ -13,7 +13,7 @@ use Rattle.clf_syntax.specs.Occurs.{is_variable, occurs, occurs_neutral, occurs_
 use Rattle.use_contexts.specs.Context.{Context, modes, telescope_modes, with_entries}
 use Rattle.use_contexts.specs.Holding.{Holding, SplitEntry, Split, all_held, is_persistent, is_weak, without}
 use Rattle.clf_sig.specs.Entry.{PlainSignature}
-use Rattle.clf_kernel.specs.Typing.{HeadHasType, HasType, Synthesizes, ExpressionHasType, TupleHasType}
+use Rattle.clf_rules.specs.Typing.{HeadHasType, HasType, Synthesizes, ExpressionHasType, TupleHasType}
 use Rattle.typing_laws.specs.Uses.{one_if, uses, uses_neutral, uses_expression, uses_tuple, without_units, neutral_without_units, expression_without_units, tuple_without_units, UsedAtMostOnce, LinearOccurs}
 
 tf : true ≡ false → ⊥

@@ -16,7 +16,7 @@ use Rattle.hered_subst.specs.Substitution.{Environment, SubstitutedType, in_fami
 use Rattle.hered_subst.proofs.Types.{renaming_substitutes}
 use Rattle.hered_subst.proofs.TypedResults.{arrows, products, bindings}
 use Rattle.clf_sig.specs.Entry.{PlainSignature}
-use Rattle.clf_kernel.specs.Typing.{HeadHasType, HasType, Synthesizes, ExpressionHasType, TupleHasType}
+use Rattle.clf_rules.specs.Typing.{HeadHasType, HasType, Synthesizes, ExpressionHasType, TupleHasType}
 use Rattle.typing_laws.specs.SimpleTyping.{constants_of, simple_of, TypedIsSimplyTyped}
 
 mutual

@@ -21,8 +21,8 @@ use Rattle.hered_subst.proofs.Types.{renaming_substitutes}
 use Rattle.hered_subst.proofs.TypedEnvironments.{keeps_single}
 use Rattle.hered_subst.proofs.TypedResults.{result_is_typed}
 use Rattle.clf_sig.specs.Entry.{PlainSignature}
-use Rattle.clf_kernel.specs.WellFormed.{IndicesHaveTypes, WellFormedType, WellFormedTelescope, WellFormedKind, WellFormedContext}
-use Rattle.clf_kernel.proofs.Signatures.{entries_well_formed}
+use Rattle.clf_rules.specs.WellFormed.{IndicesHaveTypes, WellFormedType, WellFormedTelescope, WellFormedKind, WellFormedContext}
+use Rattle.clf_rules.proofs.Signatures.{entries_well_formed}
 use Rattle.typing_laws.specs.SimpleTyping.{constants_of, simple_of, families_of, WellFormedIsSimplyFormed, SynthesizedIsSimplyFormed}
 use Rattle.typing_laws.proofs.Erased.{put_type, object}
 

@@ -5,7 +5,6 @@ pub mod Counted
 pub mod SplitLaws
 pub mod MoreAffine
 pub mod JoinedChains
-pub mod Decisions
 pub mod Lost
 pub mod TreeExamples
 pub mod Fixed

@@ -18,7 +18,7 @@ use Rattle.hered_subst.proofs.Types.{commutes, is_determined}
 use Rattle.hered_subst.specs.Substitution.{single, SubstitutedType, SubstitutedTelescope}
 use Rattle.trace_equal.specs.Exchange.{JoinedEach}
 use Rattle.clf_sig.specs.Entry.{PlainSignature, constant_type}
-use Rattle.clf_kernel.specs.Typing.{HasType, Synthesizes, ExpressionHasType, TupleHasType}
+use Rattle.clf_rules.specs.Typing.{HasType, Synthesizes, ExpressionHasType, TupleHasType}
 use Rattle.typing_laws.specs.Contexts.{with_mark, with_entry, ContextStrengthening}
 use Rattle.typing_laws.proofs.Carried.{past, past_all, past_held, same_modes, square_type, square_telescope, raised, joined_each, and_left, and_right, and_both}
 use Rattle.typing_laws.proofs.ContextLaws.{constants_closed, raise_all, raise_next, same_past}

@@ -7,8 +7,8 @@ use Rattle.clf_syntax.specs.Renaming.{Renumbering, lifted, ren, ren_neutral, ren
 use Rattle.use_contexts.specs.Context.{Context}
 use Rattle.use_contexts.specs.Holding.{Holding, is_persistent}
 use Rattle.clf_sig.specs.Entry.{PlainSignature}
-use Rattle.clf_kernel.specs.Typing.{HasType, Synthesizes, ExpressionHasType, TupleHasType}
-use Rattle.clf_kernel.specs.WellFormed.{WellFormedSignature}
+use Rattle.clf_rules.specs.Typing.{HasType, Synthesizes, ExpressionHasType, TupleHasType}
+use Rattle.clf_rules.specs.WellFormed.{WellFormedSignature}
 
 -- a holding with a new mark behind the k newest ones
 abbrev pub with_mark : ℕ → Bool → Holding → Holding

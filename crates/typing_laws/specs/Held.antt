@@ -9,7 +9,7 @@ use Rattle.clf_syntax.specs.Occurs.{occurs}
 use Rattle.use_contexts.specs.Context.{Context, modes}
 use Rattle.use_contexts.specs.Holding.{Holding}
 use Rattle.clf_sig.specs.Entry.{PlainSignature}
-use Rattle.clf_kernel.specs.Typing.{HasType, Synthesizes, ExpressionHasType}
+use Rattle.clf_rules.specs.Typing.{HasType, Synthesizes, ExpressionHasType}
 
 -- A typed object mentions variables alone that the holding holds: none that is beyond it, and none that is marked as not held.
 abbrev pub MentionsHeldAlone : Type 0

@@ -5,7 +5,7 @@ ghost use Rattle.typing_laws.specs.Held.{AffineWeakening, MentionsHeldAlone};
 ghost use Rattle.typing_laws.specs.LostTypes.{ExchangeLosesTypes};
 ghost use Rattle.typing_laws.specs.SimpleTyping.{SynthesizedIsSimplyFormed, TypedIsSimplyTyped, WellFormedIsSimplyFormed};
 ghost use Rattle.typing_laws.specs.Splits.{SplitAssociates, SplitCommutes, SplitHasNeutral};
-ghost use Rattle.typing_laws.specs.Types.{IsDecided, TypeIsOne};
+ghost use Rattle.typing_laws.specs.Types.{TypeIsOne};
 ghost use Rattle.typing_laws.specs.Uses.{LinearOccurs, UsedAtMostOnce};
 ghost use Rattle.typing_laws.specs.WorkedTrees.{ExchangeExamples, SubstitutionExamples};
 
@@ -59,11 +59,6 @@ pub fn splits()
 pub fn congruence()
     ensures equivalence { JoinedIsEquivalenceOnEachSort }
     ensures parts { JoinedIsCongruence }
-{}
-
-/// Typing is decided, in words of the rules alone.
-pub fn decided()
-    ensures { IsDecided }
 {}
 
 /// An exchange of steps need not keep the type.
