@@ -22,7 +22,7 @@ module _ {S W X Y : Type 0} (written : W → X) (read : S → X → Option Y) (n
   -- a part is not read
   pub none_along : (w : W) (done : List Y) (whole : Option (List Y)) → i < length ws → w ≡ get_or ws i w → with_some done (read_along read next s (map written (drop i ws))) ≡ whole
       → None ≡ read s (written w) → None ≡ whole
-  none_along w done whole h e v n = rw (← n) at unrolled w done whole h e v
+  none_along w done whole h e v n = rw (← n) at (unrolled w done whole h e v)
 
   -- a part is read too
   pub one_along : {Z : Type 0} (out : Z → Y) (w : W) (done new : List Z) (more : Z) (later : S) (whole : Option (List Y)) → i < length ws → w ≡ get_or ws i w
@@ -30,7 +30,7 @@ module _ {S W X Y : Type 0} (written : W → X) (read : S → X → Option Y) (n
       → with_some (map out new) (read_along read next later (map written (drop (i + 1) ws))) ≡ whole
   one_along out w done new more later whole h e v n p b =
       rw (p, map-append out done (more ∷ []), b)
-      (with_next (map out done) (out more) (read_along read next (next s (written w)) (map written (drop (i + 1) ws))) ∙ rw (← n) at unrolled w (map out done) whole h e v)
+      (with_next (map out done) (out more) (read_along read next (next s (written w)) (map written (drop (i + 1) ws))) ∙ rw (← n) at (unrolled w (map out done) whole h e v))
 
   -- all of it has been read
   pub all_along : (done : List Y) (whole : Option (List Y)) → length ws ≤ i → with_some done (read_along read next s (map written (drop i ws))) ≡ whole → Some done ≡ whole
@@ -42,7 +42,9 @@ module _ {S W X : Type 0} (written : W → X) (next : S → X → S) (s : S) (ws
   -- one part more has left its state
   pub left_next : (w : W) (later : S) → i < length ws → w ≡ get_or ws i w → left_along next s (map written (drop i ws)) ≡ whole → later ≡ next s (written w)
       → left_along next later (map written (drop (i + 1) ws)) ≡ whole
-  left_next w later h e v b = rw b (rw (from_here written ws i w h e) at v)
+  left_next w later h e v b =
+      let unrolled : left_along next (next s (written w)) (map written (drop (i + 1) ws)) ≡ whole = rw (from_here written ws i w h e) at v in
+      rw b unrolled
 
   pub left_end : length ws ≤ i → left_along next s (map written (drop i ws)) ≡ whole → s ≡ whole
   left_end h v = rw (drop_all i ws h) at v

@@ -6,6 +6,7 @@ pub mod Known
 pub mod AlongLaws
 pub mod Made
 pub mod Expressions
+pub mod TypeLists
 pub mod Wider
 pub mod WhereExplicit
 pub mod SimpleTypes

@@ -28,8 +28,8 @@ kept_oldest f n left ws seen h e v =
     let front : left ≡ take n ws = sym (take_all n left h) ∙ e in
     let whole : seen ≡ reverse (map f (drop n ws)) ++ reverse (map f left) =
         sym v ∙ ap (λ x. reverse (map f x)) (sym parts) ∙ ap reverse (map-append f (take n ws) (drop n ws)) ∙ reverse-append (map f (take n ws)) (map f (drop n ws)) ∙ ap (λ x. reverse (map f (drop n ws)) ++ reverse (map f x)) (sym front) in
-    let newer : length (reverse (map f (drop n ws))) ≡ length ws - n = length-reverse (map f (drop n ws)) ∙ length-map f (drop n ws) ∙ length-drop n ws in
-    let all : length seen ≡ length ws = ap length (sym v) ∙ length-reverse (map f ws) ∙ length-map f ws in
+    let newer : length (reverse (map f (drop n ws))) ≡ length ws - n = length-reverse (map f (drop n ws)) ∙ length-map (drop n ws) f ∙ length-drop n ws in
+    let all : length seen ≡ length ws = ap length (sym v) ∙ length-reverse (map f ws) ∙ length-map ws f in
     sym (dropped (reverse (map f (drop n ws))) (reverse (map f left)) (length seen - n) (ap (λ k. k - n) all ∙ sym newer)) ∙ ap (drop (length seen - n)) (sym whole)
 
 -- a local more in front
@@ -47,11 +47,11 @@ module _ (ps later : List (Mode × SimpleType)) (bs : List PBinder) (i : ℕ) (b
   pub modes_next : (done new whole : List Mode) → i < length bs → b ≡ get_or bs i b → later ≡ (next_part ps).later → done ++ pattern_modes ps (drop i bs) ≡ whole
       → new ≡ done ++ marked b.mode (next_part ps).mode ∷ [] → new ++ pattern_modes later (drop (i + 1) bs) ≡ whole
   modes_next done new whole h e l v n =
-      let unrolled : done ++ pattern_modes ps (b ∷ drop (i + 1) bs) ≡ whole = rw from_binder h e at v in
+      let unrolled : done ++ pattern_modes ps (b ∷ drop (i + 1) bs) ≡ whole = rw (from_binder h e) at v in
       rw (n, l) (append_assoc done (marked b.mode (next_part ps).mode ∷ []) (pattern_modes (next_part ps).later (drop (i + 1) bs)) ∙ unrolled)
 
   pub locals_next : (now new whole : List Local) → i < length bs → b ≡ get_or bs i b → later ≡ (next_part ps).later → with_pattern now ps (drop i bs) ≡ whole
       → new ≡ (b.name, (next_part ps).place) ∷ now → with_pattern new later (drop (i + 1) bs) ≡ whole
   locals_next now new whole h e l v n =
-      let unrolled : with_pattern now ps (b ∷ drop (i + 1) bs) ≡ whole = rw from_binder h e at v in
+      let unrolled : with_pattern now ps (b ∷ drop (i + 1) bs) ≡ whole = rw (from_binder h e) at v in
       rw (n, l) unrolled

@@ -16,7 +16,6 @@ mod place;
 mod read;
 mod scope;
 mod simple;
-mod stub;
 mod trees;
 mod types;
 mod unknown;

@@ -19,7 +19,7 @@ use crate::place::marked;
 use crate::trees::{applied, argument, boxed, lambda, monadic, pair, step, tuple_entry};
 use celf_sugar::{PBinder, PElim, PExpr, PMarked, PObj, PObjForm, PStep};
 use clf_sig::Signature;
-use crate::stub::eta;
+use clf_simple::eta;
 use clf_syntax::{
     Elim, Modes, Neutral, Obj, Or, Shortage, Simple, SimpleEntry, Step, TupleEntry,
 };

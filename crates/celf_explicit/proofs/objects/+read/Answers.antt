@@ -38,25 +38,25 @@ read_spine-returns-clause-read t c =
 
 pub read_tuple-loop-entry-preserved : goal.read_tuple-loop-entry-preserved
 read_tuple-loop-entry-preserved t c = record {
-  read = one_along desugared_marked (read_marked (plain_signature c.args.sig.now) (plain_locals c.args.locals.now)) later_parts (map plain_simple_entry c.loop-entry.wanted) c.args.tuple.now c.loop-entry.entry-index
+  read = one_along desugared_marked (read_marked (plain_signature c.args.sig.now) (plain_locals c.args.locals.now)) later_parts (map plain_simple_entry c.loop-entry.wanted.now) c.args.tuple.now c.loop-entry.entry-index
       plain_entry c.entry-item.result c.loop-entry.entries c.push.new.self c.in-Some.entry (map plain_simple_entry c.next_part.result.later.now)
       (read_along (read_marked (plain_signature c.args.sig.now) (plain_locals c.args.locals.now)) later_parts (map plain_simple_entry c.args.wanted.now) (map desugared_marked c.args.tuple.now))
       c.loop-entry-test.true c.entry-item.is c.loop-entry.invariant.read
-      (sym (ap (option_map plain_entry) c.in-Some.is) ∙ c.in_ok-entry.ensures.read ∙ ap (λ ls. read_marked (plain_signature c.args.sig.now) (plain_locals ls) (map plain_simple_entry c.loop-entry.wanted) (desugared_marked c.entry-item.result)) c.loop-entry.invariant.kept)
+      (sym (ap (option_map plain_entry) c.in-Some.is) ∙ c.in_ok-entry.ensures.read ∙ ap (λ ls. read_marked (plain_signature c.args.sig.now) (plain_locals ls) (map plain_simple_entry c.loop-entry.wanted.now) (desugared_marked c.entry-item.result)) c.loop-entry.invariant.kept)
       c.in_ok-push-in-Some.ensures.ok c.next_part.ensures.later;
   kept = c.in_ok-entry.ensures.kept ∙ c.loop-entry.invariant.kept;
 }
 
 pub read_tuple-returns-in-None-clause-read : goal.read_tuple-returns-in-None-clause-read
 read_tuple-returns-in-None-clause-read t c =
-    none_along desugared_marked (read_marked (plain_signature c.args.sig.now) (plain_locals c.args.locals.now)) later_parts (map plain_simple_entry c.loop-entry.wanted) c.args.tuple.now c.loop-entry.entry-index
+    none_along desugared_marked (read_marked (plain_signature c.args.sig.now) (plain_locals c.args.locals.now)) later_parts (map plain_simple_entry c.loop-entry.wanted.now) c.args.tuple.now c.loop-entry.entry-index
     c.entry-item.result (map plain_entry c.loop-entry.entries) (read_along (read_marked (plain_signature c.args.sig.now) (plain_locals c.args.locals.now)) later_parts (map plain_simple_entry c.args.wanted.now) (map desugared_marked c.args.tuple.now))
     c.loop-entry-test.true c.entry-item.is c.loop-entry.invariant.read
-    (sym (ap (option_map plain_entry) c.in-None.is) ∙ c.in_ok-entry.ensures.read ∙ ap (λ ls. read_marked (plain_signature c.args.sig.now) (plain_locals ls) (map plain_simple_entry c.loop-entry.wanted) (desugared_marked c.entry-item.result)) c.loop-entry.invariant.kept)
+    (sym (ap (option_map plain_entry) c.in-None.is) ∙ c.in_ok-entry.ensures.read ∙ ap (λ ls. read_marked (plain_signature c.args.sig.now) (plain_locals ls) (map plain_simple_entry c.loop-entry.wanted.now) (desugared_marked c.entry-item.result)) c.loop-entry.invariant.kept)
 
 pub read_tuple-returns-clause-read : goal.read_tuple-returns-clause-read
 read_tuple-returns-clause-read t c =
-    all_along desugared_marked (read_marked (plain_signature c.args.sig.now) (plain_locals c.args.locals.now)) later_parts (map plain_simple_entry c.loop-entry.wanted) c.args.tuple.now c.loop-entry.entry-index
+    all_along desugared_marked (read_marked (plain_signature c.args.sig.now) (plain_locals c.args.locals.now)) later_parts (map plain_simple_entry c.loop-entry.wanted.now) c.args.tuple.now c.loop-entry.entry-index
     (map plain_entry c.loop-entry.entries) (read_along (read_marked (plain_signature c.args.sig.now) (plain_locals c.args.locals.now)) later_parts (map plain_simple_entry c.args.wanted.now) (map desugared_marked c.args.tuple.now))
     c.loop-entry-test.false c.loop-entry.invariant.read
 
