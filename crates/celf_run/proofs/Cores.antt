@@ -1,6 +1,7 @@
 -- What is known of the core of an item that comes of a text.
 use Rattle.std.proofs.Common.{ℕ, ◌≡◌, ◌+◌, ◌≤◌, ◌<◌, ◌^◌, Bool, true, false, nat_le, nat_lt, if◌then◌else◌, refl, sym, ap, ◌∙◌, subst, Option, Some, None, List, [], ◌∷◌, ◌++◌, length, map, arith, Contains}
-use Rattle.std.proofs.lemmas.Bool.Decides.{nat_tests}
+use Rattle.std.proofs.lemmas.Bool.{leb-true}
+use Rattle.std.proofs.Math.Nat.{min-le_left, min-le_right}
 use Rattle.clf_syntax.specs.declared.tree.Mode.TheVariants.{Persistent, Affine, Linear}
 use Rattle.clf_syntax.specs.TypeTree as core
 use Rattle.clf_sig.specs.Entry.{PlainClass, family_of, constant_of, PlainEntry, PlainSignature, place_of, names}
@@ -69,13 +70,13 @@ fits-front (Some Star) t e = omega arith
 fits-front (Some (Number v s)) t e = go (nat_le v (leading (reading t).as_type)) refl e
   where
     go : (b : Bool) → nat_le v (leading (reading t).as_type) ≡ b → (if b then [] else s ∷ []) ≡ [] → implicit (Some (Number v s)) ≤ leading (reading t).as_type
-    go true is e = let low : v ≤ leading (reading t).as_type = grind (arith, nat_tests) in omega (arith, low)
+    go true is e = omega (arith, leb-true v (leading (reading t).as_type) is, min-le_left v (2 ^ 32 - 1))
     go false is e = absurd (cc)
 
 implicit-small : (i : Option Bound) → implicit i < 2 ^ 32
 implicit-small None = omega arith
 implicit-small (Some Star) = omega arith
-implicit-small (Some (Number v s)) = omega arith
+implicit-small (Some (Number v s)) = omega (arith, min-le_right v (2 ^ 32 - 1))
 
 -- No item of a text has 2 ^ 32 or more implicit arguments.
 pub count-small : (b : written.WrittenBody) (name : List ℕ) (count : ℕ) (c : DesugaredClass) → body b ≡ declare name count c → count < 2 ^ 32
