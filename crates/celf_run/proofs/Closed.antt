@@ -1,5 +1,5 @@
 -- Checks of closed trees over a well-formed signature: what they presuppose, and that the rules decide them.
-use Rattle.std.proofs.Common.{◌≡◌, ◌≤◌, refl, sym, subst, List, ℕ, [], Some, None, ◌⊎◌, inl, inr}
+use Rattle.std.proofs.Common.{◌≡◌, ◌≤◌, true, refl, sym, subst, List, ℕ, [], Some, None, ◌⊎◌, inl, inr}
 use Rattle.clf_syntax.specs.Tree.{PlainObject}
 use Rattle.clf_syntax.specs.TypeTree.{PlainType}
 use Rattle.clf_syntax.specs.Simple.{SimplyFormed}
