@@ -11,9 +11,10 @@ pub fn entries_are_spelled()
     ensures { EntriesAreSpelled }
 {}
 
-/// What is printed of an object without free variables and of a type is, behind `#check`, one item in one way, wherever there is
-/// room for all parts that its tokens open. It has no fault, and its desugared tree asks of the tree that the object is printed as whether it has the type
-/// that the type is printed as. Families and constants have names that can be declared, and variables are numbered below 2 ^ 64.
+/// What is printed of an object under no binders and of a type is, behind `#check`, one item in one way, wherever there is room for all
+/// parts that its tokens open. It has no fault, and its desugared tree asks of the tree that the object is printed as whether it has
+/// the type that the type is printed as. Families and constants have names that can be declared, and variables are numbered below
+/// 2 ^ 64.
 pub fn checks_are_spelled()
     ensures { ChecksAreSpelled }
 {}

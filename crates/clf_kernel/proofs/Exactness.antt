@@ -17,7 +17,7 @@ use Rattle.clf_decision.specs.Outcome.{Outcome, answer_of}
 use Rattle.clf_decision.specs.Checking.{checked, inferred, checked_expression}
 use Rattle.clf_decision.specs.Formation.{class_formed, kind_formed, type_formed}
 use Rattle.clf_decision.specs.Hereditary.{hereditary}
-use Rattle.clf_decision.specs.Puts.{Starts, FormationStarts, EntryStarts}
+use Rattle.clf_decision.specs.Starts.{Starts, FormationStarts, EntryStarts}
 use Rattle.clf_decision.proofs.AgreesWith.{AgreesWithType}
 use Rattle.clf_decision.proofs.DecidedOutcomes.{Decided, decided_as}
 use Rattle.clf_decision.proofs.FirstRefusals.{refuses_exactly, refuses_neutrals_exactly}

@@ -1,5 +1,5 @@
 -- Rows with newer variables that are held.
-use Rattle.std.proofs.Common.{◌≡◌, ℕ, zero, suc, ◌+◌, true, Bool, List, [], ◌∷◌, ◌++◌, length, reverse, refl, ap, ◌∙◌, arith}
+use Rattle.std.proofs.Common.{◌≡◌, ℕ, zero, suc, ◌+◌, true, Bool, List, [], ◌∷◌, ◌++◌, length, reverse, refl, ap, arith}
 use Rattle.std.proofs.lemmas.List.{reverse-append}
 use Rattle.clf_syntax.specs.declared.tree.Mode.{Mode}
 use Rattle.use_contexts.specs.Holding.{Holding, all_held}
@@ -15,5 +15,5 @@ pub held_pushed : (hs : List Bool) → reverse (hs ++ true ∷ []) ≡ true ∷ 
 held_pushed hs = reverse-append hs (true ∷ [])
 
 pub length-all_held : (ms : List Mode) (h : Holding) → length (all_held ms h) ≡ length ms + length h
-length-all_held [] h = refl
+length-all_held [] h = omega arith
 length-all_held (m ∷ ms) h = let e = length-all_held ms (true ∷ h) in omega (arith, e)

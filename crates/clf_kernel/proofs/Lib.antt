@@ -6,8 +6,11 @@ pub mod Exactness
 pub mod Raised
 pub mod Variables
 pub mod Held
+pub mod Differences
 pub mod Growing
 pub mod Closings
 pub mod Opening
 pub mod TupleSteps
+pub mod Expressions
 pub mod Patterns
+pub mod Entering

@@ -1,7 +1,5 @@
 -- What the calls of the kernel answer, in plain form.
-use Rattle.std.specs.Prelude.{ℕ, ◌≡◌, ◌≤◌, List, length, Option, Some, None}
-use Rattle.std.specs.List.{slice_get}
-use Rattle.clf_syntax.specs.Tree.{PlainObject}
+use Rattle.std.specs.Prelude.{◌≤◌, length}
 use Rattle.clf_syntax.specs.TypeTree.{PlainType}
 use Rattle.clf_syntax.specs.Plain.{plain_obj}
 use Rattle.clf_syntax.specs.PlainTypes.{plain_ty}
@@ -16,7 +14,6 @@ use Rattle.clf_kernel.specs.declared.refusal.AtType.TheVariants.{NotFunction as 
 use Rattle.clf_kernel.specs.declared.refusal.Inferred.{Inferred}
 use Rattle.clf_rules.specs.Refusal.{Cause, not_function, not_pair, not_top, not_monad, not_atomic, not_closed, mode_differs, width, not_held, unused, pairs_differ, family_differs, index_differs, family_arity, unknown_head}
 use Rattle.use_contexts.specs.Rows.{Leftover}
-use Rattle.clf_decision.specs.Checking.{first_unjoined}
 
 abbrev pub plain_cause : DeclaredCause → Cause
 plain_cause (NotFunction a) = not_function (plain_ty a)
@@ -52,8 +49,3 @@ plain_inferred i = (plain_ty i.ty, plain_left i.left)
 -- The list that it keeps has an entry for each number of 32 bits but one.
 abbrev pub IsWide : Wide → Type 0
 IsWide w = 4294967295 ≤ length (out-Tele w.counted).entries
-
--- The first place where the objects found are not joined with those wanted is this one, or there is none.
-abbrev pub IsFirstDifference : List PlainObject → List PlainObject → Option ℕ → Type 0
-IsFirstDifference found wanted None = first_unjoined found wanted ≡ None
-IsFirstDifference found wanted (Some i) = (o n : PlainObject) × (slice_get found i ≡ Some o) × (slice_get wanted i ≡ Some n) × (first_unjoined found wanted ≡ Some (o, n))

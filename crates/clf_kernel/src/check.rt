@@ -26,7 +26,7 @@ use crate::refusal::{AtType, Cause, Inferred, Stop, from_part, refuse, refuse_at
 use crate::rows::{allowed_of, left_outside, slack_of};
 use crate::scope::{close_scope, enter, leave, leave_to};
 use crate::trail::{Entered, Trail, close_steps, enter_step};
-use crate::tuple::{Rest, other_width};
+use crate::tuple::{Rest, too_long, too_short};
 use clf_sig::Signature;
 use clf_syntax::{Elim, Expr, Mode, Neutral, Obj, Step, Tele, TeleEntry, TupleEntry, Ty};
 use sqlite_items::Items;
@@ -487,6 +487,7 @@ fn check_tuple(
     ctx: &mut Ctx,
     row: Holding,
 ) -> Result<Left, Stop>
+    requires room { steps + length entries.now < 2 ^ 64 }
     requires marked { length (marks row) ≡ length (context ctx.old) }
     requires numbered { length (context ctx.old) < 2 ^ 32 }
     ensures outcome { Gives plain_left (checked_tuple hereditary (plain_signature sig.now) (context ctx.old) (marks row) steps 0 (tuple_of (map plain_entry entries.now)) (telescope_of (map plain_tele_entry types))) result }
@@ -500,13 +501,13 @@ fn check_tuple(
     let mut before = 0;
     for entry in entries {
         if rest.types.is_empty() {
-            return Err(other_width(alloc, before, entries.len()));
+            return Err(too_long(alloc, before, entries.len()));
         }
         rest = check_tuple_entry(alloc, steps + before, entry, rest, sig, ctx)?;
         before += 1;
     }
     if !rest.types.is_empty() {
-        return Err(other_width(alloc, before + rest.types.len(), before));
+        return Err(too_short(alloc, before, rest.types.len()));
     }
     Ok(rest.left)
 }

@@ -11,7 +11,7 @@ ghost use Rattle.clf_kernel.specs.Exact.{ChecksEntry, ChecksType, ChecksKind};
 ghost use Rattle.clf_decision.specs.Outcome.{passed, refused, at_part};
 ghost use Rattle.clf_decision.specs.Formation.{class_formed, kind_formed, type_formed, family_formed, indices_formed, telescope_formed};
 ghost use Rattle.clf_decision.specs.Hereditary.{hereditary};
-ghost use Rattle.clf_decision.specs.Puts.{FormationStarts, EntryStarts};
+ghost use Rattle.clf_decision.specs.Starts.{FormationStarts, EntryStarts};
 ghost use Rattle.clf_kernel.specs.Indices.{index_behind};
 ghost use Rattle.clf_kernel.specs.Stops.{Gives, IsEntered};
 

@@ -6,7 +6,7 @@ ghost use Rattle.clf_sig.specs.Signature.{plain_signature};
 ghost use Rattle.use_contexts.specs.Marks.{context, marks};
 ghost use Rattle.clf_syntax.specs.Simple.{SimplyFormed, SimplyFormedTelescope};
 ghost use Rattle.typing_laws.specs.SimpleTyping.{families_of, simple_of};
-ghost use Rattle.clf_decision.specs.Puts.{Starts};
+ghost use Rattle.clf_decision.specs.Starts.{Starts};
 ghost use Rattle.clf_decision.specs.Hereditary.{hereditary};
 ghost use Rattle.clf_kernel.specs.Exact.{ChecksObject, ChecksExpression, InfersNeutral};
 ghost use Rattle.clf_decision.specs.Checking.{checked, checked_expression, inferred};

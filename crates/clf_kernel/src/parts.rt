@@ -7,15 +7,16 @@ ghost use Rattle.use_contexts.specs.Marks.{context, marks};
 ghost use Rattle.use_contexts.specs.Rows.{newest_difference};
 ghost use Rattle.clf_decision.specs.Checking.{joined_left, unit_left, atomic_left, found_left, indices_left, first_unjoined, first_left, second_left};
 ghost use Rattle.clf_rules.specs.Refusal.{index_differs};
+ghost use Rattle.trace_equal.specs.Difference.{DiffersAt};
 ghost use Rattle.trace_equal.specs.Search.{same_mode};
 ghost use Rattle.clf_kernel.specs.Answers.{plain_left, plain_inferred};
 ghost use Rattle.clf_kernel.specs.Stops.{Gives, Ends};
 
 use crate::head::level;
-use crate::putting::first_difference;
 use crate::refusal::{AtType, Cause, Inferred, Stop, refuse, refuse_at, refuse_type};
 use clf_syntax::{Mode, Obj, Ty};
 use std::alloc::Global;
+use trace_equal::first_difference;
 use use_contexts::{Ctx, Differ, Holding, Left, join_add};
 
 #[tactic(auto, using(clf_syntax::specs::PlainTypes::plain_type_laws, crate::proofs::Stops::stop_laws))]
@@ -82,7 +83,7 @@ fn check_family(
 }
 
 /// The indices that are found are joined with those that are wanted.
-#[tactic(auto, using(crate::proofs::Stops::stop_laws))]
+#[tactic(auto, using(crate::proofs::Stops::stop_laws, crate::proofs::Differences::none_differs))]
 fn check_indices(
     alloc: Global,
     ctx: &Ctx,
@@ -96,12 +97,33 @@ fn check_indices(
 {
     match first_difference(alloc, found, wanted)? {
         None => Ok(left),
-        Some(place) => Err(differ_at(alloc, ctx, &found[place], &wanted[place])),
+        Some(place) => differ_at(alloc, ctx, place, found, wanted, left),
     }
 }
 
+/// A refusal at two indices that are not joined, unless the lists differ by their lengths, which formation has excluded.
+#[tactic(auto, using(crate::proofs::Stops::stop_laws, crate::proofs::Differences::one_ends))]
+fn differ_at(
+    alloc: Global,
+    ctx: &Ctx,
+    place: usize,
+    found: &[Obj],
+    wanted: &[Obj],
+    left: Left,
+) -> Result<Left, Stop>
+    requires numbered { length (context ctx.now) < 2 ^ 32 }
+    requires there { DiffersAt place (map plain_obj found.now) (map plain_obj wanted.now) }
+    ensures outcome { Gives plain_left (indices_left (context ctx.now) (first_unjoined (map plain_obj found.now) (map plain_obj wanted.now)) (plain_left left)) result }
+    ensures row { IfOk result (λ outer. outer.row ≡ left.row) }
+{
+    if place >= found.len() || place >= wanted.len() {
+        return Ok(left);
+    }
+    Err(refuse_indices(alloc, ctx, &found[place], &wanted[place]))
+}
+
 /// A refusal at two indices that are not joined.
-fn differ_at(alloc: Global, ctx: &Ctx, found: &Obj, wanted: &Obj) -> Stop
+fn refuse_indices(alloc: Global, ctx: &Ctx, found: &Obj, wanted: &Obj) -> Stop
     requires numbered { length (context ctx.now) < 2 ^ 32 }
     ensures { Ends [] (index_differs (length (context ctx.now)) (plain_obj found.now) (plain_obj wanted.now)) result }
 {

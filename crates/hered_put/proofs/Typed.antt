@@ -93,7 +93,7 @@ further w ps ms g z p m f h = ap (extended_by ps z) (twice h) ∙ subst (λ n. e
         sum i n = omega arith
     twice (Meta k) = refl
 
-same-itself : (m : Mode) → same_mode m m ≡ true
+pub same-itself : (m : Mode) → same_mode m m ≡ true
 same-itself Persistent = refl
 same-itself Affine = refl
 same-itself Linear = refl

@@ -1,4 +1,4 @@
-use Rattle.std.proofs.Common.{◌≡◌, ◌<◌, length, ap, sym, subst, arith}
+use Rattle.std.proofs.Common.{◌<◌, length, ap, sym, subst, arith}
 use Rattle.use_contexts.specs.Marks.{context}
 use Rattle.clf_kernel.specs.Trail.{IsGrown}
 use Rattle.clf_kernel.proofs.Growing.{grown_entered, grown_none, newest_entered, entries_length}

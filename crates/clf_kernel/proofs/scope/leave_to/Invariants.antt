@@ -1,5 +1,5 @@
 -- The older entries are kept.
-use Rattle.std.proofs.Common.{◌≡◌, ◌≤◌, ◌-◌, length}
+use Rattle.std.proofs.Common.{◌≡◌, length}
 use Rattle.use_contexts.specs.declared.context.Ctx.{Ctx as DeclaredCtx}
 use Rattle.use_contexts.specs.Marks.{context}
 use Rattle.clf_kernel.specs.Trail.{IsGrown}

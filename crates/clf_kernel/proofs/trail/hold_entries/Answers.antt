@@ -1,4 +1,4 @@
-use Rattle.std.proofs.Common.{◌≡◌, ◌∷◌, true, length, reverse, ap, ◌∙◌, sym, arith}
+use Rattle.std.proofs.Common.{◌∷◌, true, length, reverse, ap, ◌∙◌, sym, arith}
 use Rattle.use_contexts.specs.Marks.{marks}
 use Rattle.clf_kernel.proofs.Held.{held_more, held_pushed}
 use Rattle.clf_kernel.proofs.trail.hold_entries.Goals as goal
