@@ -15,3 +15,4 @@ pub mod PairSign
 pub mod ObjectText
 pub mod ChecksBack
 pub mod WithinReach
+pub mod OneReading

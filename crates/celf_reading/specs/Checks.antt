@@ -20,10 +20,6 @@ use Rattle.celf_explicit.specs.Reading.{read_check}
 abbrev pub judgment_text : PlainSignature → PlainObject → PlainType → List ℕ
 judgment_text sig n a = object_text sig (appearing [] n) 0 n ++ codes " : " ++ type_text sig (appearing_type [] a) 0 Whole a ++ codes ".\n"
 
--- the line of an object that has its type
-abbrev pub check_line : PlainSignature → PlainObject → PlainType → List ℕ
-check_line sig n a = codes "check: " ++ judgment_text sig n a
-
 -- An item without a fault asks over the signature whether this object has this type.
 abbrev pub Asks : PlainSignature → Written → PlainObject → PlainType → Type 0
 Asks sig item n a = (first_fault item ≡ None) × (o : plain.DesugaredObject) × (t : plain.DesugaredType) × ((desugared item).body ≡ plain.check o t) × (read_check sig o t ≡ Some (n, a))

@@ -3,6 +3,7 @@
 ghost use Rattle.celf_reading.specs.Bare.{IsBareEntry, IsBareSignature, IsBareType};
 ghost use Rattle.celf_reading.specs.Checks.{ChecksBack};
 ghost use Rattle.clf_printer.specs.Depth.{scope_depth};
+ghost use Rattle.celf_reading.specs.OneReading.{CheckIsOne, EntryIsOne};
 ghost use Rattle.celf_reading.specs.Reading.{ReadsBack};
 ghost use Rattle.clf_rules.specs.Typing.{HasType};
 ghost use Rattle.clf_sig.specs.Entry.{PlainEntry, PlainSignature};
@@ -22,4 +23,10 @@ pub fn reads_back()
 /// variables bound around it: so far are the numbers in their names written whole.
 pub fn checks_read_back()
     ensures { (sig : PlainSignature) (n : PlainObject) (a : PlainType) → IsBareSignature sig → IsBareType sig a → scope_depth n < 2 ^ 64 → HasType sig [] [] n a → ChecksBack sig n a }
+{}
+
+/// What a text declares is one name with one entry, and what it asks is one object with one type, however much room it is read in.
+pub fn reads_as_one()
+    ensures entry { EntryIsOne }
+    ensures check { CheckIsOne }
 {}

@@ -3,4 +3,4 @@
 
 mod laws;
 
-pub use laws::{checks_read_back, reads_back};
+pub use laws::{checks_read_back, reads_as_one, reads_back};
