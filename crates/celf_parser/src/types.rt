@@ -12,9 +12,7 @@ use crate::arrow::{open_backward, open_forward};
 use crate::form;
 use crate::leaf::{family_at, one_at, top_at, word_at};
 use crate::product::{Factor, product};
-use celf_cursor::{
-    Cursor, Stop, close, kind_of_next, open, open_star, span_from, take, take_name,
-};
+use celf_cursor::{Cursor, Stop, close, kind_of_next, open, open_star, span_from, take, take_name};
 use celf_lexer::TokenKind;
 use celf_surface::SType;
 use clf_syntax::{Mode, Name};

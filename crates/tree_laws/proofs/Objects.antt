@@ -166,9 +166,9 @@ expr-made y =
     let ss = map (λ (s : S). s.0) y.steps in
     let ts = map (λ (t : T). t.0) y.result in
     let steps : steps_back (steps_on (map plain_step ss) (done (tuple_of (map plain_entry ts)))) ≡ ss =
-        steps-back (map plain_step ss) (tuple_of (map plain_entry ts)) ∙ each-back plain_step step_back y.steps in
+    steps-back (map plain_step ss) (tuple_of (map plain_entry ts)) ∙ each-back plain_step step_back y.steps in
     let result : result_back (steps_on (map plain_step ss) (done (tuple_of (map plain_entry ts)))) ≡ ts =
-        result-back (map plain_step ss) (tuple_of (map plain_entry ts)) ∙ entries-back (map plain_entry ts) ∙ each-back plain_entry entry_back y.result in
+    result-back (map plain_step ss) (tuple_of (map plain_entry ts)) ∙ entries-back (map plain_entry ts) ∙ each-back plain_entry entry_back y.result in
     ap expression_back (plain-Expr ss ts)
     ∙ ap (λ xs. roll-Expr (record { steps = xs; result = result_back (steps_on (map plain_step ss) (done (tuple_of (map plain_entry ts)))) })) steps
     ∙ ap (λ xs. roll-Expr (record { steps = ss; result = xs })) result
@@ -177,7 +177,7 @@ neutral-made : (y : layer.Neutral-F E O X N S T) → NeutralBack (roll-Neutral (
 neutral-made y =
     let es = map (λ (e : E). e.0) y.spine in
     let spine : spine_back (spine_on (map plain_elim es) (head_alone y.head)) [] ≡ es =
-        spine-back (map plain_elim es) (head_alone y.head) [] ∙ ends (map elimination_back (map plain_elim es)) ∙ each-back plain_elim elimination_back y.spine in
+    spine-back (map plain_elim es) (head_alone y.head) [] ∙ ends (map elimination_back (map plain_elim es)) ∙ each-back plain_elim elimination_back y.spine in
     ap neutral_back (plain_neutral-made y.head es)
     ∙ ap (λ h. roll-Neutral (record { head = h; spine = spine_back (spine_on (map plain_elim es) (head_alone y.head)) [] })) (head-spine (map plain_elim es) (head_alone y.head))
     ∙ ap (λ xs. roll-Neutral (record { head = y.head; spine = xs })) spine
