@@ -3,14 +3,24 @@
 
 mod earliest;
 mod entry;
+mod heads;
 mod item;
+mod items;
 mod laws;
 mod locals;
 mod meaning;
+mod objects;
+mod parts;
 mod place;
 mod read;
 mod scope;
+mod simple;
+mod trees;
+mod types;
 mod unknown;
 
 pub use item::{UnknownName, explicit};
-pub use laws::{known_where_read, worked_readings};
+pub use items::core_of;
+pub use laws::{
+    core_where_explicit, known_where_read, simple_type_of_core, worked_cores, worked_readings,
+};

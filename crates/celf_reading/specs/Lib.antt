@@ -13,4 +13,4 @@ pub use Rattle.clf_printer.specs.Text
 pub mod Reading
 pub mod Checks
 pub mod Bare
-pub mod OneReading
+pub mod Lines
