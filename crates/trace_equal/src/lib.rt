@@ -10,4 +10,4 @@ mod rights;
 mod tables;
 
 pub use equality::{equal, first_difference, matching};
-pub use laws::{exchange, matchings, matchings_by_places};
+pub use laws::{exchange, matchings, matchings_by_places, outside_monads};
