@@ -5,7 +5,7 @@ use Rattle.clf_syntax.specs.Word.{is_declarable}
 use Rattle.clf_syntax.specs.Occurs.{occurs_type}
 use Rattle.clf_syntax.specs.TypeTree.{PlainType, family, function, both as additive_pair, top as additive_unit, monad}
 use Rattle.clf_sig.specs.Entry.{PlainClass, family_of, constant_of, PlainEntry, PlainSignature, place_of, class_at}
-use Rattle.clf_kernel.specs.Reach.{without_indices}
+use Rattle.clf_rules.specs.Reach.{without_indices}
 use Rattle.celf_explicit.specs.Names.{family_only, family_named}
 use Rattle.celf_explicit.specs.Reading.{read_type}
 use Rattle.celf_explicit.specs.Entries.{read_class, fresh_entry, read_entry}

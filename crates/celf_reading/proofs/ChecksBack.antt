@@ -12,7 +12,7 @@ use Rattle.clf_syntax.specs.Simple.{erase}
 use Rattle.clf_syntax.specs.Tree.{PlainObject}
 use Rattle.clf_syntax.specs.TypeTree.{PlainType}
 use Rattle.clf_sig.specs.Entry.{PlainSignature}
-use Rattle.clf_kernel.specs.Typing.{HasType}
+use Rattle.clf_rules.specs.Typing.{HasType}
 use Rattle.clf_printer.specs.declared.place.Place.TheVariants.{Whole as whole}
 use Rattle.clf_printer.specs.Text.{object_text, type_text}
 use Rattle.clf_printer.specs.Metas.{appearing, appearing_type}

@@ -13,8 +13,8 @@ use Rattle.clf_syntax.specs.Word.{is_variable_word}
 use Rattle.use_contexts.specs.Context.{Context}
 use Rattle.use_contexts.specs.Holding.{Holding}
 use Rattle.clf_sig.specs.Entry.{PlainSignature}
-use Rattle.clf_kernel.specs.Typing.{HeadHasType, HasType, Synthesizes}
-use Rattle.clf_kernel.proofs.WithoutIndices.{renamed-type, same-type}
+use Rattle.clf_rules.specs.Typing.{HeadHasType, HasType, Synthesizes}
+use Rattle.clf_rules.proofs.WithoutIndices.{renamed-type, same-type}
 use Rattle.clf_printer.specs.Text.{when, variable_text, used_variable_text, place_text, grouped, is_application, is_atom, object_text, neutral_text}
 use Rattle.celf_reading.specs.Bare.{IsBareType, IsBareSignature}
 use Rattle.clf_printer.specs.Depth.{scope_depth, neutral_depth}

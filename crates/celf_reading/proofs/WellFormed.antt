@@ -5,8 +5,8 @@ use Rattle.clf_syntax.specs.TypeTree.{PlainType, family, function, both, top, mo
 use Rattle.use_contexts.specs.Context.{Context}
 use Rattle.clf_sig.specs.Entry.{PlainClass, family_of, constant_of, PlainEntry, PlainSignature, place_of, class_at, family_kind, names}
 use Rattle.clf_sig.proofs.Names.{is_named}
-use Rattle.clf_kernel.specs.WellFormed.{WellFormedType, WellFormedClass, WellFormedEntry, AllMayFollow, WellFormedSignature}
-use Rattle.clf_kernel.proofs.Signatures.{families_without_arguments}
+use Rattle.clf_rules.specs.WellFormed.{WellFormedType, WellFormedClass, WellFormedEntry, AllMayFollow, WellFormedSignature}
+use Rattle.clf_rules.proofs.Signatures.{families_without_arguments}
 use Rattle.celf_explicit.specs.Entries.{read_entry}
 use Rattle.celf_reading.specs.Bare.{IsBareType, IsBareClass, IsBareEntry, AreBare, IsBareSignature}
 use Rattle.celf_reading.proofs.Bare.{read_entry-bare}

@@ -5,7 +5,7 @@ use Rattle.clf_syntax.specs.Tree.{PlainObject, lam, pair, unit, atomic, PlainNeu
 use Rattle.clf_syntax.specs.TypeTree.{PlainType, PlainKind}
 use Rattle.clf_syntax.specs.Simple.{erase}
 use Rattle.clf_sig.specs.Entry.{PlainClass, family_of, constant_of, PlainSignature, kind_in, family_kind, constant_type, class_at}
-use Rattle.clf_kernel.specs.Reach.{SignatureInReach, without_indices, without_monads, neutral_without_monads}
+use Rattle.clf_rules.specs.Reach.{SignatureInReach, without_indices, without_monads, neutral_without_monads}
 use Rattle.celf_sugar.specs.PlainTree as plain
 use Rattle.celf_explicit.specs.Reading.{Place, Local, Typed, head, place_of_head, applied, behind, combined, domain, codomain, left_part, right_part, marked, mode_at, stays, read_type, read_object, read_spine, read_act, with_type, read_against, read_check}
 use Rattle.celf_reading.specs.Bare.{IsBareType, IsBareSignature}

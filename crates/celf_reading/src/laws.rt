@@ -4,7 +4,7 @@ ghost use Rattle.celf_reading.specs.Bare.{IsBareEntry, IsBareSignature, IsBareTy
 ghost use Rattle.celf_reading.specs.Checks.{ChecksBack};
 ghost use Rattle.clf_printer.specs.Depth.{scope_depth};
 ghost use Rattle.celf_reading.specs.Reading.{ReadsBack};
-ghost use Rattle.clf_kernel.specs.Typing.{HasType};
+ghost use Rattle.clf_rules.specs.Typing.{HasType};
 ghost use Rattle.clf_sig.specs.Entry.{PlainEntry, PlainSignature};
 ghost use Rattle.clf_syntax.specs.Tree.{PlainObject};
 ghost use Rattle.clf_syntax.specs.TypeTree.{PlainType};

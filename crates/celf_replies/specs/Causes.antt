@@ -2,7 +2,7 @@
 use Rattle.std.specs.Prelude.{ℕ, List, [], ◌∷◌, ◌++◌, codes}
 use Rattle.std.specs.Fmt.{decimal}
 use Rattle.clf_sig.specs.Entry.{PlainSignature}
-use Rattle.clf_kernel.specs.Refusal.{Cause, not_function, not_pair, not_top, not_monad, not_atomic, not_closed, mode_differs, width, not_held, unused, pairs_differ, family_differs, index_differs, family_arity, unknown_head}
+use Rattle.clf_rules.specs.Refusal.{Cause, not_function, not_pair, not_top, not_monad, not_atomic, not_closed, mode_differs, width, not_held, unused, pairs_differ, family_differs, index_differs, family_arity, unknown_head}
 use Rattle.clf_printer.specs.Text.{place_text, variable_text, object_text}
 
 abbrev pub cause_text : PlainSignature → Cause → List ℕ

@@ -4,7 +4,7 @@ use Rattle.clf_syntax.specs.Plain.{plain_obj}
 use Rattle.clf_syntax.specs.PlainTypes.{plain_ty}
 use Rattle.clf_syntax.specs.Tree.{PlainObject}
 use Rattle.clf_syntax.specs.TypeTree.{PlainType}
-use Rattle.clf_kernel.specs.Refusal.{Cause}
+use Rattle.clf_rules.specs.Refusal.{Cause}
 use Rattle.clf_kernel.specs.Answers.{plain_cause}
 use Rattle.celf_replies.specs.declared.reply.Why.{Why}
 use Rattle.celf_replies.specs.declared.reply.Why.TheVariants.{BadByte, LongName, Unexpected, Directive, TooDeep, KindPlace, NotAsync, Redex, OutOfRange, BadImplicit, Duplicate, Full, UnknownName, Kernel, NotYet}

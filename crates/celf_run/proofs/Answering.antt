@@ -12,9 +12,9 @@ use Rattle.clf_sig.specs.declared.entry.Entry.{Entry}
 use Rattle.clf_sig.specs.Entry.{PlainEntry, PlainSignature, place_of}
 use Rattle.clf_sig.specs.Signature.{Declared as Declarations, plain_signature, plain_entry}
 use Rattle.clf_sig.proofs.Names.{plain_signature-append}
-use Rattle.clf_kernel.specs.Typing.{HasType}
-use Rattle.clf_kernel.specs.Explained.{ExplainedAt}
-use Rattle.clf_kernel.specs.Refusal.{Cause}
+use Rattle.clf_rules.specs.Typing.{HasType}
+use Rattle.clf_rules.specs.Explained.{ExplainedAt}
+use Rattle.clf_rules.specs.Refusal.{Cause}
 use Rattle.clf_kernel.specs.declared.refusal.Refusal.{Refusal}
 use Rattle.clf_kernel.specs.Answers.{plain_cause}
 use Rattle.clf_syntax.specs.Tree.{PlainObject}

@@ -1,7 +1,7 @@
 -- The core that is read of an item over a bare signature is within reach.
 use Rattle.std.proofs.Common.{ℕ, ◌≡◌, true, refl, sym, ◌∙◌, subst, Option, Some, None, option_map, List}
 use Rattle.clf_sig.specs.Entry.{PlainEntry, PlainSignature}
-use Rattle.clf_kernel.specs.Reach.{without_monads}
+use Rattle.clf_rules.specs.Reach.{without_monads}
 use Rattle.celf_sugar.specs.PlainTree.{DesugaredBody, declare, query, trace, equal, check}
 use Rattle.celf_explicit.specs.Entries.{read_entry}
 use Rattle.celf_explicit.specs.Reading.{read_check}

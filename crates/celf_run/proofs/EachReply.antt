@@ -4,14 +4,14 @@ use Rattle.clf_syntax.specs.Tree.{PlainObject}
 use Rattle.clf_syntax.specs.TypeTree.{PlainType}
 use Rattle.clf_sig.specs.Entry.{PlainEntry, PlainSignature, place_of}
 use Rattle.clf_sig.specs.Core.{PlainCore, declares, queries, traces, equates, checks}
-use Rattle.clf_kernel.specs.Typing.{HasType}
-use Rattle.clf_kernel.specs.Explained.{ExplainedAt}
-use Rattle.clf_kernel.specs.Refusal.{Cause}
-use Rattle.clf_kernel.specs.Outcome.{Outcome, passed, refused as refused_outcome, answer_of}
-use Rattle.clf_kernel.specs.Checking.{staying, checked as checked_outcome}
-use Rattle.clf_kernel.proofs.InReach.{object_in_reach}
-use Rattle.clf_kernel.proofs.Agreement.{checks_exactly}
-use Rattle.clf_kernel.proofs.OneAnswer.{refused_is_explained}
+use Rattle.clf_rules.specs.Typing.{HasType}
+use Rattle.clf_rules.specs.Explained.{ExplainedAt}
+use Rattle.clf_rules.specs.Refusal.{Cause}
+use Rattle.clf_check.specs.Outcome.{Outcome, passed, refused as refused_outcome, answer_of}
+use Rattle.clf_check.specs.Checking.{staying, checked as checked_outcome}
+use Rattle.clf_check.proofs.InReach.{object_in_reach}
+use Rattle.clf_check.proofs.Agreement.{checks_exactly}
+use Rattle.clf_check.proofs.OneAnswer.{refused_is_explained}
 use Rattle.use_contexts.specs.Rows.{Agrees, Leftover}
 use Rattle.celf_surface.specs.Surface.{WrittenItem}
 use Rattle.celf_sugar.specs.declared.plain.PName.{PName}

@@ -4,9 +4,9 @@ use Rattle.clf_syntax.specs.Tree.{PlainObject}
 use Rattle.clf_syntax.specs.TypeTree.{PlainType}
 use Rattle.clf_sig.specs.Entry.{PlainEntry, PlainSignature, place_of}
 use Rattle.clf_sig.specs.Core.{PlainCore, declares, queries, traces, equates, checks}
-use Rattle.clf_kernel.specs.Refusal.{Cause}
-use Rattle.clf_kernel.proofs.InReach.{object_in_reach}
-use Rattle.clf_kernel.proofs.OneAnswer.{refusal_is_one}
+use Rattle.clf_rules.specs.Refusal.{Cause}
+use Rattle.clf_check.proofs.InReach.{object_in_reach}
+use Rattle.clf_check.proofs.OneAnswer.{refusal_is_one}
 use Rattle.celf_surface.specs.Surface.{WrittenItem}
 use Rattle.celf_sugar.specs.PlainTree.{DesugaredItem}
 use Rattle.celf_sugar.specs.Sugar.{desugared}

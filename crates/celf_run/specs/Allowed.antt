@@ -3,10 +3,10 @@ use Rattle.std.specs.Prelude.{ℕ, ◌≡◌, List, [], ◌∷◌, ◌++◌, len
 use Rattle.clf_syntax.specs.Tree.{PlainObject}
 use Rattle.clf_syntax.specs.TypeTree.{PlainType}
 use Rattle.clf_sig.specs.Entry.{PlainEntry, PlainSignature, place_of}
-use Rattle.clf_kernel.specs.Typing.{HasType}
-use Rattle.clf_kernel.specs.WellFormed.{WellFormedType, MayFollow}
-use Rattle.clf_kernel.specs.Refusal.{Cause}
-use Rattle.clf_kernel.specs.Explained.{ExplainedAt}
+use Rattle.clf_rules.specs.Typing.{HasType}
+use Rattle.clf_rules.specs.WellFormed.{WellFormedType, MayFollow}
+use Rattle.clf_rules.specs.Refusal.{Cause}
+use Rattle.clf_rules.specs.Explained.{ExplainedAt}
 use Rattle.celf_surface.specs.Surface.{WrittenItem}
 use Rattle.celf_sugar.specs.declared.plain.PName.{PName}
 use Rattle.celf_sugar.specs.declared.fault.SugarFault.{SugarFault}

@@ -11,10 +11,10 @@ use Rattle.clf_syntax.specs.declared.fault.Want.TheVariants.{NoMemory as no_memo
 use Rattle.clf_kernel.specs.declared.refusal.Refusal.{Refusal}
 use Rattle.clf_syntax.specs.Wide.{IsWide, IsWant}
 use Rattle.clf_kernel.specs.Answers.{plain_cause}
-use Rattle.clf_kernel.specs.Typing.{HasType}
-use Rattle.clf_kernel.specs.Explained.{ExplainedAt}
-use Rattle.clf_kernel.specs.Reach.{without_monads}
-use Rattle.clf_kernel.specs.Refusal.{Cause}
+use Rattle.clf_rules.specs.Typing.{HasType}
+use Rattle.clf_rules.specs.Explained.{ExplainedAt}
+use Rattle.clf_rules.specs.Reach.{without_monads}
+use Rattle.clf_rules.specs.Refusal.{Cause}
 use Rattle.celf_sugar.specs.PlainTree.{DesugaredItem}
 use Rattle.celf_reading.specs.Bare.{IsBareType, IsBareEntry}
 use Rattle.celf_replies.specs.declared.reply.Reply.{Reply}

@@ -3,9 +3,9 @@ pub use Rattle.clf_syntax.specs.Wide
 pub use Rattle.clf_syntax.specs.TypeTree
 pub use Rattle.clf_sig.specs.Entry
 pub use Rattle.clf_sig.specs.Core
-pub use Rattle.clf_kernel.specs.WellFormed
-pub use Rattle.clf_kernel.specs.Typing
-pub use Rattle.clf_kernel.specs.Explained
+pub use Rattle.clf_rules.specs.WellFormed
+pub use Rattle.clf_rules.specs.Typing
+pub use Rattle.clf_rules.specs.Explained
 pub use Rattle.celf_source.specs.Count
 pub use Rattle.celf_source.specs.Shelf
 pub use Rattle.celf_source.specs.Sink

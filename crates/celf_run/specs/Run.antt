@@ -1,6 +1,6 @@
 -- A whole run, by how it ends and by what the shelf tells of its files.
 use Rattle.std.specs.Prelude.{ℕ, ◌≡◌, ◌<◌, ◌⊎◌, List, [], length, Option, Some, None}
-use Rattle.clf_kernel.specs.WellFormed.{WellFormedSignature}
+use Rattle.clf_rules.specs.WellFormed.{WellFormedSignature}
 use Rattle.celf_source.specs.Shelf.{Told, untold, lacking, holding}
 use Rattle.celf_source.specs.Sink.{Appends}
 use Rattle.celf_run.specs.declared.options.Options.{Options}

@@ -5,8 +5,8 @@ use Rattle.clf_syntax.specs.TypeTree.{PlainType, PlainKind}
 use Rattle.clf_sig.specs.declared.entry.Entry.{Entry}
 use Rattle.clf_sig.specs.Entry.{PlainSignature, Declaration, PlainClass, family_of, constant_of, kind_in, type_in, family_kind, constant_type}
 use Rattle.clf_sig.specs.Signature.{Declared, plain_entry, plain_signature}
-use Rattle.clf_kernel.specs.Reach.{without_indices, ClassInReach}
-use Rattle.clf_kernel.specs.Reach.{SignatureInReach}
+use Rattle.clf_rules.specs.Reach.{without_indices, ClassInReach}
+use Rattle.clf_rules.specs.Reach.{SignatureInReach}
 
 type_without : (c : PlainClass) (a : PlainType) → ClassInReach c → type_in c ≡ Some a → without_indices a ≡ true
 type_without (constant_of b) a s e = let q : b ≡ a = cc in subst (λ x. without_indices x ≡ true) q s

@@ -1,7 +1,7 @@
 //! The call of the kernel that the program does not make. Those that it makes are tried by checks, as files in tests/.
 ghost use Rattle.std.specs.Prelude.{◌≡◌};
 ghost use Rattle.clf_sig.specs.Signature.{plain_entry, plain_signature};
-ghost use Rattle.clf_kernel.specs.Reach.{SignatureInReach, ClassInReach};
+ghost use Rattle.clf_rules.specs.Reach.{SignatureInReach, ClassInReach};
 
 use crate::trees::{atom, constant, family, function};
 use clf_kernel::{Cause, Refusal, check_entry};

@@ -6,8 +6,8 @@ use Rattle.clf_syntax.specs.TypeTree.{binding, telescope_of}
 use Rattle.clf_syntax.specs.PlainTypes.{plain_ty, plain_tele_entry, plain-tele-entry}
 use Rattle.clf_sig.specs.Entry.{PlainSignature}
 use Rattle.clf_kernel.specs.declared.refusal.Stop.{Stop}
-use Rattle.clf_kernel.specs.Outcome.{passed, at_part, and_then}
-use Rattle.clf_kernel.specs.Formation.{type_formed, telescope_formed}
+use Rattle.clf_check.specs.Outcome.{passed, at_part, and_then}
+use Rattle.clf_check.specs.Formation.{type_formed, telescope_formed}
 use Rattle.clf_kernel.specs.Stops.{Stops}
 use Rattle.clf_kernel.proofs.Stops.{then_stops}
 

@@ -11,19 +11,19 @@ use Rattle.use_contexts.specs.Rows.{Agrees, Leftover}
 use Rattle.clf_sig.specs.Entry.{PlainSignature, PlainEntry}
 use Rattle.clf_kernel.specs.declared.refusal.Refusal.{Refusal}
 use Rattle.clf_kernel.specs.declared.refusal.Inferred.{Inferred}
-use Rattle.clf_kernel.specs.Typing.{HasType, Synthesizes}
-use Rattle.clf_kernel.specs.WellFormed.{WellFormedEntry}
-use Rattle.clf_kernel.specs.Reach.{ObjectInReach, NeutralInReach, EntryInReach}
-use Rattle.clf_kernel.specs.Outcome.{Outcome, answer_of}
-use Rattle.clf_kernel.specs.Checking.{staying, checked, inferred}
-use Rattle.clf_kernel.specs.Formation.{class_formed}
+use Rattle.clf_rules.specs.Typing.{HasType, Synthesizes}
+use Rattle.clf_rules.specs.WellFormed.{WellFormedEntry}
+use Rattle.clf_rules.specs.Reach.{ObjectInReach, NeutralInReach, EntryInReach}
+use Rattle.clf_check.specs.Outcome.{Outcome, answer_of}
+use Rattle.clf_check.specs.Checking.{staying, checked, inferred}
+use Rattle.clf_check.specs.Formation.{class_formed}
 use Rattle.clf_kernel.specs.Answers.{plain_left, plain_inferred, plain_cause}
 use Rattle.clf_kernel.specs.Exact.{ChecksObject, InfersNeutral, ChecksEntry}
 use Rattle.clf_kernel.specs.Stops.{Answers}
-use Rattle.clf_kernel.proofs.Agreement.{AgreesWithType, checks_exactly, infers_exactly}
-use Rattle.clf_kernel.proofs.FirstRefusals.{refuses_exactly, refuses_neutrals_exactly}
-use Rattle.clf_kernel.proofs.Formed.{Decided, decided_entry}
-use Rattle.clf_kernel.proofs.EntryRefusals.{explained-class}
+use Rattle.clf_check.proofs.Agreement.{AgreesWithType, checks_exactly, infers_exactly}
+use Rattle.clf_check.proofs.FirstRefusals.{refuses_exactly, refuses_neutrals_exactly}
+use Rattle.clf_check.proofs.Formed.{Decided, decided_entry}
+use Rattle.clf_check.proofs.EntryRefusals.{explained-class}
 
 pub checks-object : (sig : PlainSignature) (g : Context) (h : Holding) (n : PlainObject) (t : PlainType) (r : Result Left (OrWide Refusal)) → ObjectInReach sig g h n t
     → Answers plain_left (checked staying sig g h n t) r → ChecksObject sig g h n t r

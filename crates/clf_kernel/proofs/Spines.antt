@@ -9,10 +9,10 @@ use Rattle.clf_syntax.specs.TypeTree.{PlainType}
 use Rattle.use_contexts.specs.Context.{Context}
 use Rattle.use_contexts.specs.Holding.{Holding}
 use Rattle.clf_sig.specs.Entry.{PlainSignature}
-use Rattle.clf_kernel.specs.Refusal.{eliminations}
-use Rattle.clf_kernel.specs.Outcome.{Outcome, passed, refused, and_then}
+use Rattle.clf_rules.specs.Refusal.{eliminations}
+use Rattle.clf_check.specs.Outcome.{Outcome, passed, refused, and_then}
 use Rattle.use_contexts.specs.Rows.{Leftover}
-use Rattle.clf_kernel.specs.Checking.{staying, head_left, inferred}
+use Rattle.clf_check.specs.Checking.{staying, head_left, inferred}
 use Rattle.clf_kernel.specs.declared.refusal.Stop.{Stop}
 use Rattle.clf_kernel.specs.Spine.{elimination_left, spine_left}
 use Rattle.clf_kernel.specs.Stops.{Stops}

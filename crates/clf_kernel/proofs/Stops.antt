@@ -7,8 +7,8 @@ use Rattle.use_contexts.specs.Holding.{Holding, WellMarked}
 use Rattle.clf_kernel.specs.declared.refusal.Refusal.{Refusal}
 use Rattle.clf_kernel.specs.declared.refusal.Stop.{Stop}
 use Rattle.clf_kernel.specs.declared.refusal.Stop.TheVariants.{Refused, NoMemory, TooFar}
-use Rattle.clf_kernel.specs.Refusal.{Cause}
-use Rattle.clf_kernel.specs.Outcome.{Outcome, refused, at_part, and_then}
+use Rattle.clf_rules.specs.Refusal.{Cause}
+use Rattle.clf_check.specs.Outcome.{Outcome, refused, at_part, and_then}
 use Rattle.clf_kernel.specs.Answers.{plain_cause, IsWide}
 use Rattle.clf_kernel.specs.Stops.{Stops, Ends, IsShort, IsPartOf, IsFault, Answers}
 

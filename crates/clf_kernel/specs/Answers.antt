@@ -9,7 +9,7 @@ use Rattle.use_contexts.specs.Marks.{marks}
 use Rattle.clf_kernel.specs.declared.refusal.Cause.{Cause as DeclaredCause}
 use Rattle.clf_kernel.specs.declared.refusal.Cause.TheVariants.{NotFunction, NotPair, NotTop, NotAtomic, NotClosed, ModeDiffers, NotHeld, Unused, PairsDiffer, FamilyDiffers, UnknownHead}
 use Rattle.clf_kernel.specs.declared.refusal.Inferred.{Inferred}
-use Rattle.clf_kernel.specs.Refusal.{Cause, not_function, not_pair, not_top, not_atomic, not_closed, mode_differs, not_held, unused, pairs_differ, family_differs, unknown_head}
+use Rattle.clf_rules.specs.Refusal.{Cause, not_function, not_pair, not_top, not_atomic, not_closed, mode_differs, not_held, unused, pairs_differ, family_differs, unknown_head}
 use Rattle.use_contexts.specs.Rows.{Leftover}
 
 abbrev pub plain_cause : DeclaredCause → Cause

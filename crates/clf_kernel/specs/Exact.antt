@@ -14,9 +14,10 @@ use Rattle.use_contexts.specs.Rows.{IsSubholding, Agrees, Leftover}
 use Rattle.clf_sig.specs.Entry.{PlainSignature, PlainEntry}
 use Rattle.clf_kernel.specs.declared.refusal.Refusal.{Refusal}
 use Rattle.clf_kernel.specs.declared.refusal.Inferred.{Inferred}
-use Rattle.clf_kernel.specs.Typing.{HasType, Synthesizes}
-use Rattle.clf_kernel.specs.WellFormed.{WellFormedEntry}
-use Rattle.clf_kernel.specs.Explained.{ExplainedAt, ExplainedInNeutral, ExplainedInClass}
+use Rattle.clf_rules.specs.Typing.{HasType, Synthesizes}
+use Rattle.clf_check.specs.Laws.{InferredIs}
+use Rattle.clf_rules.specs.WellFormed.{WellFormedEntry}
+use Rattle.clf_rules.specs.Explained.{ExplainedAt, ExplainedInNeutral, ExplainedInClass}
 use Rattle.clf_kernel.specs.Answers.{plain_left, plain_inferred, plain_cause, IsWide}
 
 -- What is left stands for exactly the parts of the holding under which the object has the type. A refusal comes exactly where there is no
@@ -26,10 +27,6 @@ ChecksObject sig g h n t (Ok left) = Agrees (modes g) h (Some (plain_left left))
 ChecksObject sig g h n t (Err (Fault r)) = Agrees (modes g) h None (λ p. HasType sig g p n t) × ExplainedAt sig g h n t r.path.items (plain_cause r.cause)
 ChecksObject sig g h n t (Err NoMemory) = Unit {0}
 ChecksObject sig g h n t (Err (TooFar w)) = IsWide w
-
--- The neutral synthesizes this type and no other, and what is left stands for exactly the parts of the holding under which it does.
-abbrev pub InferredIs : PlainSignature → Context → Holding → PlainNeutral → PlainType × Leftover → Type 0
-InferredIs sig g h r found = Agrees (modes g) h (Some found.1) (λ p. Synthesizes sig g p r found.0) × ((p : Holding) (a : PlainType) → Synthesizes sig g p r a → a ≡ found.0)
 
 -- A refusal comes exactly where no part of the holding gives the neutral a type.
 abbrev pub InfersNeutral : PlainSignature → Context → Holding → PlainNeutral → Result Inferred (OrWide Refusal) → Type 0

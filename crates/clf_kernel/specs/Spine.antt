@@ -7,8 +7,8 @@ use Rattle.use_contexts.specs.Context.{Context, modes}
 use Rattle.use_contexts.specs.Holding.{Holding, allowed}
 use Rattle.use_contexts.specs.Rows.{outside, slack_outside, Leftover}
 use Rattle.clf_sig.specs.Entry.{PlainSignature}
-use Rattle.clf_kernel.specs.Outcome.{Outcome, passed, at_part, and_then}
-use Rattle.clf_kernel.specs.Checking.{Put, argument_left, first_left, second_left, checked}
+use Rattle.clf_check.specs.Outcome.{Outcome, passed, at_part, and_then}
+use Rattle.clf_check.specs.Checking.{Put, argument_left, first_left, second_left, checked}
 
 -- what an argument of this mode leaves of what its function left
 abbrev pub argument_used : Mode → Context → ℕ → Leftover → (Holding → Outcome Leftover) → Outcome Leftover

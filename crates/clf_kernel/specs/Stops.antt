@@ -7,8 +7,8 @@ use Rattle.use_contexts.specs.declared.context.Ctx.{Ctx}
 use Rattle.clf_kernel.specs.declared.refusal.Refusal.{Refusal}
 use Rattle.clf_kernel.specs.declared.refusal.Stop.{Stop}
 use Rattle.clf_kernel.specs.declared.refusal.Stop.TheVariants.{Refused, NoMemory as StopNoMemory, TooFar as StopTooFar}
-use Rattle.clf_kernel.specs.Refusal.{Cause}
-use Rattle.clf_kernel.specs.Outcome.{Outcome, passed, refused}
+use Rattle.clf_rules.specs.Refusal.{Cause}
+use Rattle.clf_check.specs.Outcome.{Outcome, passed, refused}
 use Rattle.clf_kernel.specs.Answers.{plain_cause, IsWide}
 
 -- A check that stops does not pass: it is refused, where the path has the number of the innermost part first, or ends for want of

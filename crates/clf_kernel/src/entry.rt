@@ -4,10 +4,10 @@ ghost use Rattle.clf_syntax.specs.TypeTree.{telescope_of};
 ghost use Rattle.clf_syntax.specs.PlainTypes.{plain_ty, plain_kind, plain_tele_entry};
 ghost use Rattle.clf_sig.specs.Entry.{family_kind as kind_of_family};
 ghost use Rattle.clf_sig.specs.Signature.{plain_class, plain_entry, plain_signature};
-ghost use Rattle.clf_kernel.specs.Reach.{EntryInReach};
+ghost use Rattle.clf_rules.specs.Reach.{EntryInReach};
 ghost use Rattle.clf_kernel.specs.Exact.{ChecksEntry};
-ghost use Rattle.clf_kernel.specs.Outcome.{at_part};
-ghost use Rattle.clf_kernel.specs.Formation.{class_formed, type_formed, family_formed, telescope_formed};
+ghost use Rattle.clf_check.specs.Outcome.{at_part};
+ghost use Rattle.clf_check.specs.Formation.{class_formed, type_formed, family_formed, telescope_formed};
 ghost use Rattle.clf_kernel.specs.Stops.{Gives};
 
 use crate::refusal::{Cause, Refusal, Stop, fault, from_part, refuse};

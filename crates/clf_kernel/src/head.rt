@@ -4,9 +4,9 @@ ghost use Rattle.clf_syntax.specs.PlainTypes.{plain_ty};
 ghost use Rattle.clf_sig.specs.Entry.{constant_type as type_of_constant};
 ghost use Rattle.clf_sig.specs.Signature.{plain_signature};
 ghost use Rattle.use_contexts.specs.Marks.{context, marks};
-ghost use Rattle.clf_kernel.specs.Refusal.{level as level_of};
-ghost use Rattle.clf_kernel.specs.Outcome.{passed};
-ghost use Rattle.clf_kernel.specs.Checking.{head_left, constant_left, variable_left};
+ghost use Rattle.clf_rules.specs.Refusal.{level as level_of};
+ghost use Rattle.clf_check.specs.Outcome.{passed};
+ghost use Rattle.clf_check.specs.Checking.{head_left, constant_left, variable_left};
 ghost use Rattle.clf_kernel.specs.Answers.{plain_inferred};
 ghost use Rattle.clf_kernel.specs.Stops.{Gives};
 

@@ -4,9 +4,9 @@ ghost use Rattle.clf_syntax.specs.Plain.{plain_obj, plain_neutral};
 ghost use Rattle.clf_syntax.specs.PlainTypes.{plain_ty};
 ghost use Rattle.clf_sig.specs.Signature.{plain_signature};
 ghost use Rattle.use_contexts.specs.Marks.{context, marks};
-ghost use Rattle.clf_kernel.specs.Reach.{ObjectInReach, NeutralInReach};
+ghost use Rattle.clf_rules.specs.Reach.{ObjectInReach, NeutralInReach};
 ghost use Rattle.clf_kernel.specs.Exact.{ChecksObject, InfersNeutral};
-ghost use Rattle.clf_kernel.specs.Checking.{staying, checked, inferred};
+ghost use Rattle.clf_check.specs.Checking.{staying, checked, inferred};
 ghost use Rattle.clf_kernel.specs.Answers.{plain_left, plain_inferred};
 ghost use Rattle.clf_kernel.specs.Stops.{Gives};
 

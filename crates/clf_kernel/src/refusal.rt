@@ -1,7 +1,7 @@
 //! Refusals, and what else ends a check.
 ghost use Rattle.std.specs.Prelude.{◌≡◌, ◌∷◌, [], reverse, IfOk, IfErr};
 ghost use Rattle.clf_syntax.specs.PlainTypes.{plain_ty};
-ghost use Rattle.clf_kernel.specs.Refusal.{not_function as function_refusal, not_pair as pair_refusal, not_top as top_refusal, not_atomic as atomic_refusal};
+ghost use Rattle.clf_rules.specs.Refusal.{not_function as function_refusal, not_pair as pair_refusal, not_top as top_refusal, not_atomic as atomic_refusal};
 ghost use Rattle.clf_kernel.specs.Answers.{plain_cause, IsWide};
 ghost use Rattle.clf_kernel.specs.Stops.{IsPartOf, Ends, IsShort, IsFault};
 

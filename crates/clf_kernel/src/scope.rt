@@ -4,7 +4,7 @@ ghost use Rattle.clf_syntax.specs.PlainTypes.{plain_ty};
 ghost use Rattle.use_contexts.specs.declared.context.Ctx.{Ctx as DeclaredCtx};
 ghost use Rattle.use_contexts.specs.Marks.{context, marks};
 ghost use Rattle.use_contexts.specs.Rows.{newest, older, is_unused as is_unused_linear};
-ghost use Rattle.clf_kernel.specs.Checking.{closed_scope};
+ghost use Rattle.clf_check.specs.Checking.{closed_scope};
 ghost use Rattle.clf_kernel.specs.Answers.{plain_left};
 ghost use Rattle.clf_kernel.specs.Stops.{IsShort, Gives, IsEntered};
 

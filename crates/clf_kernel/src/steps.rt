@@ -4,7 +4,7 @@ ghost use Rattle.clf_syntax.specs.PlainTypes.{plain_ty};
 ghost use Rattle.use_contexts.specs.Context.{modes};
 ghost use Rattle.use_contexts.specs.Marks.{context, marks};
 ghost use Rattle.use_contexts.specs.Rows.{newest_difference};
-ghost use Rattle.clf_kernel.specs.Checking.{joined_left, unit_left, atomic_left, found_left, first_left, second_left};
+ghost use Rattle.clf_check.specs.Checking.{joined_left, unit_left, atomic_left, found_left, first_left, second_left};
 ghost use Rattle.trace_equal.specs.Search.{same_mode};
 ghost use Rattle.clf_kernel.specs.Answers.{plain_left, plain_inferred};
 ghost use Rattle.clf_kernel.specs.Stops.{Gives};

@@ -30,7 +30,7 @@ module _ (k : HeadTypes) (g : List SimpleType) where
   pub neutral_typed : (n : Neutral) → type_of k g (plain_neutral n) ≡ then_type (heads_in k g n.head) (spine_type k g (map plain_elim n.spine))
   neutral_typed n = ap (type_of k g) (plain-neutral n) ∙ spine_typed (map plain_elim n.spine) (head_alone n.head)
 
-head_spine : (es : List PlainElimination) (r : PlainNeutral) → head_of (spine_on es r) ≡ head_of r
+pub head_spine : (es : List PlainElimination) (r : PlainNeutral) → head_of (spine_on es r) ≡ head_of r
 head_spine [] r = refl
 head_spine (arg m n ∷ es) r = head_spine es _
 head_spine (first ∷ es) r = head_spine es _

@@ -3,5 +3,10 @@ pub use Rattle.clf_syntax.specs.TypeTree
 pub use Rattle.clf_syntax.specs.Simple
 pub use Rattle.clf_syntax.specs.Plain
 pub use Rattle.clf_syntax.specs.PlainSimple
+pub use Rattle.clf_syntax.specs.Written
+pub use Rattle.eta_laws.specs.Eta
 pub mod Decision
 pub mod Scope
+pub mod Noted
+pub mod Weight
+pub mod Roots

@@ -24,7 +24,7 @@ kinds_renamed r (Const c) = refl
 kinds_renamed r (Var i) = refl
 kinds_renamed r (Meta m) = refl
 
-meta_renamed : (r : Renumbering) (n : PlainNeutral) → is_metavariable (head_of (ren_neutral r n)) ≡ is_metavariable (head_of n)
+pub meta_renamed : (r : Renumbering) (n : PlainNeutral) → is_metavariable (head_of (ren_neutral r n)) ≡ is_metavariable (head_of n)
 meta_renamed r n = ap is_metavariable (head_renamed r n) ∙ kinds_renamed r (head_of n)
 
 long_expansion : (t : SimpleType) (n : PlainNeutral) → is_metavariable (head_of n) ≡ false → expansion t n ≡ eta t n

@@ -4,3 +4,4 @@ pub use Rattle.clf_syntax.specs.Simple
 pub use Rattle.hered_subst.specs.Substitution
 pub mod Eta
 pub mod Laws
+pub mod Worked

@@ -1,3 +1,4 @@
 pub mod Sound
 pub mod Typed
 pub mod Results
+pub mod Freely

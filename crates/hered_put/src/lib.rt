@@ -4,4 +4,6 @@
 
 mod laws;
 
-pub use laws::{bounded_substitution, flattened_substitution, typed_substitution};
+pub use laws::{
+    bounded_substitution, flattened_substitution, free_substitution, typed_substitution,
+};

@@ -21,7 +21,7 @@ use Rattle.trace_equal.specs.Exchange.{JoinedEach}
 use Rattle.trace_equal.proofs.Closed.{carried}
 use Rattle.trace_equal.proofs.Moves.{renamed}
 use Rattle.clf_sig.specs.Entry.{PlainSignature, constant_type}
-use Rattle.clf_kernel.specs.Typing.{HeadHasType, HasType, Synthesizes, ExpressionHasType, TupleHasType}
+use Rattle.clf_rules.specs.Typing.{HeadHasType, HasType, Synthesizes, ExpressionHasType, TupleHasType}
 use Rattle.typing_laws.specs.Contexts.{AreCarried}
 
 -- What the renumbering r does: it takes the variables of g to those of k, and T takes a holding over g to one over k.

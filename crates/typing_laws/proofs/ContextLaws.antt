@@ -9,8 +9,8 @@ use Rattle.clf_syntax.proofs.RenamingLaws.{ext}
 use Rattle.use_contexts.specs.Context.{Context, modes, HasVariable}
 use Rattle.use_contexts.specs.Holding.{Holding, SplitEntry, is_linear, is_persistent, is_weak, is_unrestricted, without, Uses}
 use Rattle.clf_sig.specs.Entry.{PlainSignature, constant_type}
-use Rattle.clf_kernel.specs.WellFormed.{WellFormedSignature}
-use Rattle.clf_kernel.proofs.Signatures.{entries_well_formed}
+use Rattle.clf_rules.specs.WellFormed.{WellFormedSignature}
+use Rattle.clf_rules.proofs.Signatures.{entries_well_formed}
 use Rattle.typing_laws.specs.Contexts.{with_mark, with_entry, ContextWeakening}
 use Rattle.typing_laws.proofs.Carried.{Carries, carries_under, carry, past, raised}
 use Rattle.typing_laws.proofs.Fixed.{fixed_type}

@@ -12,8 +12,8 @@ use Rattle.clf_syntax.proofs.TypeRenaming.{conses, functions, boths, bindings}
 use Rattle.use_contexts.specs.Context.{Context, modes, telescope_modes, with_entries}
 use Rattle.use_contexts.specs.Holding.{Holding, all_held, persistent_alone}
 use Rattle.clf_sig.specs.Entry.{PlainSignature}
-use Rattle.clf_kernel.specs.Typing.{HasType, Synthesizes, ExpressionHasType, TupleHasType}
-use Rattle.clf_kernel.specs.WellFormed.{IndicesHaveTypes, WellFormedType, WellFormedTelescope}
+use Rattle.clf_rules.specs.Typing.{HasType, Synthesizes, ExpressionHasType, TupleHasType}
+use Rattle.clf_rules.specs.WellFormed.{IndicesHaveTypes, WellFormedType, WellFormedTelescope}
 
 -- the renumbering keeps the first n variables
 abbrev Keeps : Renumbering → ℕ → Type 0

@@ -5,7 +5,6 @@ pub mod Counted
 pub mod SplitLaws
 pub mod MoreAffine
 pub mod JoinedChains
-pub mod Decisions
 pub mod Lost
 pub mod TreeExamples
 pub mod Fixed
@@ -13,3 +12,5 @@ pub mod Carried
 pub mod ContextLaws
 pub mod Swapped
 pub mod Returned
+pub mod LetGo
+pub mod Strengthened

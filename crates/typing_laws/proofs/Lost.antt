@@ -10,7 +10,7 @@ use Rattle.use_contexts.specs.Context.{telescope_modes, with_entries}
 use Rattle.use_contexts.specs.Holding.{Holding, Split, is_weak, without}
 use Rattle.hered_subst.specs.Substitution.{in_family, in_monad, in_binding, in_end, each_none}
 use Rattle.trace_equal.specs.Exchange.{ExchangedExpression, exchange}
-use Rattle.clf_kernel.specs.Typing.{Synthesizes, ExpressionHasType, TupleHasType}
+use Rattle.clf_rules.specs.Typing.{Synthesizes, ExpressionHasType, TupleHasType}
 use Rattle.typing_laws.specs.LostTypes.{four, in_monad_of, taking, before, after, ExchangeLosesTypes}
 
 changes : ExchangedExpression before after

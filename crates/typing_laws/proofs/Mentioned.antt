@@ -14,7 +14,7 @@ use Rattle.clf_syntax.proofs.OccursLaws.{not_true}
 use Rattle.use_contexts.specs.Context.{Context, modes, with_entries}
 use Rattle.use_contexts.specs.Holding.{Holding, SplitEntry, Split, all_held}
 use Rattle.clf_sig.specs.Entry.{PlainSignature}
-use Rattle.clf_kernel.specs.Typing.{HeadHasType, HasType, Synthesizes, ExpressionHasType, TupleHasType}
+use Rattle.clf_rules.specs.Typing.{HeadHasType, HasType, Synthesizes, ExpressionHasType, TupleHasType}
 use Rattle.typing_laws.specs.Held.{MentionsHeldAlone}
 
 pub none_of : (a b : Bool) → a ≡ false → b ≡ false → a || b ≡ false

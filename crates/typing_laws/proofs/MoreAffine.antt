@@ -11,7 +11,7 @@ use Rattle.clf_syntax.specs.TypeTree.{PlainType, family, function, both, monad, 
 use Rattle.use_contexts.specs.Context.{Context, modes}
 use Rattle.use_contexts.specs.Holding.{Holding, Split, is_weak, without}
 use Rattle.clf_sig.specs.Entry.{PlainSignature}
-use Rattle.clf_kernel.specs.Typing.{HeadHasType, HasType, Synthesizes, ExpressionHasType, TupleHasType}
+use Rattle.clf_rules.specs.Typing.{HeadHasType, HasType, Synthesizes, ExpressionHasType, TupleHasType}
 use Rattle.typing_laws.proofs.SplitLaws.{split_commutes}
 use Rattle.typing_laws.specs.Held.{MoreAffine, AffineWeakening}
 

@@ -7,7 +7,7 @@ use Rattle.hered_subst.specs.Substitution.{single, Substituted, through_lam, thr
 use Rattle.hered_subst.proofs.Types.{is_determined}
 use Rattle.trace_equal.specs.Exchange.{ExchangedExpression, in_right_side, in_later_steps, exchange, stop, next, JoinedExpression, in_monadic}
 use Rattle.trace_equal.proofs.Joined.{independence_in_words, stays_neutral, stays_expression}
-use Rattle.clf_kernel.specs.Examples.{constant, local, variable, z, gold, alone, together}
+use Rattle.clf_rules.specs.Examples.{constant, local, variable, z, gold, alone, together}
 use Rattle.typing_laws.specs.WorkedTrees.{identity, SubstitutionExamples, dependent, ExchangeExamples}
 
 number_falls : variable 0 ≡ variable 1 → ⊥

@@ -8,7 +8,7 @@ use Rattle.clf_syntax.specs.Tree.{unit, atomic, PlainNeutral, head_alone, app, P
 use Rattle.clf_syntax.specs.TypeTree.{PlainType, family, function, top, monad, PlainTelescope, end, binding}
 use Rattle.trace_equal.specs.Exchange.{ExchangedExpression}
 use Rattle.clf_sig.specs.Entry.{PlainSignature, family_of, constant_of}
-use Rattle.clf_kernel.specs.Typing.{ExpressionHasType}
+use Rattle.clf_rules.specs.Typing.{ExpressionHasType}
 
 -- a : type. b : type. c : {a}. k : <T> -o {b}.
 abbrev pub in_monad_of : ℕ → PlainType

@@ -9,8 +9,8 @@ use Rattle.clf_syntax.specs.Simple.{erase, erase_telescope, Assignment, extended
 use Rattle.use_contexts.specs.Context.{Context}
 use Rattle.use_contexts.specs.Holding.{Holding}
 use Rattle.clf_sig.specs.Entry.{PlainSignature, constant_type, family_kind}
-use Rattle.clf_kernel.specs.Typing.{HasType, Synthesizes, ExpressionHasType, TupleHasType}
-use Rattle.clf_kernel.specs.WellFormed.{WellFormedType, WellFormedTelescope, WellFormedKind, WellFormedContext, WellFormedSignature}
+use Rattle.clf_rules.specs.Typing.{HasType, Synthesizes, ExpressionHasType, TupleHasType}
+use Rattle.clf_rules.specs.WellFormed.{WellFormedType, WellFormedTelescope, WellFormedKind, WellFormedContext, WellFormedSignature}
 
 -- the simple types of the constants of a signature, and with them those of the variables of a context
 abbrev pub constants_of : PlainSignature → Assignment

@@ -9,7 +9,7 @@ use Rattle.clf_syntax.specs.Occurs.{is_variable, occurs}
 use Rattle.use_contexts.specs.Context.{Context, modes}
 use Rattle.use_contexts.specs.Holding.{Holding, is_persistent}
 use Rattle.clf_sig.specs.Entry.{PlainSignature}
-use Rattle.clf_kernel.specs.Typing.{HasType}
+use Rattle.clf_rules.specs.Typing.{HasType}
 
 abbrev pub greater : ℕ → ℕ → ℕ
 greater m n = if nat_le m n then n else m

@@ -5,7 +5,7 @@ use Rattle.clf_syntax.specs.declared.tree.Mode.TheVariants.{Linear}
 use Rattle.clf_syntax.specs.Tree.{PlainObject, lam, pair, monadic, atomic, app, fst, snd, PlainExpression, step}
 use Rattle.hered_subst.specs.Substitution.{single, Substituted, SubstitutedType}
 use Rattle.trace_equal.specs.Exchange.{Exchanged, JoinedExpression}
-use Rattle.clf_kernel.specs.Examples.{vec, constant, local, variable, z, gold, minting, alone, together, opened}
+use Rattle.clf_rules.specs.Examples.{vec, constant, local, variable, z, gold, minting, alone, together, opened}
 
 -- \x. x
 abbrev pub identity : PlainObject

@@ -9,7 +9,7 @@ use Rattle.use_contexts.specs.Holding.{Holding}
 use Rattle.use_contexts.specs.declared.join.Left.{Left}
 use Rattle.clf_kernel.specs.declared.refusal.Refusal.{Refusal}
 use Rattle.clf_kernel.specs.Exact.{ChecksObject}
-use Rattle.clf_kernel.proofs.InReach.{object_in_reach}
+use Rattle.clf_check.proofs.InReach.{object_in_reach}
 use Rattle.celf_reading.proofs.Bare.{without_indices-bare}
 use Rattle.celf_reading.proofs.WithinReach.{simple-signature}
 use Rattle.celf_run.specs.Answering.{JudgesClosed}

@@ -1,6 +1,6 @@
 use Rattle.std.proofs.Common.{sym, subst}
 use Rattle.clf_sig.specs.Signature.{plain_signature}
-use Rattle.clf_kernel.specs.Reach.{SignatureInReach}
+use Rattle.clf_rules.specs.Reach.{SignatureInReach}
 use Rattle.celf_tests.proofs.SimpleSignatures.{simple_more}
 use Rattle.celf_tests.proofs.kernel.declared.Goals as goal
 

@@ -6,8 +6,8 @@ use Rattle.clf_syntax.specs.PlainTypes.{plain_ty}
 use Rattle.clf_sig.specs.Signature.{plain_signature}
 use Rattle.use_contexts.specs.declared.context.Ctx.{Ctx}
 use Rattle.use_contexts.specs.Marks.{context, marks}
-use Rattle.clf_kernel.specs.Outcome.{passed, and_then, at_part}
-use Rattle.clf_kernel.specs.Checking.{staying, closed_scope, checked}
+use Rattle.clf_check.specs.Outcome.{passed, and_then, at_part}
+use Rattle.clf_check.specs.Checking.{staying, closed_scope, checked}
 use Rattle.clf_kernel.specs.Spine.{elimination_left, spine_left}
 use Rattle.clf_kernel.specs.Answers.{plain_left, plain_inferred}
 use Rattle.clf_kernel.specs.Stops.{Gives, Stops, IsEntered}

@@ -3,7 +3,7 @@ use Rattle.std.proofs.Common.{◌≡◌, length, drop, map}
 use Rattle.clf_syntax.specs.Plain.{plain_elim}
 use Rattle.clf_sig.specs.Signature.{plain_signature}
 use Rattle.use_contexts.specs.Marks.{context, marks}
-use Rattle.clf_kernel.specs.Checking.{staying}
+use Rattle.clf_check.specs.Checking.{staying}
 use Rattle.clf_kernel.specs.Spine.{spine_left}
 use Rattle.clf_kernel.specs.Answers.{plain_inferred}
 use Rattle.clf_kernel.proofs.check.+check.Given as goal

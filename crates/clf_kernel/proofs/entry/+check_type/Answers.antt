@@ -5,8 +5,8 @@ use Rattle.clf_syntax.specs.TypeTree.{telescope_of}
 use Rattle.clf_syntax.specs.PlainTypes.{plain_ty, plain_tele_entry}
 use Rattle.clf_syntax.specs.declared.tree.TeleEntry.{out-TeleEntry}
 use Rattle.clf_sig.specs.Signature.{plain_signature}
-use Rattle.clf_kernel.specs.Outcome.{passed, at_part}
-use Rattle.clf_kernel.specs.Formation.{type_formed, telescope_formed}
+use Rattle.clf_check.specs.Outcome.{passed, at_part}
+use Rattle.clf_check.specs.Formation.{type_formed, telescope_formed}
 use Rattle.clf_kernel.specs.Stops.{Stops, Gives}
 use Rattle.clf_kernel.proofs.Stops.{part_stops}
 use Rattle.clf_kernel.proofs.Entries.{entries_more, entries_stop}

@@ -3,7 +3,7 @@ use Rattle.std.proofs.Common.{◌≡◌, drop, map}
 use Rattle.clf_syntax.specs.TypeTree.{telescope_of}
 use Rattle.clf_syntax.specs.PlainTypes.{plain_tele_entry}
 use Rattle.clf_sig.specs.Signature.{plain_signature}
-use Rattle.clf_kernel.specs.Formation.{telescope_formed}
+use Rattle.clf_check.specs.Formation.{telescope_formed}
 use Rattle.clf_kernel.proofs.entry.+check_type.Given as goal
 
 abbrev pub invariant-check_entries-loop-entry : goal.invariant-check_entries-loop-entry

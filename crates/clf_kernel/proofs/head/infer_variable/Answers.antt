@@ -6,10 +6,10 @@ use Rattle.use_contexts.specs.Marks.{context, marks}
 use Rattle.use_contexts.proofs.Lookups.{length-taken}
 use Rattle.clf_kernel.specs.declared.refusal.Inferred.{Inferred}
 use Rattle.clf_kernel.specs.declared.refusal.Stop.{Stop}
-use Rattle.clf_kernel.specs.Refusal.{not_held}
+use Rattle.clf_rules.specs.Refusal.{not_held}
 use Rattle.clf_kernel.specs.Stops.{Ends}
 use Rattle.clf_kernel.proofs.Stops.{refusal_stops}
-use Rattle.clf_kernel.proofs.Variables.{variable_used, variable_unheld}
+use Rattle.clf_check.proofs.Variables.{variable_used, variable_unheld}
 use Rattle.clf_kernel.proofs.head.infer_variable.Goals as goal
 
 same_length : (r : Result Inferred Stop) (row : Holding) (n : ℕ) → IfOk r (λ found. found.left.row ≡ row) → length (marks row) ≡ n → IfOk r (λ found. length (marks found.left.row) ≡ n)

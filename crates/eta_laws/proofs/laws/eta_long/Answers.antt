@@ -1,6 +1,7 @@
 use Rattle.eta_laws.proofs.EtaTyped.{eta_is_typed, eta_renames, eta_renames_no_more}
 use Rattle.eta_laws.proofs.Expanding.{typed_is_eta_long, eta_expands, eta_commutes}
 use Rattle.eta_laws.proofs.Expansions.{expansion_laws}
+use Rattle.eta_laws.proofs.FormsWorked.{forms_worked}
 use Rattle.eta_laws.proofs.laws.eta_long.Goals as goal
 
 pub returns-clause-typed : goal.returns-clause-typed
@@ -23,3 +24,6 @@ returns-clause-commutes c = eta_commutes
 
 pub returns-clause-expansion : goal.returns-clause-expansion
 returns-clause-expansion c = expansion_laws
+
+pub returns-clause-worked : goal.returns-clause-worked
+returns-clause-worked c = forms_worked

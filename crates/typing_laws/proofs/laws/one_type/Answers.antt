@@ -1,4 +1,4 @@
-use Rattle.clf_kernel.proofs.OneType.{type_is_one}
+use Rattle.clf_rules.proofs.OneType.{type_is_one}
 use Rattle.typing_laws.proofs.laws.one_type.Goals as goal
 
 pub returns : goal.returns

@@ -1,0 +1,9 @@
+pub mod Agreement
+pub mod Explanations
+pub mod FirstRefusals
+pub mod Variables
+pub mod Formed
+pub mod EntryRefusals
+pub mod OneAnswer
+pub mod InReach
+pub mod Decisions

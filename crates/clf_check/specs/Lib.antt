@@ -1,0 +1,10 @@
+pub use Rattle.clf_syntax.specs.Tree
+pub use Rattle.clf_syntax.specs.TypeTree
+pub use Rattle.clf_sig.specs.Entry
+pub use Rattle.clf_rules.specs.Typing
+pub use Rattle.clf_rules.specs.WellFormed
+pub use Rattle.clf_rules.specs.Explained
+pub mod Laws
+pub mod Outcome
+pub mod Checking
+pub mod Formation

@@ -1,5 +1,0 @@
-use Rattle.clf_kernel.proofs.Longer.{longer_signatures}
-use Rattle.clf_kernel.proofs.laws.longer_signatures.Goals as goal
-
-pub returns : goal.returns
-returns c = longer_signatures

@@ -1,5 +1,0 @@
-use Rattle.clf_kernel.proofs.OneAnswer.{synthesized_in_reach}
-use Rattle.clf_kernel.proofs.laws.synthesized_in_reach.Goals as goal
-
-pub returns : goal.returns
-returns c = synthesized_in_reach

@@ -1,0 +1,9 @@
+pub mod Longer
+pub mod Signatures
+pub mod Held
+pub mod WithoutIndices
+pub mod OneType
+pub mod TypedExamples
+pub mod FormedExamples
+pub mod UsedParts
+pub mod Leavings
