@@ -1,5 +1,5 @@
 -- A monadic object is read by its steps, and then its tuple.
-use Rattle.std.specs.Prelude.{◌≡◌, List, map, Option, None, Some, option_map, refl}
+use Rattle.std.specs.Prelude.{◌≡◌, List, map, Option, None, Some, option_map, Result, Ok, Err, IfOk, refl}
 use Rattle.std.proofs.Common.{sym, ◌∙◌, ap}
 use Rattle.clf_syntax.specs.declared.tree.Mode.{Mode}
 use Rattle.clf_syntax.specs.Tree.{PlainObject, PlainNeutral}
@@ -10,6 +10,11 @@ use Rattle.celf_sugar.specs.PlainTree.{DesugaredObject, DesugaredSteps, Desugare
 use Rattle.celf_explicit.specs.Reading.{Local, combined}
 use Rattle.celf_explicit.specs.Objects.{expression_of, with_steps, read_steps, read_tuple}
 use Rattle.celf_explicit.specs.Along.{PlainStep, read_along, left_along, later_parts, read_marked, read_step, behind_step, steps-along, locals-along, tuple-along}
+
+-- what an answer is, if there is one, by an equation
+pub ok_along : {T E P : Type 0} (f : T → P) (r : Result T E) (a b : P) → IfOk r (λ o. f o ≡ a) → a ≡ b → IfOk r (λ o. f o ≡ b)
+ok_along f (Ok o) a b h e = h ∙ e
+ok_along f (Err x) a b h e = tt
 
 module _ (sig : PlainSignature) (ls : List Local) (ps : List (Mode × SimpleType)) (x : DesugaredSteps × DesugaredTuple) (ss : List PlainStep) (us : List (SMode × DesugaredObject)) where
   -- a step is not read
