@@ -7,7 +7,6 @@ pub mod AlongLaws
 pub mod Made
 pub mod Expressions
 pub mod TypeLists
-pub mod Wider
 pub mod WhereExplicit
 pub mod SimpleTypes
 pub mod LocalsLaws

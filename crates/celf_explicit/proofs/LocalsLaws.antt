@@ -15,11 +15,6 @@ use Rattle.celf_explicit.specs.Parts.{GrownFrom}
 dropped : {X : Type 0} (front old : List X) (n : ℕ) → n ≡ length front → drop n (front ++ old) ≡ old
 dropped front old n e = rw e (drop-append_seam front old)
 
-pub dropped_again : {X : Type 0} (old new : List X) → GrownFrom old new → drop (length new - length old) new ≡ old
-dropped_again old new (front, e) =
-    let count : length (front ++ old) ≡ length front + length old = length-append front old in
-    rw e (dropped front old (length (front ++ old) - length old) (omega (arith, count)))
-
 -- The oldest ones are the last in a list that has the newest first.
 pub kept_oldest : {W X : Type 0} (f : W → X) (n : ℕ) (left ws : List W) (seen : List X) → length left ≤ n → take n left ≡ take n ws → reverse (map f ws) ≡ seen
     → reverse (map f left) ≡ drop (length seen - n) seen
@@ -27,7 +22,7 @@ kept_oldest f n left ws seen h e v =
     let parts : take n ws ++ drop n ws ≡ ws = take-append-drop n ws in
     let front : left ≡ take n ws = sym (take_all n left h) ∙ e in
     let whole : seen ≡ reverse (map f (drop n ws)) ++ reverse (map f left) =
-        sym v ∙ ap (λ x. reverse (map f x)) (sym parts) ∙ ap reverse (map-append f (take n ws) (drop n ws)) ∙ reverse-append (map f (take n ws)) (map f (drop n ws)) ∙ ap (λ x. reverse (map f (drop n ws)) ++ reverse (map f x)) (sym front) in
+    sym v ∙ ap (λ x. reverse (map f x)) (sym parts) ∙ ap reverse (map-append f (take n ws) (drop n ws)) ∙ reverse-append (map f (take n ws)) (map f (drop n ws)) ∙ ap (λ x. reverse (map f (drop n ws)) ++ reverse (map f x)) (sym front) in
     let newer : length (reverse (map f (drop n ws))) ≡ length ws - n = length-reverse (map f (drop n ws)) ∙ length-map (drop n ws) f ∙ length-drop n ws in
     let all : length seen ≡ length ws = ap length (sym v) ∙ length-reverse (map f ws) ∙ length-map ws f in
     sym (dropped (reverse (map f (drop n ws))) (reverse (map f left)) (length seen - n) (ap (λ k. k - n) all ∙ sym newer)) ∙ ap (drop (length seen - n)) (sym whole)

@@ -28,6 +28,5 @@ local_here sig simples entries i e n t ls h g v p q =
     let there : get_or (map (bound_place sig) (map desugared_entry entries)) i None ≡ bound_place sig (get_or (map desugared_entry entries) i (desugared_entry e)) = get_or-map (bound_place sig) (map desugared_entry entries) i (desugared_entry e) None within in
     let at_entry : get_or (map desugared_entry entries) i (desugared_entry e) ≡ desugared_entry (get_or entries i e) = get_or-map desugared_entry entries i e (desugared_entry e) h in
     let place : plain_place t ≡ bound_place sig (desugared_entry e) =
-        ap plain_place p ∙ here ∙ ap (λ xs. get_or xs i None) v ∙ there ∙ ap (bound_place sig) (at_entry ∙ ap desugared_entry (sym g)) in
+    ap plain_place p ∙ here ∙ ap (λ xs. get_or xs i None) v ∙ there ∙ ap (bound_place sig) (at_entry ∙ ap desugared_entry (sym g)) in
     ap (λ l. l ∷ ls) (ap (λ m. (m, plain_place t)) q ∙ ap (λ u. ((desugared_entry e).1, u)) place ∙ local-parts sig (desugared_entry e).1 (desugared_entry e).2)
-

@@ -66,9 +66,6 @@ mapped f o b e = some-map f o ∙ e
 abbrev Same : List Local → List (List ℕ) → Type 0
 Same ls scope = (name : List ℕ) → is_bound scope name ≡ list_any (has_name name) ls
 
-or-nil : (a : Bool) → a ≡ (false || a)
-or-nil a = refl
-
 or-turned : (a b : Bool) → (a || (b || false)) ≡ (b || a)
 or-turned true true = refl
 or-turned true false = refl
@@ -82,14 +79,17 @@ same-bound ls scope (Some m) t all name = rw (list_any-append (same_bytes name) 
 same-along : (ls : List Local) (scope names more : List (List ℕ)) → Same ls ((scope ++ names) ++ more) → Same ls (scope ++ (names ++ more))
 same-along ls scope names more all name = rw (← append_assoc scope names more) (all name)
 
+same-nil : (ls : List Local) (scope : List (List ℕ)) → Same ls scope → Same ls (scope ++ [])
+same-nil ls scope all name = rw (append-nil scope) (all name)
+
 same-pattern : (bs : List PBinder) (ps : List (Mode × SimpleType)) (ls : List Local) (scope : List (List ℕ)) → Same ls scope → Same (with_pattern ls ps bs) (scope ++ bound_by_pattern bs)
-same-pattern [] ps ls scope all name = rw (append-nil scope) (all name)
+same-pattern [] ps ls scope all = same-nil ls scope all
 same-pattern (b ∷ bs) ps ls scope all =
     same-along (with_pattern ls ps (b ∷ bs)) scope (bound b.name) (bound_by_pattern bs)
     (same-pattern bs (next_part ps).later ((b.name, (next_part ps).place) ∷ ls) (scope ++ bound b.name) (same-bound ls scope b.name (next_part ps).place all))
 
 same-steps : (sig : PlainSignature) (ss : plain.DesugaredSteps) (ls : List Local) (scope : List (List ℕ)) → Same ls scope → Same (with_steps sig ls ss) (scope ++ bound_by_steps ss)
-same-steps sig plain.no_steps ls scope all name = rw (append-nil scope) (all name)
+same-steps sig plain.no_steps ls scope all = same-nil ls scope all
 same-steps sig (plain.step p h es ss) ls scope all =
     same-along (with_steps sig ls (plain.step p h es ss)) scope (bound_by_pattern p) (bound_by_steps ss)
     (same-steps sig ss (with_pattern ls (step_entries sig ls h es) p) (scope ++ bound_by_pattern p) (same-pattern p (step_entries sig ls h es) ls scope all))
@@ -221,7 +221,7 @@ module _ (sig : PlainSignature) where
       some-and-then (at_indices sig ls is) (family_head sig h) (is_nil (flat_map (unknown_in_object sig scope) is) && list_all (is_explicit_object sig scope) is)
       (λ f. mapped (core_type.family f) (read_indices sig ls (arguments_of sig f) is) _ (indices-some ls scope (arguments_of sig f) is all))
       ∙ rw (family-cases h.dollar h (family_named sig h.name), nil-append (unknown_family sig h) (flat_map (unknown_in_object sig scope) is))
-        (four (is_nil (unknown_family sig h)) (is_explicit_family sig h) (is_nil (flat_map (unknown_in_object sig scope) is)) (list_all (is_explicit_object sig scope) is))
+      (four (is_nil (unknown_family sig h)) (is_explicit_family sig h) (is_nil (flat_map (unknown_in_object sig scope) is)) (list_all (is_explicit_object sig scope) is))
 
   mutual
     type-some : (ls : List Local) (scope : List (List ℕ)) (t : plain.DesugaredType) → Same ls scope
@@ -275,13 +275,13 @@ module _ (sig : PlainSignature) where
       joined checks (read_against sig t o) (read_type sig [] t) (unknown_in_object sig [] o) (unknown_in_type sig [] t) (is_explicit_object sig [] o) (is_explicit_type sig [] t)
       (against-some t o) (type-some [] [] t none-bound)
 
+none-chosen : {X : Type 0} (b : Bool) (y x : X) → is_none (if b then Some y else Some x) ≡ false
+none-chosen true y x = refl
+none-chosen false y x = refl
+
 none-sooner : {X : Type 0} (f : X → ℕ) (x : X) (o : Option X) → is_none (sooner f (Some x) o) ≡ false
 none-sooner f x None = refl
 none-sooner f x (Some y) = none-chosen (nat_lt (f y) (f x)) y x
-  where
-    none-chosen : (b : Bool) (y x : X) → is_none (if b then Some y else Some x) ≡ false
-    none-chosen true y x = refl
-    none-chosen false y x = refl
 
 none-earliest : {X : Type 0} (f : X → ℕ) (xs : List X) → is_nil xs ≡ is_none (earliest f xs)
 none-earliest f [] = refl

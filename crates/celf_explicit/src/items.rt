@@ -64,7 +64,12 @@ fn core_of_body(alloc: Global, sig: &Signature, body: &PlainBody) -> Result<Opti
             a: _,
             ty,
         } => Ok(query(read_type(ty, alloc, sig, &mut locals)?)),
-        PlainBody::Trace { n: _, tele } => Ok(trace(read_telescope(tele, alloc, sig, &mut locals)?)),
+        PlainBody::Trace { n: _, tele } => Ok(trace(read_telescope(
+            tele,
+            alloc,
+            sig,
+            &mut locals,
+        )?)),
         PlainBody::Equal { left, right, ty } => equation(alloc, sig, left, right, ty),
         PlainBody::Check { obj, ty } => checked(alloc, sig, obj, ty),
     }
@@ -169,7 +174,10 @@ fn object_at(
     ensures { IfOk result (λ o. option_map plain_obj o ≡ read_object_of (plain_signature sig.now) [] (plain_place simple.now) (desugared_object obj.now)) }
 {
     let mut locals = Locals::new(alloc);
-    boxed(alloc, read_object(obj, alloc, sig, place_of(simple), &mut locals))
+    boxed(
+        alloc,
+        read_object(obj, alloc, sig, place_of(simple), &mut locals),
+    )
 }
 
 fn place_of(simple: &Option<Boxed<Simple>>) -> Option<&Simple>

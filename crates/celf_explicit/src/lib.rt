@@ -1,7 +1,6 @@
 //! The explicit reading: what plain items say over a signature, where they leave nothing to be found.
 #![tactic(auto)]
 
-
 mod earliest;
 mod entry;
 mod heads;
@@ -20,8 +19,8 @@ mod trees;
 mod types;
 mod unknown;
 
-pub use items::core_of;
 pub use item::{UnknownName, explicit};
+pub use items::core_of;
 pub use laws::{
     core_where_explicit, known_where_read, simple_type_of_core, worked_cores, worked_readings,
 };

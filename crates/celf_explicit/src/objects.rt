@@ -20,9 +20,7 @@ use crate::trees::{applied, argument, boxed, lambda, monadic, pair, step, tuple_
 use celf_sugar::{PBinder, PElim, PExpr, PMarked, PObj, PObjForm, PStep};
 use clf_sig::Signature;
 use clf_simple::eta;
-use clf_syntax::{
-    Elim, Modes, Neutral, Obj, Or, Shortage, Simple, SimpleEntry, Step, TupleEntry,
-};
+use clf_syntax::{Elim, Modes, Neutral, Obj, Or, Shortage, Simple, SimpleEntry, Step, TupleEntry};
 use sqlite_items::Items;
 use std::alloc::Global;
 
@@ -50,8 +48,14 @@ pub fn read_object<'a>(
         }
         PObjForm::Pair { left, right } => {
             let parts = pair_parts(place);
-            let left = boxed(alloc, read_object(left.get(), alloc, sig, parts.left, locals))?;
-            let right = boxed(alloc, read_object(right.get(), alloc, sig, parts.right, locals))?;
+            let left = boxed(
+                alloc,
+                read_object(left.get(), alloc, sig, parts.left, locals),
+            )?;
+            let right = boxed(
+                alloc,
+                read_object(right.get(), alloc, sig, parts.right, locals),
+            )?;
             Ok(pair(left, right))
         }
         PObjForm::Unit => Ok(Some(Obj::Unit)),
@@ -108,11 +112,7 @@ fn long(
 }
 
 #[tactic(auto, using(clf_syntax::specs::Plain::plain_laws))]
-fn long_neutral(
-    alloc: Global,
-    neutral: Neutral,
-    place: Option<&Simple>,
-) -> Result<Obj, Shortage>
+fn long_neutral(alloc: Global, neutral: Neutral, place: Option<&Simple>) -> Result<Obj, Shortage>
     ensures { IfOk result (λ o. plain_obj o ≡ spec.long_at (plain_place (option_copied place.entry)) (plain_neutral neutral)) }
 {
     match place {

@@ -83,7 +83,8 @@ pub fn entries_at<'a>(place: Option<&'a Simple>) -> &'a [SimpleEntry]
 {
     match place {
         Some(Simple::Monad { entries }) => entries.as_slice(),
-        Some(Simple::Atom(_) | Simple::Fun { .. } | Simple::With { .. } | Simple::Top) | None => &[],
+        Some(Simple::Atom(_) | Simple::Fun { .. } | Simple::With { .. } | Simple::Top) | None =>
+            &[],
     }
 }
 

@@ -46,7 +46,10 @@ pub fn read_type<'a>(
         } => {
             let simple = bound_simple(alloc, sig, name, dom.get())?;
             let dom = boxed(alloc, read_type(dom.get(), alloc, sig, locals))?;
-            let cod = boxed(alloc, read_under(cod.get(), alloc, sig, name, simple, locals))?;
+            let cod = boxed(
+                alloc,
+                read_under(cod.get(), alloc, sig, name, simple, locals),
+            )?;
             Ok(function(*mode, dom, cod))
         }
         PTyForm::With { left, right } => {

@@ -1,6 +1,6 @@
 use Rattle.std.proofs.Common.{ap, sym, ◌∙◌, refl, List}
 use Rattle.std.specs.Prelude.{map, option_copied, option_map}
-use Rattle.clf_syntax.specs.Plain.{plain_elim, plain_step, plain_entry}
+use Rattle.clf_syntax.specs.Plain.{plain_obj, plain_elim, plain_step, plain_entry}
 use Rattle.clf_syntax.specs.PlainSimple.{plain_simple_entry}
 use Rattle.clf_sig.specs.Signature.{plain_signature}
 use Rattle.celf_sugar.specs.Plain.{desugared_elim, desugared_step, desugared_marked, desugared_expression, expression-of}

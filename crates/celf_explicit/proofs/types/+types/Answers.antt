@@ -21,4 +21,4 @@ read_entries-loop-index-preserved t c =
     (ap plain_locals c.in_ok-push.ensures
     ∙ ap (λ ls. (c.index-entries-index.result.name, plain_place (option_copied c.place_at.result)) ∷ plain_locals ls) c.in_ok-entry.ensures.kept
     ∙ local_here (plain_signature c.args.sig.now) c.args.simples.now c.args.entries.now c.loop-index.index c.index-entries-index.result c.index-entries-index.result.name (option_copied c.place_at.result) (plain_locals c.loop-index.locals)
-      c.loop-index-test.true c.index-entries-index.is c.requires c.place_at.ensures (sym (ap (λ (x : DesugaredEntry). x.1) (entry-of c.index-entries-index.result))))
+    c.loop-index-test.true c.index-entries-index.is c.requires c.place_at.ensures (sym (ap (λ (x : DesugaredEntry). x.1) (entry-of c.index-entries-index.result))))
