@@ -7,6 +7,7 @@ pub mod AlongLaws
 pub mod Made
 pub mod Expressions
 pub mod TypeLists
+pub mod Wider
 pub mod WhereExplicit
 pub mod SimpleTypes
 pub mod LocalsLaws
