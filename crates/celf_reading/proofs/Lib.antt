@@ -10,3 +10,4 @@ pub mod ChecksBack
 pub mod WithinReach
 pub mod Named
 pub mod WellFormedLines
+pub mod LinesBack
