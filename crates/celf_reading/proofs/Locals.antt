@@ -16,7 +16,7 @@ use Rattle.celf_reading.specs.Bare.{IsBareType, IsBareSignature}
 use Rattle.celf_explicit.proofs.Options.{option_map-some, option_and_then-some}
 use Rattle.celf_lexer.proofs.Signs.{same_bytes-refl}
 use Rattle.celf_reading.proofs.Bare.{bare-get}
-use Rattle.celf_reading.proofs.Variables.{variable-differs, variable-other}
+use Rattle.celf_spelling.proofs.Variables.{variable-differs, variable-other}
 
 -- The locals of a context, the newest first: the variable that was bound under k others is x(k + 1).
 abbrev pub locals : Context → List Local

@@ -1,13 +1,13 @@
 -- Bare signatures, and what is read over them, are within what the kernel checks so far.
-use Rattle.std.proofs.Common.{ℕ, ◌≡◌, Bool, true, false, ◌&&◌, if◌then◌else◌, refl, sym, ap, ◌∙◌, subst, List, [], ◌∷◌, Option, Some, None, option_map, option_and_then, slice_get}
+use Rattle.std.proofs.Common.{ℕ, ◌≡◌, Bool, true, ◌&&◌, refl, ap, ◌∙◌, subst, List, [], ◌∷◌, Option, Some, None, slice_get}
 use Rattle.std.proofs.lemmas.Bool.{and_from, and_parts}
 use Rattle.clf_syntax.specs.Tree.{PlainObject, lam, pair, unit, atomic, PlainNeutral, head_alone, PlainElimination, arg, first, second, eliminated, spine_on}
 use Rattle.clf_syntax.specs.TypeTree.{PlainType, PlainKind}
 use Rattle.clf_syntax.specs.Simple.{erase}
-use Rattle.clf_sig.specs.Entry.{PlainClass, family_of, constant_of, PlainSignature, kind_in, family_kind, constant_type, class_at}
-use Rattle.clf_rules.specs.Reach.{SignatureInReach, without_indices, without_monads, neutral_without_monads}
+use Rattle.clf_sig.specs.Entry.{PlainClass, family_of, constant_of, PlainSignature, kind_in, family_kind, class_at}
+use Rattle.clf_rules.specs.Reach.{SignatureInReach, without_monads, neutral_without_monads}
 use Rattle.celf_sugar.specs.PlainTree as plain
-use Rattle.celf_explicit.specs.Reading.{Place, Local, Typed, head, place_of_head, applied, behind, combined, domain, codomain, left_part, right_part, marked, mode_at, stays, read_type, read_object, read_spine, read_act, with_type, read_against, read_check}
+use Rattle.celf_explicit.specs.Reading.{Place, Local, Typed, head, place_of_head, applied, behind, domain, codomain, left_part, right_part, marked, mode_at, stays, read_type, read_object, read_spine, read_act, with_type, read_against, read_check}
 use Rattle.celf_reading.specs.Bare.{IsBareType, IsBareSignature}
 use Rattle.celf_explicit.proofs.Options.{option_map-some, option_and_then-some, combined-some, kept-some}
 use Rattle.celf_reading.proofs.Bare.{bare-get, read_type-bare, without_indices-bare}

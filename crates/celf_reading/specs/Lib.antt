@@ -13,3 +13,4 @@ pub use Rattle.clf_printer.specs.Text
 pub mod Reading
 pub mod Checks
 pub mod Bare
+pub mod Lines

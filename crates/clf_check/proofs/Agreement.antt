@@ -212,7 +212,7 @@ atomic-agrees g h top (passed f) P e x = no-place g h top P (λ i ns q. absurd (
 atomic-agrees g h (monad s) (passed f) P e x = no-place g h (monad s) P (λ i ns q. absurd (cc))
 
 -- ---- applications
-alone-marked : (ms : List Mode) → WellMarked ms (persistent_alone ms)
+pub alone-marked : (ms : List Mode) → WellMarked ms (persistent_alone ms)
 alone-marked [] = tt
 alone-marked (m ∷ ms) = ((λ e. e), alone-marked ms)
 

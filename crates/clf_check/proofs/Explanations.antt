@@ -21,8 +21,8 @@ use Rattle.clf_check.specs.Checking.{staying, constant_left, held_left, variable
 use Rattle.trace_equal.specs.Search.{same_mode}
 use Rattle.clf_rules.specs.Reach.{without_indices, SignatureInReach, ContextInReach, ObjectInReach, NeutralInReach, without_monads, neutral_without_monads}
 use Rattle.clf_rules.specs.Explained.{DiffersAt, MaySynthesize, object_at, neutral_with, whole, in_body, in_left_part, in_right_part, in_neutral, at_head, at_argument, at_first, at_second, before_argument, before_first, before_second, in_argument_part, lambda_at_none, argument_to_none, pair_at_none, first_of_none, second_of_none, unit_at_none, neutral_at_none, neutral_of_none, hole_stands, metavariable_stands, lambda_differs, argument_differs, variable_not_held, variable_unused, parts_differ, other_family, no_variable, no_constant, ExplainedAt, ExplainedInNeutral}
-use Rattle.clf_check.proofs.UsedParts.{used, used_stands, used_of, length-used_of, each-used_of, some-part}
-use Rattle.clf_check.proofs.Leavings.{row-leaves}
+use Rattle.clf_rules.proofs.UsedParts.{used, used_stands, used_of, length-used_of, each-used_of, some-part}
+use Rattle.clf_rules.proofs.Leavings.{row-leaves}
 use Rattle.clf_check.proofs.Agreement.{AgreesWithType, marked-there, same-mode, other-mode, other-number, allowed-marked, object-agrees, neutral-agrees}
 
 -- ---- entries of parts

@@ -1,5 +1,3 @@
-pub mod UsedParts
-pub mod Leavings
 pub mod Agreement
 pub mod Explanations
 pub mod FirstRefusals

@@ -16,8 +16,8 @@ use Rattle.clf_check.specs.Checking.{staying, checked, inferred}
 use Rattle.clf_check.specs.Formation.{class_formed}
 use Rattle.clf_rules.specs.Explained.{ExplainedAt}
 use Rattle.clf_check.specs.Laws.{RefusedIsExplained, RefusalIsOne, NeutralRefusalIsOne, EntryRefusalIsOne, LeaveTheSame, LeftoverIsOne, SlackIsIdle, InferredIsOne, SynthesizedInReach}
-use Rattle.clf_check.proofs.UsedParts.{some-part}
-use Rattle.clf_check.proofs.Leavings.{row-leaves, leaves-one}
+use Rattle.clf_rules.proofs.UsedParts.{some-part}
+use Rattle.clf_rules.proofs.Leavings.{row-leaves, leaves-one}
 use Rattle.clf_check.proofs.Agreement.{AgreesWithType, checks_exactly, infers_exactly}
 use Rattle.clf_check.proofs.FirstRefusals.{refuses_exactly, refuses_neutrals_exactly}
 use Rattle.clf_check.proofs.EntryRefusals.{class-exact}

@@ -1,6 +1,8 @@
--- How deep the binders of an object nest.
-use Rattle.std.specs.Prelude.{ℕ, ◌+◌, max, length}
+-- How deep the binders of objects, types and entries nest.
+use Rattle.std.specs.Prelude.{ℕ, ◌+◌, max, length, List, [], ◌∷◌}
 use Rattle.clf_syntax.specs.Tree.{PlainObject, lam, pair, unit, monadic, atomic, hole, PlainNeutral, head_alone, app, fst, snd, PlainExpression, step, done, PlainTuple, empty, entry}
+use Rattle.clf_syntax.specs.TypeTree.{PlainType, family, function, both, top, monad, PlainTelescope, end, binding, PlainKind}
+use Rattle.clf_sig.specs.Entry.{PlainClass, family_of, constant_of}
 
 -- how many variables are bound around the innermost part of an object
 abbrev mutual
@@ -25,3 +27,28 @@ abbrev mutual
   pub tuple_depth : PlainTuple → ℕ
   tuple_depth empty = 0
   tuple_depth (entry m n t) = max (scope_depth n) (tuple_depth t)
+
+abbrev pub indices_depth : List PlainObject → ℕ
+indices_depth [] = 0
+indices_depth (n ∷ ns) = max (scope_depth n) (indices_depth ns)
+
+-- the same of a type: a function and an entry bind one variable in what follows them
+abbrev mutual
+  pub type_depth : PlainType → ℕ
+  type_depth (family k ns) = indices_depth ns
+  type_depth (function m a b) = max (type_depth a) (type_depth b + 1)
+  type_depth (both a b) = max (type_depth a) (type_depth b)
+  type_depth top = 0
+  type_depth (monad s) = telescope_depth s
+
+  pub telescope_depth : PlainTelescope → ℕ
+  telescope_depth end = 0
+  telescope_depth (binding m a s) = max (type_depth a) (telescope_depth s + 1)
+
+abbrev pub kind_depth : PlainKind → ℕ
+kind_depth [] = 0
+kind_depth (a ∷ k) = max (type_depth a) (kind_depth k + 1)
+
+abbrev pub class_depth : PlainClass → ℕ
+class_depth (family_of k) = kind_depth k
+class_depth (constant_of a) = type_depth a

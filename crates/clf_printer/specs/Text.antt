@@ -30,8 +30,11 @@ listed count text = when (count == 0) (codes "1") ++ when (nat_lt 1 count) (code
 -- ---- names
 
 -- A name is written with $ where it has implicit arguments or is spelled x and digits.
+abbrev pub has_dollar : List ℕ → PlainEntry → Bool
+has_dollar name e = nat_lt 0 e.implicit || is_variable_word name
+
 abbrev pub written_name : List ℕ → PlainEntry → List ℕ
-written_name name e = when (nat_lt 0 e.implicit || is_variable_word name) (codes "$") ++ name
+written_name name e = when (has_dollar name e) (codes "$") ++ name
 
 -- the name of a place; a number that is no entry is written $
 abbrev pub place_text : PlainSignature → ℕ → List ℕ

@@ -5,3 +5,5 @@ pub mod WithoutIndices
 pub mod OneType
 pub mod TypedExamples
 pub mod FormedExamples
+pub mod UsedParts
+pub mod Leavings

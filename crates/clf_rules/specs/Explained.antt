@@ -322,3 +322,6 @@ ExplainedInType sig g a path why = (k : Context) × (l : Holding) × (x : Checke
 
 abbrev pub ExplainedInClass : PlainSignature → PlainClass → List ℕ → Cause → Type 0
 ExplainedInClass sig c path why = (k : Context) × (l : Holding) × (x : CheckedPart) × ReachesInClass sig c path k l x × Refuses sig k l x why
+
+abbrev pub ExplainedInKind : PlainSignature → Context → PlainKind → List ℕ → Cause → Type 0
+ExplainedInKind sig g as' path why = (k : Context) × (l : Holding) × (x : CheckedPart) × ReachesInKind sig g as' 0 path k l x × Refuses sig k l x why

@@ -1,3 +1,11 @@
 pub mod Sound
 pub mod Typed
 pub mod Results
+pub mod Freely
+pub mod Environments
+pub mod Pieces
+pub mod TypePieces
+pub mod Ranks
+pub mod Measure
+pub mod Answered
+pub mod Called

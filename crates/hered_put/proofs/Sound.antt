@@ -18,7 +18,7 @@ use Rattle.hered_subst.proofs.Renamed.{renamed_expression}
 use Rattle.hered_subst.proofs.SimpleTyping.{image_idle}
 use Rattle.hered_subst.proofs.Total.{meta_of}
 use Rattle.hered_put.specs.Tupled.{among_raised, tupled}
-use Rattle.hered_put.specs.Function.{Answer, made, untyped, too_far, after, Outcome, kept, value, as_object, written, Again, stays_if, stepped, same_mode, argued, projected_first, projected_second, flattened, combined, run, run_neutral, run_expression, run_tuple, nested, run_each, run_type, run_telescope, run_kind}
+use Rattle.hered_put.specs.Function.{Answer, made, untyped, too_far, after, Outcome, kept, value, as_object, written, Again, stays_if, stepped, same_mode, argued, projected_first, projected_second, flattened, combined, standing, free, run_by, run_neutral_by, run_expression_by, run_tuple_by, nested, nested_freely, run_each_by, run_type_by, run_telescope_by, run_kind_by}
 use Rattle.hered_put.specs.Laws.{Meets}
 use Rattle.hered_put.specs.Passes.{Passes, passes_body, passes_left, passes_right, passes_monadic, passes_atomic, PassesNeutral, passes_kept, passes_put, passes_function, passes_argument, passes_value, passes_fst, passes_snd, PassesExpression, passes_step, passes_rest, passes_flattened, passes_tuple, PassesFlattened, passes_behind, passes_there, PassesTuple, passes_entry, passes_later, PassesEach, passes_one, passes_others, PassesType, passes_indices, passes_domain, passes_codomain, passes_left_type, passes_right_type, passes_monad, PassesTelescope, passes_binding, passes_later_binding, PassesKind, passes_first_argument, passes_later_argument}
 
@@ -182,66 +182,83 @@ module _ (again : Again) (sound : IsSound again) where
   object-of s n (kept x) p = through_kept p
   object-of s n (value o) p = through_value p
 
-  mutual
-    pub run-meets : (s : Environment) (o : PlainObject) → Meets (run again s o) (Substituted s o) (Passes s o)
-    run-meets s (lam m b) = then-meets (run again (under 1 s) b) (λ x. made (lam m x)) (Substituted (under 1 s) b) (Passes (under 1 s) b) (Substituted s (lam m b)) (Passes s (lam m b))
-        (run-meets (under 1 s) b) (λ x p. through_lam p) (λ p. passes_body p)
-    run-meets s (pair l r) = then-meets (run again s l) (λ x. after (run again s r) (λ y. made (pair x y))) (Substituted s l) (Passes s l) (Substituted s (pair l r)) (Passes s (pair l r))
-        (run-meets s l) (λ x p. then-meets (run again s r) (λ y. made (pair x y)) (Substituted s r) (Passes s r) (Substituted s (pair l r)) (Passes s (pair l r)) (run-meets s r) (λ y q. through_pair p q) (λ q. passes_right q)) (λ p. passes_left p)
-    run-meets s unit = through_unit
-    run-meets s (monadic e) = then-meets (run_expression again s e) (λ f. made (monadic f)) (SubstitutedExpression s e) (PassesExpression s e) (Substituted s (monadic e)) (Passes s (monadic e))
-        (run_expression-meets s e) (λ x p. through_monadic p) (λ p. passes_monadic p)
-    run-meets s (atomic n) = then-meets (run_neutral again s n) (λ v. made (as_object v)) (Became s n) (PassesNeutral s n) (Substituted s (atomic n)) (Passes s (atomic n))
-        (run_neutral-meets s n) (λ v p. object-of s n v p) (λ p. passes_atomic p)
-    run-meets s hole = through_hole
+  -- what stands for heads is written in such a way
+  module _ (write : Image → Answer Outcome) (writes : (s : Environment) (h : Head) → Meets (write (s h)) (Became s (head_alone h)) (PassesNeutral s (head_alone h))) where
+    mutual
+      pub run-meets : (s : Environment) (o : PlainObject) → Meets (run_by write again s o) (Substituted s o) (Passes s o)
+      run-meets s (lam m b) = then-meets (run_by write again (under 1 s) b) (λ x. made (lam m x)) (Substituted (under 1 s) b) (Passes (under 1 s) b) (Substituted s (lam m b)) (Passes s (lam m b))
+          (run-meets (under 1 s) b) (λ x p. through_lam p) (λ p. passes_body p)
+      run-meets s (pair l r) = then-meets (run_by write again s l) (λ x. after (run_by write again s r) (λ y. made (pair x y))) (Substituted s l) (Passes s l) (Substituted s (pair l r)) (Passes s (pair l r))
+          (run-meets s l) (λ x p. then-meets (run_by write again s r) (λ y. made (pair x y)) (Substituted s r) (Passes s r) (Substituted s (pair l r)) (Passes s (pair l r)) (run-meets s r) (λ y q. through_pair p q) (λ q. passes_right q)) (λ p. passes_left p)
+      run-meets s unit = through_unit
+      run-meets s (monadic e) = then-meets (run_expression_by write again s e) (λ f. made (monadic f)) (SubstitutedExpression s e) (PassesExpression s e) (Substituted s (monadic e)) (Passes s (monadic e))
+          (run_expression-meets s e) (λ x p. through_monadic p) (λ p. passes_monadic p)
+      run-meets s (atomic n) = then-meets (run_neutral_by write again s n) (λ v. made (as_object v)) (Became s n) (PassesNeutral s n) (Substituted s (atomic n)) (Passes s (atomic n))
+          (run_neutral-meets s n) (λ v p. object-of s n v p) (λ p. passes_atomic p)
+      run-meets s hole = through_hole
 
-    pub run_neutral-meets : (s : Environment) (n : PlainNeutral) → Meets (run_neutral again s n) (Became s n) (PassesNeutral s n)
-    run_neutral-meets s (head_alone h) = written-meets s h (s h) refl
-    run_neutral-meets s (app m r o) = then-meets (run_neutral again s r) (λ v. after (run again s o) (λ y. argued again m v y)) (Became s r) (PassesNeutral s r) (Became s (app m r o)) (PassesNeutral s (app m r o))
-        (run_neutral-meets s r)
-        (λ v p. then-meets (run again s o) (λ y. argued again m v y) (Substituted s o) (Passes s o) (Became s (app m r o)) (PassesNeutral s (app m r o)) (run-meets s o) (λ y q. argued-meets s m r o y v p q) (λ q. passes_argument q))
-        (λ p. passes_function p)
-    run_neutral-meets s (fst r) = then-meets (run_neutral again s r) (λ v. projected_first again v) (Became s r) (PassesNeutral s r) (Became s (fst r)) (PassesNeutral s (fst r)) (run_neutral-meets s r) (λ v p. first-meets s r v p) (λ p. passes_fst p)
-    run_neutral-meets s (snd r) = then-meets (run_neutral again s r) (λ v. projected_second again v) (Became s r) (PassesNeutral s r) (Became s (snd r)) (PassesNeutral s (snd r)) (run_neutral-meets s r) (λ v p. second-meets s r v p) (λ p. passes_snd p)
+      pub run_neutral-meets : (s : Environment) (n : PlainNeutral) → Meets (run_neutral_by write again s n) (Became s n) (PassesNeutral s n)
+      run_neutral-meets s (head_alone h) = writes s h
+      run_neutral-meets s (app m r o) = then-meets (run_neutral_by write again s r) (λ v. after (run_by write again s o) (λ y. argued again m v y)) (Became s r) (PassesNeutral s r) (Became s (app m r o)) (PassesNeutral s (app m r o))
+          (run_neutral-meets s r)
+          (λ v p. then-meets (run_by write again s o) (λ y. argued again m v y) (Substituted s o) (Passes s o) (Became s (app m r o)) (PassesNeutral s (app m r o)) (run-meets s o) (λ y q. argued-meets s m r o y v p q) (λ q. passes_argument q))
+          (λ p. passes_function p)
+      run_neutral-meets s (fst r) = then-meets (run_neutral_by write again s r) (λ v. projected_first again v) (Became s r) (PassesNeutral s r) (Became s (fst r)) (PassesNeutral s (fst r)) (run_neutral-meets s r) (λ v p. first-meets s r v p) (λ p. passes_fst p)
+      run_neutral-meets s (snd r) = then-meets (run_neutral_by write again s r) (λ v. projected_second again v) (Became s r) (PassesNeutral s r) (Became s (snd r)) (PassesNeutral s (snd r)) (run_neutral-meets s r) (λ v p. second-meets s r v p) (λ p. passes_snd p)
 
-    pub run_expression-meets : (s : Environment) (e : PlainExpression) → Meets (run_expression again s e) (SubstitutedExpression s e) (PassesExpression s e)
-    run_expression-meets s (step ms r e) = then-meets (run_neutral again s r) (λ v. after (stepped v) (λ p. combined again ms p (run_expression again (under (length ms) s) e))) (Became s r) (PassesNeutral s r) (SubstitutedExpression s (step ms r e)) (PassesExpression s (step ms r e))
-        (run_neutral-meets s r) (λ v p. stepped-meets s ms r e (run_expression again (under (length ms) s) e) (run_expression-meets (under (length ms) s) e) v p) (λ p. passes_step p)
-    run_expression-meets s (done t) = then-meets (run_tuple again s t) (λ u. made (done u)) (SubstitutedTuple s t) (PassesTuple s t) (SubstitutedExpression s (done t)) (PassesExpression s (done t)) (run_tuple-meets s t) (λ u p. through_done p) (λ p. passes_tuple p)
+      pub run_expression-meets : (s : Environment) (e : PlainExpression) → Meets (run_expression_by write again s e) (SubstitutedExpression s e) (PassesExpression s e)
+      run_expression-meets s (step ms r e) = then-meets (run_neutral_by write again s r) (λ v. after (stepped v) (λ p. combined again ms p (run_expression_by write again (under (length ms) s) e))) (Became s r) (PassesNeutral s r) (SubstitutedExpression s (step ms r e)) (PassesExpression s (step ms r e))
+          (run_neutral-meets s r) (λ v p. stepped-meets s ms r e (run_expression_by write again (under (length ms) s) e) (run_expression-meets (under (length ms) s) e) v p) (λ p. passes_step p)
+      run_expression-meets s (done t) = then-meets (run_tuple_by write again s t) (λ u. made (done u)) (SubstitutedTuple s t) (PassesTuple s t) (SubstitutedExpression s (done t)) (PassesExpression s (done t)) (run_tuple-meets s t) (λ u p. through_done p) (λ p. passes_tuple p)
 
-    run_tuple-meets : (s : Environment) (t : PlainTuple) → Meets (run_tuple again s t) (SubstitutedTuple s t) (PassesTuple s t)
-    run_tuple-meets s empty = through_empty
-    run_tuple-meets s (entry m o t) = then-meets (run again s o) (λ x. after (run_tuple again s t) (λ u. made (entry m x u))) (Substituted s o) (Passes s o) (SubstitutedTuple s (entry m o t)) (PassesTuple s (entry m o t))
-        (run-meets s o) (λ x p. then-meets (run_tuple again s t) (λ u. made (entry m x u)) (SubstitutedTuple s t) (PassesTuple s t) (SubstitutedTuple s (entry m o t)) (PassesTuple s (entry m o t)) (run_tuple-meets s t) (λ u q. through_entry p q) (λ q. passes_later q)) (λ p. passes_entry p)
+      run_tuple-meets : (s : Environment) (t : PlainTuple) → Meets (run_tuple_by write again s t) (SubstitutedTuple s t) (PassesTuple s t)
+      run_tuple-meets s empty = through_empty
+      run_tuple-meets s (entry m o t) = then-meets (run_by write again s o) (λ x. after (run_tuple_by write again s t) (λ u. made (entry m x u))) (Substituted s o) (Passes s o) (SubstitutedTuple s (entry m o t)) (PassesTuple s (entry m o t))
+          (run-meets s o) (λ x p. then-meets (run_tuple_by write again s t) (λ u. made (entry m x u)) (SubstitutedTuple s t) (PassesTuple s t) (SubstitutedTuple s (entry m o t)) (PassesTuple s (entry m o t)) (run_tuple-meets s t) (λ u q. through_entry p q) (λ q. passes_later q)) (λ p. passes_entry p)
 
-  -- ---- types
+    -- ---- types
 
-  pub run_each-meets : (s : Environment) (ns : List PlainObject) → Meets (run_each again s ns) (SubstitutedEach s ns) (PassesEach s ns)
-  run_each-meets s [] = each_none
-  run_each-meets s (n ∷ ns) = then-meets (run again s n) (λ x. after (run_each again s ns) (λ xs. made (x ∷ xs))) (Substituted s n) (Passes s n) (SubstitutedEach s (n ∷ ns)) (PassesEach s (n ∷ ns))
-      (run-meets s n) (λ x p. then-meets (run_each again s ns) (λ xs. made (x ∷ xs)) (SubstitutedEach s ns) (PassesEach s ns) (SubstitutedEach s (n ∷ ns)) (PassesEach s (n ∷ ns)) (run_each-meets s ns) (λ xs q. each_next p q) (λ q. passes_others q)) (λ p. passes_one p)
+    pub run_each-meets : (s : Environment) (ns : List PlainObject) → Meets (run_each_by write again s ns) (SubstitutedEach s ns) (PassesEach s ns)
+    run_each-meets s [] = each_none
+    run_each-meets s (n ∷ ns) = then-meets (run_by write again s n) (λ x. after (run_each_by write again s ns) (λ xs. made (x ∷ xs))) (Substituted s n) (Passes s n) (SubstitutedEach s (n ∷ ns)) (PassesEach s (n ∷ ns))
+        (run-meets s n) (λ x p. then-meets (run_each_by write again s ns) (λ xs. made (x ∷ xs)) (SubstitutedEach s ns) (PassesEach s ns) (SubstitutedEach s (n ∷ ns)) (PassesEach s (n ∷ ns)) (run_each-meets s ns) (λ xs q. each_next p q) (λ q. passes_others q)) (λ p. passes_one p)
 
-  mutual
-    pub run_type-meets : (s : Environment) (a : PlainType) → Meets (run_type again s a) (SubstitutedType s a) (PassesType s a)
-    run_type-meets s (family f ns) = then-meets (run_each again s ns) (λ xs. made (family f xs)) (SubstitutedEach s ns) (PassesEach s ns) (SubstitutedType s (family f ns)) (PassesType s (family f ns)) (run_each-meets s ns) (λ xs p. in_family p) (λ p. passes_indices p)
-    run_type-meets s (function m a b) = then-meets (run_type again s a) (λ x. after (run_type again (under 1 s) b) (λ y. made (function m x y))) (SubstitutedType s a) (PassesType s a) (SubstitutedType s (function m a b)) (PassesType s (function m a b))
-        (run_type-meets s a) (λ x p. then-meets (run_type again (under 1 s) b) (λ y. made (function m x y)) (SubstitutedType (under 1 s) b) (PassesType (under 1 s) b) (SubstitutedType s (function m a b)) (PassesType s (function m a b)) (run_type-meets (under 1 s) b) (λ y q. in_function p q) (λ q. passes_codomain q)) (λ p. passes_domain p)
-    run_type-meets s (both a b) = then-meets (run_type again s a) (λ x. after (run_type again s b) (λ y. made (both x y))) (SubstitutedType s a) (PassesType s a) (SubstitutedType s (both a b)) (PassesType s (both a b))
-        (run_type-meets s a) (λ x p. then-meets (run_type again s b) (λ y. made (both x y)) (SubstitutedType s b) (PassesType s b) (SubstitutedType s (both a b)) (PassesType s (both a b)) (run_type-meets s b) (λ y q. in_both p q) (λ q. passes_right_type q)) (λ p. passes_left_type p)
-    run_type-meets s top = in_top
-    run_type-meets s (monad t) = then-meets (run_telescope again s t) (λ u. made (monad u)) (SubstitutedTelescope s t) (PassesTelescope s t) (SubstitutedType s (monad t)) (PassesType s (monad t)) (run_telescope-meets s t) (λ u p. in_monad p) (λ p. passes_monad p)
+    mutual
+      pub run_type-meets : (s : Environment) (a : PlainType) → Meets (run_type_by write again s a) (SubstitutedType s a) (PassesType s a)
+      run_type-meets s (family f ns) = then-meets (run_each_by write again s ns) (λ xs. made (family f xs)) (SubstitutedEach s ns) (PassesEach s ns) (SubstitutedType s (family f ns)) (PassesType s (family f ns)) (run_each-meets s ns) (λ xs p. in_family p) (λ p. passes_indices p)
+      run_type-meets s (function m a b) = then-meets (run_type_by write again s a) (λ x. after (run_type_by write again (under 1 s) b) (λ y. made (function m x y))) (SubstitutedType s a) (PassesType s a) (SubstitutedType s (function m a b)) (PassesType s (function m a b))
+          (run_type-meets s a) (λ x p. then-meets (run_type_by write again (under 1 s) b) (λ y. made (function m x y)) (SubstitutedType (under 1 s) b) (PassesType (under 1 s) b) (SubstitutedType s (function m a b)) (PassesType s (function m a b)) (run_type-meets (under 1 s) b) (λ y q. in_function p q) (λ q. passes_codomain q)) (λ p. passes_domain p)
+      run_type-meets s (both a b) = then-meets (run_type_by write again s a) (λ x. after (run_type_by write again s b) (λ y. made (both x y))) (SubstitutedType s a) (PassesType s a) (SubstitutedType s (both a b)) (PassesType s (both a b))
+          (run_type-meets s a) (λ x p. then-meets (run_type_by write again s b) (λ y. made (both x y)) (SubstitutedType s b) (PassesType s b) (SubstitutedType s (both a b)) (PassesType s (both a b)) (run_type-meets s b) (λ y q. in_both p q) (λ q. passes_right_type q)) (λ p. passes_left_type p)
+      run_type-meets s top = in_top
+      run_type-meets s (monad t) = then-meets (run_telescope_by write again s t) (λ u. made (monad u)) (SubstitutedTelescope s t) (PassesTelescope s t) (SubstitutedType s (monad t)) (PassesType s (monad t)) (run_telescope-meets s t) (λ u p. in_monad p) (λ p. passes_monad p)
 
-    pub run_telescope-meets : (s : Environment) (t : PlainTelescope) → Meets (run_telescope again s t) (SubstitutedTelescope s t) (PassesTelescope s t)
-    run_telescope-meets s end = in_end
-    run_telescope-meets s (binding m a t) = then-meets (run_type again s a) (λ x. after (run_telescope again (under 1 s) t) (λ u. made (binding m x u))) (SubstitutedType s a) (PassesType s a) (SubstitutedTelescope s (binding m a t)) (PassesTelescope s (binding m a t))
-        (run_type-meets s a) (λ x p. then-meets (run_telescope again (under 1 s) t) (λ u. made (binding m x u)) (SubstitutedTelescope (under 1 s) t) (PassesTelescope (under 1 s) t) (SubstitutedTelescope s (binding m a t)) (PassesTelescope s (binding m a t)) (run_telescope-meets (under 1 s) t) (λ u q. in_binding p q) (λ q. passes_later_binding q)) (λ p. passes_binding p)
+      pub run_telescope-meets : (s : Environment) (t : PlainTelescope) → Meets (run_telescope_by write again s t) (SubstitutedTelescope s t) (PassesTelescope s t)
+      run_telescope-meets s end = in_end
+      run_telescope-meets s (binding m a t) = then-meets (run_type_by write again s a) (λ x. after (run_telescope_by write again (under 1 s) t) (λ u. made (binding m x u))) (SubstitutedType s a) (PassesType s a) (SubstitutedTelescope s (binding m a t)) (PassesTelescope s (binding m a t))
+          (run_type-meets s a) (λ x p. then-meets (run_telescope_by write again (under 1 s) t) (λ u. made (binding m x u)) (SubstitutedTelescope (under 1 s) t) (PassesTelescope (under 1 s) t) (SubstitutedTelescope s (binding m a t)) (PassesTelescope s (binding m a t)) (run_telescope-meets (under 1 s) t) (λ u q. in_binding p q) (λ q. passes_later_binding q)) (λ p. passes_binding p)
 
-  pub run_kind-meets : (s : Environment) (k : PlainKind) → Meets (run_kind again s k) (SubstitutedKind s k) (PassesKind s k)
-  run_kind-meets s [] = in_no_argument
-  run_kind-meets s (a ∷ k) = then-meets (run_type again s a) (λ x. after (run_kind again (under 1 s) k) (λ l. made (x ∷ l))) (SubstitutedType s a) (PassesType s a) (SubstitutedKind s (a ∷ k)) (PassesKind s (a ∷ k))
-      (run_type-meets s a) (λ x p. then-meets (run_kind again (under 1 s) k) (λ l. made (x ∷ l)) (SubstitutedKind (under 1 s) k) (PassesKind (under 1 s) k) (SubstitutedKind s (a ∷ k)) (PassesKind s (a ∷ k)) (run_kind-meets (under 1 s) k) (λ l q. in_argument p q) (λ q. passes_later_argument q)) (λ p. passes_first_argument p)
+    pub run_kind-meets : (s : Environment) (k : PlainKind) → Meets (run_kind_by write again s k) (SubstitutedKind s k) (PassesKind s k)
+    run_kind-meets s [] = in_no_argument
+    run_kind-meets s (a ∷ k) = then-meets (run_type_by write again s a) (λ x. after (run_kind_by write again (under 1 s) k) (λ l. made (x ∷ l))) (SubstitutedType s a) (PassesType s a) (SubstitutedKind s (a ∷ k)) (PassesKind s (a ∷ k))
+        (run_type-meets s a) (λ x p. then-meets (run_kind_by write again (under 1 s) k) (λ l. made (x ∷ l)) (SubstitutedKind (under 1 s) k) (PassesKind (under 1 s) k) (SubstitutedKind s (a ∷ k)) (PassesKind s (a ∷ k)) (run_kind-meets (under 1 s) k) (λ l q. in_argument p q) (λ q. passes_later_argument q)) (λ p. passes_first_argument p)
+
+pub written-sound : (s : Environment) (h : Head) → Meets (written (s h)) (Became s (head_alone h)) (PassesNeutral s (head_alone h))
+written-sound s h = written-meets s h (s h) refl
+
+pub free-sound : (s : Environment) (h : Head) → Meets (free (s h)) (Became s (head_alone h)) (PassesNeutral s (head_alone h))
+free-sound s h = by (s h) refl
+  where
+    by : (i : Image) → s h ≡ i → Became s (head_alone h) (standing i)
+    by (keep j) e = kept_bare e
+    by (put n) e = value_bare e
 
 pub nested-sound : (k : ℕ) → IsSound (nested k)
 unfolding nested
 nested-sound zero = λ s. ((λ o. tt), (λ e. tt))
-nested-sound (suc k) = λ s. ((λ o. run-meets (nested k) (nested-sound k) s o), (λ e. run_expression-meets (nested k) (nested-sound k) s e))
+nested-sound (suc k) = λ s. ((λ o. run-meets (nested k) (nested-sound k) written written-sound s o), (λ e. run_expression-meets (nested k) (nested-sound k) written written-sound s e))
+
+pub freely-sound : (k : ℕ) → IsSound (nested_freely k)
+unfolding nested_freely
+freely-sound zero = λ s. ((λ o. tt), (λ e. tt))
+freely-sound (suc k) = λ s. ((λ o. run-meets (nested_freely k) (freely-sound k) free free-sound s o), (λ e. run_expression-meets (nested_freely k) (freely-sound k) free free-sound s e))

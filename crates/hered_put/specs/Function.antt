@@ -33,6 +33,15 @@ abbrev pub written : Image → Answer Outcome
 written (keep h) = if fits_head h then made (kept (head_alone h)) else too_far
 written (put n) = if fits n then made (value n) else too_far
 
+-- what stands for a head
+abbrev pub standing : Image → Outcome
+standing (keep h) = kept (head_alone h)
+standing (put n) = value n
+
+-- the same, whatever its numbers are
+abbrev pub free : Image → Answer Outcome
+free i = made (standing i)
+
 -- substitution in objects and in expressions
 pub record Again : Type 0 where
   pub object : Environment → PlainObject → Answer PlainObject
@@ -114,34 +123,50 @@ module _ (again : Again) where
   combined ms (stays n) rest = after rest (λ f. made (step ms n f))
   combined ms (gives g) rest = after rest (λ f. flattened 0 (length ms) g f)
 
+-- Substitution, where `write` says what stands for a head.
+module _ (write : Image → Answer Outcome) (again : Again) where
   abbrev mutual
-    pub run : Environment → PlainObject → Answer PlainObject
-    run s (lam m b) = after (run (under 1 s) b) (λ x. made (lam m x))
-    run s (pair l r) = after (run s l) (λ x. after (run s r) (λ y. made (pair x y)))
-    run s unit = made unit
-    run s (monadic e) = after (run_expression s e) (λ f. made (monadic f))
-    run s (atomic n) = after (run_neutral s n) (λ v. made (as_object v))
-    run s hole = made hole
+    pub run_by : Environment → PlainObject → Answer PlainObject
+    run_by s (lam m b) = after (run_by (under 1 s) b) (λ x. made (lam m x))
+    run_by s (pair l r) = after (run_by s l) (λ x. after (run_by s r) (λ y. made (pair x y)))
+    run_by s unit = made unit
+    run_by s (monadic e) = after (run_expression_by s e) (λ f. made (monadic f))
+    run_by s (atomic n) = after (run_neutral_by s n) (λ v. made (as_object v))
+    run_by s hole = made hole
 
-    pub run_neutral : Environment → PlainNeutral → Answer Outcome
-    run_neutral s (head_alone h) = written (s h)
-    run_neutral s (app m r o) = after (run_neutral s r) (λ v. after (run s o) (λ y. argued m v y))
-    run_neutral s (fst r) = after (run_neutral s r) (λ v. projected_first v)
-    run_neutral s (snd r) = after (run_neutral s r) (λ v. projected_second v)
+    pub run_neutral_by : Environment → PlainNeutral → Answer Outcome
+    run_neutral_by s (head_alone h) = write (s h)
+    run_neutral_by s (app m r o) = after (run_neutral_by s r) (λ v. after (run_by s o) (λ y. argued again m v y))
+    run_neutral_by s (fst r) = after (run_neutral_by s r) (λ v. projected_first again v)
+    run_neutral_by s (snd r) = after (run_neutral_by s r) (λ v. projected_second again v)
 
-    pub run_expression : Environment → PlainExpression → Answer PlainExpression
-    run_expression s (step ms r e) = after (run_neutral s r) (λ v. after (stepped v) (λ p. combined ms p (run_expression (under (length ms) s) e)))
-    run_expression s (done t) = after (run_tuple s t) (λ u. made (done u))
+    pub run_expression_by : Environment → PlainExpression → Answer PlainExpression
+    run_expression_by s (step ms r e) = after (run_neutral_by s r) (λ v. after (stepped v) (λ p. combined again ms p (run_expression_by (under (length ms) s) e)))
+    run_expression_by s (done t) = after (run_tuple_by s t) (λ u. made (done u))
 
-    pub run_tuple : Environment → PlainTuple → Answer PlainTuple
-    run_tuple s empty = made empty
-    run_tuple s (entry m o t) = after (run s o) (λ x. after (run_tuple s t) (λ u. made (entry m x u)))
+    pub run_tuple_by : Environment → PlainTuple → Answer PlainTuple
+    run_tuple_by s empty = made empty
+    run_tuple_by s (entry m o t) = after (run_by s o) (λ x. after (run_tuple_by s t) (λ u. made (entry m x u)))
+
+-- what is written has to fit
+module _ (again : Again) where
+  abbrev pub run : Environment → PlainObject → Answer PlainObject
+  run s o = run_by written again s o
+
+  abbrev pub run_neutral : Environment → PlainNeutral → Answer Outcome
+  run_neutral s n = run_neutral_by written again s n
+
+  abbrev pub run_expression : Environment → PlainExpression → Answer PlainExpression
+  run_expression s e = run_expression_by written again s e
+
+  abbrev pub run_tuple : Environment → PlainTuple → Answer PlainTuple
+  run_tuple s t = run_tuple_by written again s t
 
   -- one elimination of a spine
   abbrev pub eliminate : Environment → PlainElimination → Outcome → Answer Outcome
-  eliminate s (arg m o) v = after (run s o) (λ y. argued m v y)
-  eliminate s first v = projected_first v
-  eliminate s second v = projected_second v
+  eliminate s (arg m o) v = after (run s o) (λ y. argued again m v y)
+  eliminate s first v = projected_first again v
+  eliminate s second v = projected_second again v
 
 -- where nothing may nest, nothing is put
 abbrev pub nothing : Again
@@ -152,24 +177,43 @@ unfoldable pub nested : ℕ → Again
 nested zero = nothing
 nested (suc k) = record { object = λ s o. run (nested k) s o; expression = λ s e. run_expression (nested k) s e }
 
+-- So it is where what is written need not fit.
+unfoldable pub nested_freely : ℕ → Again
+nested_freely zero = nothing
+nested_freely (suc k) = record { object = λ s o. run_by free (nested_freely k) s o; expression = λ s e. run_expression_by free (nested_freely k) s e }
+
 -- ---- types
 
-abbrev pub run_each : Again → Environment → List PlainObject → Answer (List PlainObject)
-run_each again s [] = made []
-run_each again s (n ∷ ns) = after (run again s n) (λ x. after (run_each again s ns) (λ xs. made (x ∷ xs)))
+module _ (write : Image → Answer Outcome) (again : Again) where
+  abbrev pub run_each_by : Environment → List PlainObject → Answer (List PlainObject)
+  run_each_by s [] = made []
+  run_each_by s (n ∷ ns) = after (run_by write again s n) (λ x. after (run_each_by s ns) (λ xs. made (x ∷ xs)))
 
-abbrev mutual
-  pub run_type : Again → Environment → PlainType → Answer PlainType
-  run_type again s (family f ns) = after (run_each again s ns) (λ xs. made (family f xs))
-  run_type again s (function m a b) = after (run_type again s a) (λ x. after (run_type again (under 1 s) b) (λ y. made (function m x y)))
-  run_type again s (both a b) = after (run_type again s a) (λ x. after (run_type again s b) (λ y. made (both x y)))
-  run_type again s top = made top
-  run_type again s (monad t) = after (run_telescope again s t) (λ u. made (monad u))
+  abbrev mutual
+    pub run_type_by : Environment → PlainType → Answer PlainType
+    run_type_by s (family f ns) = after (run_each_by s ns) (λ xs. made (family f xs))
+    run_type_by s (function m a b) = after (run_type_by s a) (λ x. after (run_type_by (under 1 s) b) (λ y. made (function m x y)))
+    run_type_by s (both a b) = after (run_type_by s a) (λ x. after (run_type_by s b) (λ y. made (both x y)))
+    run_type_by s top = made top
+    run_type_by s (monad t) = after (run_telescope_by s t) (λ u. made (monad u))
 
-  pub run_telescope : Again → Environment → PlainTelescope → Answer PlainTelescope
-  run_telescope again s end = made end
-  run_telescope again s (binding m a t) = after (run_type again s a) (λ x. after (run_telescope again (under 1 s) t) (λ u. made (binding m x u)))
+    pub run_telescope_by : Environment → PlainTelescope → Answer PlainTelescope
+    run_telescope_by s end = made end
+    run_telescope_by s (binding m a t) = after (run_type_by s a) (λ x. after (run_telescope_by (under 1 s) t) (λ u. made (binding m x u)))
 
-abbrev pub run_kind : Again → Environment → PlainKind → Answer PlainKind
-run_kind again s [] = made []
-run_kind again s (a ∷ k) = after (run_type again s a) (λ x. after (run_kind again (under 1 s) k) (λ l. made (x ∷ l)))
+  abbrev pub run_kind_by : Environment → PlainKind → Answer PlainKind
+  run_kind_by s [] = made []
+  run_kind_by s (a ∷ k) = after (run_type_by s a) (λ x. after (run_kind_by (under 1 s) k) (λ l. made (x ∷ l)))
+
+module _ (again : Again) where
+  abbrev pub run_each : Environment → List PlainObject → Answer (List PlainObject)
+  run_each s ns = run_each_by written again s ns
+
+  abbrev pub run_type : Environment → PlainType → Answer PlainType
+  run_type s a = run_type_by written again s a
+
+  abbrev pub run_telescope : Environment → PlainTelescope → Answer PlainTelescope
+  run_telescope s t = run_telescope_by written again s t
+
+  abbrev pub run_kind : Environment → PlainKind → Answer PlainKind
+  run_kind s k = run_kind_by written again s k

@@ -2,3 +2,9 @@ pub mod Tupled
 pub mod Passes
 pub mod Function
 pub mod Laws
+pub mod Answers
+pub mod Bounds
+pub mod Environments
+pub mod Pieces
+pub mod TypePieces
+pub mod Outcomes

@@ -1,7 +1,20 @@
-//! Hereditary substitution as a function on plain trees, bounded by the rank of what is put: what it makes is what the rules relate,
-//! and where an assignment of simple types types both sides, it makes a tree or writes a number that passes.
+//! Hereditary substitution: as a function on plain trees, bounded by the rank of what is put, and by code.
+//! What the function makes is what the rules relate, and where an assignment of simple types types both sides,
+//! it makes a tree or writes a number that passes.
 #![tactic(auto)]
 
+mod bound;
+mod environment;
+mod fault;
+mod head;
 mod laws;
+mod object;
+mod put;
+mod step;
+mod types;
 
-pub use laws::{bounded_substitution, flattened_substitution, typed_substitution};
+pub use fault::PutFault;
+pub use laws::{
+    bounded_substitution, flattened_substitution, free_substitution, typed_substitution,
+};
+pub use put::{flatten_let, put_args, put_entries, put_expr, put_obj, put_tuple, put_ty};

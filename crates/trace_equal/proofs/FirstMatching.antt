@@ -19,13 +19,13 @@ use Rattle.trace_equal.specs.Matching.{Matches, MatchesExpression, MatchesNeutra
 use Rattle.trace_equal.specs.Search.{Front, attempt, first, front, or_else, past, places, prefixed, pull_at, is_joined, same_head, same_mode, same_modes, is_joined_neutral, is_joined_tuple}
 use Rattle.trace_equal.specs.Steps.{WideStep, below, ren_wide_step, size, wide_step, wide_steps}
 
-mode_sound : (m n : Mode) → same_mode m n ≡ true → m ≡ n
+pub mode_sound : (m n : Mode) → same_mode m n ≡ true → m ≡ n
 mode_sound Persistent Persistent e = refl
 mode_sound Affine Affine e = refl
 mode_sound Linear Linear e = refl
 mode_sound _ _ e = absurd (cc)
 
-mode_complete : (m : Mode) → same_mode m m ≡ true
+pub mode_complete : (m : Mode) → same_mode m m ≡ true
 mode_complete Persistent = refl
 mode_complete Affine = refl
 mode_complete Linear = refl

@@ -88,19 +88,19 @@ by_several d (suc n) t h =
     back : 1 + n ≡ suc n
     back = omega arith
 
-get_new : (d n : ℕ) (t : List ℕ) (i : ℕ) → i < n → slice_get (ids d n ++ t) i ≡ Some (d + (n - 1 - i))
+pub get_new : (d n : ℕ) (t : List ℕ) (i : ℕ) → i < n → slice_get (ids d n ++ t) i ≡ Some (d + (n - 1 - i))
 get_new d zero t i h = absurd (omega arith)
 get_new d (suc n) t zero h = ap (λ k. Some k) (omega arith)
 get_new d (suc n) t (suc i) h = get_new d n t i (omega arith) ∙ ap (λ k. Some (d + k)) (omega arith)
 
-get_past : (d n : ℕ) (t : List ℕ) (i : ℕ) → slice_get (ids d n ++ t) (i + n) ≡ slice_get t i
+pub get_past : (d n : ℕ) (t : List ℕ) (i : ℕ) → slice_get (ids d n ++ t) (i + n) ≡ slice_get t i
 get_past d zero t i = ap (slice_get t) (omega arith)
 get_past d (suc n) t i = ap (slice_get ((n + d) ∷ (ids d n ++ t))) sum ∙ get_past d n t i
   where
     sum : i + suc n ≡ suc (i + n)
     sum = omega arith
 
-length_ids : (d n : ℕ) (t : List ℕ) → length (ids d n ++ t) ≡ n + length t
+pub length_ids : (d n : ℕ) (t : List ℕ) → length (ids d n ++ t) ≡ n + length t
 length_ids d zero t = omega arith
 length_ids d (suc n) t = ap suc (length_ids d n t) ∙ omega arith
 
@@ -132,7 +132,7 @@ pub size_of_steps : (ss : List (List Mode × PlainNeutral)) (t : PlainTuple) →
 size_of_steps [] t = refl
 size_of_steps (s ∷ ss) t = ap (λ k. k + length s.0) (size_of_steps ss t)
 
-ids_under : (d n : ℕ) (u : List ℕ) → EachUnder d u → EachUnder (d + n) (ids d n ++ u)
+pub ids_under : (d n : ℕ) (u : List ℕ) → EachUnder d u → EachUnder (d + n) (ids d n ++ u)
 ids_under d n u h = under_ids d n (d + n) u (omega arith) (under_more d (d + n) u (omega arith) h)
 
 one_right : (a b : ℕ) (q : List Mode) {v w : PlainNeutral} {xs ys : List Right} → a ≡ b → v ≡ w → xs ≡ ys → (right a q v ∷ xs) ≡ (right b q w ∷ ys)

@@ -8,3 +8,8 @@ pub mod FirstMatching
 pub mod Fitting
 pub mod Places
 pub mod Ids
+pub mod ComparingLaws
+pub mod Seeking
+pub mod Turns
+pub mod Comparing
+pub mod Difference

@@ -3,10 +3,14 @@ pub use Rattle.clf_syntax.specs.Plain
 pub use Rattle.clf_syntax.specs.Renaming
 pub use Rattle.clf_syntax.specs.Occurs
 pub mod Exchange
+pub mod Difference
 pub mod Matching
 pub mod Steps
 pub mod Bijection
 pub mod Search
 pub mod Places
 pub mod Ids
+pub mod Choosing
+pub mod Comparing
+pub mod Seeking
 pub mod Laws

@@ -1,6 +1,13 @@
 //! Trees up to exchange of independent steps.
 #![tactic(auto)]
 
+mod choice;
+mod compare;
+mod equality;
 mod laws;
+mod modes;
+mod rights;
+mod tables;
 
+pub use equality::{equal, first_difference, matching};
 pub use laws::{exchange, matchings, matchings_by_places};

@@ -65,7 +65,7 @@ pick false m n k e f = e
 no_use : (k : ℕ) → 0 ≤ k
 no_use k = omega arith
 
-entered : (m : Mode) (ms : List Mode) (i : ℕ) (k : Mode) → slice_get ms i ≡ Some k → slice_get (m ∷ ms) (i + 1) ≡ Some k
+pub entered : (m : Mode) (ms : List Mode) (i : ℕ) (k : Mode) → slice_get ms i ≡ Some k → slice_get (m ∷ ms) (i + 1) ≡ Some k
 entered m ms i k e = ap (slice_get (m ∷ ms)) (add-one i) ∙ e
 
 held_in : (h : Holding) (i : ℕ) (b : Bool) → slice_get h i ≡ Some b → slice_get (true ∷ h) (i + 1) ≡ Some b
@@ -77,7 +77,7 @@ next_place i n = omega arith
 here_place : (i : ℕ) → i ≡ i + 0
 here_place i = omega arith
 
-modes_behind : (u : PlainTelescope) (g : Context) (i : ℕ) (k : Mode) → slice_get (modes g) i ≡ Some k → slice_get (modes (with_entries u g)) (i + length (telescope_modes u)) ≡ Some k
+pub modes_behind : (u : PlainTelescope) (g : Context) (i : ℕ) (k : Mode) → slice_get (modes g) i ≡ Some k → slice_get (modes (with_entries u g)) (i + length (telescope_modes u)) ≡ Some k
 modes_behind end g i k e = ap (slice_get (modes g)) (sym (here_place i)) ∙ e
 modes_behind (binding m a s) g i k e = subst (λ j. slice_get (modes (with_entries s ((m, a) ∷ g))) j ≡ Some k) (next_place i (length (telescope_modes s))) (modes_behind s ((m, a) ∷ g) (i + 1) k (entered m (modes g) i k e))
 

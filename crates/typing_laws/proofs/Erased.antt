@@ -34,7 +34,7 @@ mutual
 erased_type : (r : Renumbering) (a : PlainType) → erase (ren_type r a) ≡ erase a
 erased_type r a = put_type ((renaming_substitutes r).1 a)
 
-erased_telescope : (r : Renumbering) (s : PlainTelescope) → erase_telescope (ren_telescope r s) ≡ erase_telescope s
+pub erased_telescope : (r : Renumbering) (s : PlainTelescope) → erase_telescope (ren_telescope r s) ≡ erase_telescope s
 erased_telescope r s = put_telescope ((renaming_substitutes r).2 s)
 
 of_variable : (z : Assignment) (g : Context) (i : ℕ) (m : Mode) (b : PlainType) → slice_get g i ≡ Some (m, b) → extended_over g z (Var i) ≡ Some (erase b)
@@ -49,11 +49,11 @@ pub of_constant : (z : Assignment) (g : Context) (c : ℕ) → extended_over g z
 of_constant z [] c = refl
 of_constant z (e ∷ g) c = of_constant z g c
 
-entered : (z : Assignment) (u : PlainTelescope) (g : Context) → extended_over (with_entries u g) z ≡ extended_by (erase_telescope u) (extended_over g z)
+pub entered : (z : Assignment) (u : PlainTelescope) (g : Context) → extended_over (with_entries u g) z ≡ extended_by (erase_telescope u) (extended_over g z)
 entered z end g = refl
 entered z (binding m a s) g = entered z s ((m, a) ∷ g)
 
-erased_modes : (u : PlainTelescope) → simple_modes (erase_telescope u) ≡ telescope_modes u
+pub erased_modes : (u : PlainTelescope) → simple_modes (erase_telescope u) ≡ telescope_modes u
 erased_modes end = refl
 erased_modes (binding m a s) = ap (λ ms. m ∷ ms) (erased_modes s)
 

@@ -65,7 +65,7 @@ pub well_formed_is_simply_formed : WellFormedIsSimplyFormed
 well_formed_is_simply_formed sig g = record { types = λ w. formed w sig g; telescopes = λ w. formed_telescope w sig g; kinds = λ w. formed_kind w sig g; context = formed_context sig g }
 
 -- ---- renamed types: a renaming is a typed environment
-renames : (z y : Assignment) (r : Renumbering) → ((h : Head) (t : SimpleType) → z h ≡ Some t → y (ren_head r h) ≡ Some t) → TypedEnvironment true z y (keeping r)
+pub renames : (z y : Assignment) (r : Renumbering) → ((h : Head) (t : SimpleType) → z h ≡ Some t → y (ren_head r h) ≡ Some t) → TypedEnvironment true z y (keeping r)
 renames z y r f h t e = inl (ren_head r h, refl, f h t e, same_sort h)
   where
     same_sort : (h : Head) → is_metavariable (ren_head r h) ≡ is_metavariable h
@@ -74,7 +74,7 @@ renames z y r f h t e = inl (ren_head r h, refl, f h t e, same_sort h)
     same_sort (Meta m) = refl
 
 module _ (arguments : Families) where
-  renamed : (z y : Assignment) (r : Renumbering) → ((h : Head) (t : SimpleType) → z h ≡ Some t → y (ren_head r h) ≡ Some t) → (a : PlainType) → SimplyFormed arguments z a → SimplyFormed arguments y (ren_type r a)
+  pub renamed : (z y : Assignment) (r : Renumbering) → ((h : Head) (t : SimpleType) → z h ≡ Some t → y (ren_head r h) ≡ Some t) → (a : PlainType) → SimplyFormed arguments z a → SimplyFormed arguments y (ren_type r a)
   renamed z y r f a p = ((result_is_typed true arguments z y (keeping r) (renames z y r f)).type a (ren_type r a) p ((renaming_substitutes r).1 a)).0
 
   past_one : (t : SimpleType) (z : Assignment) (h : Head) (u : SimpleType) → z h ≡ Some u → extended t z (ren_head (up 1) h) ≡ Some u
@@ -97,7 +97,7 @@ module _ (arguments : Families) where
       (renamed (extended_over g z) (extended_over (x ∷ g) z) (up 1) (past_one (erase x.1) (extended_over g z)) (ren_type (up (k + 1)) b) (variable z g k m b p.1 e))
 
 -- the constants have the same simple types in every context
-closed_within : (sig : PlainSignature) (g : Context) (h : Head) (t : SimpleType) → constants_of sig h ≡ Some t → simple_of sig g (ren_head (λ i. i) h) ≡ Some t
+pub closed_within : (sig : PlainSignature) (g : Context) (h : Head) (t : SimpleType) → constants_of sig h ≡ Some t → simple_of sig g (ren_head (λ i. i) h) ≡ Some t
 closed_within sig [] (Const c) t e = e
 closed_within sig [] (Var i) t e = e
 closed_within sig [] (Meta k) t e = e
@@ -111,7 +111,7 @@ inserted_above u z i = grind arith
 inserted_first : (u : SimpleType) (z : Assignment) → inserted 0 u z (Var 0) ≡ Some u
 inserted_first u z = grind arith
 
-as_inserted : (u : SimpleType) (z : Assignment) → inserted 0 u z ≡ extended u z
+pub as_inserted : (u : SimpleType) (z : Assignment) → inserted 0 u z ≡ extended u z
 as_inserted u z = ext (λ h. at_head h)
   where
     at_head : (h : Head) → inserted 0 u z h ≡ extended u z h

@@ -12,3 +12,5 @@ pub mod Carried
 pub mod ContextLaws
 pub mod Swapped
 pub mod Returned
+pub mod LetGo
+pub mod Strengthened

@@ -19,7 +19,8 @@ use Rattle.hered_subst.specs.Substitution.{single, SubstitutedType, SubstitutedT
 use Rattle.trace_equal.specs.Exchange.{JoinedEach}
 use Rattle.clf_sig.specs.Entry.{PlainSignature, constant_type}
 use Rattle.clf_rules.specs.Typing.{HasType, Synthesizes, ExpressionHasType, TupleHasType}
-use Rattle.typing_laws.specs.Contexts.{with_mark, with_entry, ContextStrengthening}
+use Rattle.clf_rules.specs.WellFormed.{WellFormedSignature}
+use Rattle.typing_laws.specs.Contexts.{with_mark, with_entry, AreBroughtBack}
 use Rattle.typing_laws.proofs.Carried.{past, past_all, past_held, same_modes, square_type, square_telescope, raised, joined_each, and_left, and_right, and_both}
 use Rattle.typing_laws.proofs.ContextLaws.{constants_closed, raise_all, raise_next, same_past}
 
@@ -313,8 +314,10 @@ narrowed (suc k) m b (d ∷ g) e = let (l, c) = narrowed k m b g (omega arith) i
 )
 narrowed (suc k) m b [] e = absurd (omega arith)
 
-pub context_strengthening : ContextStrengthening
-context_strengthening sig g h k m b w e = let (l, c) = narrowed k m b g e in record {
+-- an entry that is persistent or not held may go
+pub strengthened : (sig : PlainSignature) (g : Context) (h : Holding) (k : ℕ) (m : Mode) (b : PlainType) → WellFormedSignature sig → k ≤ length g
+    → AreBroughtBack sig (raise 1 k) g (with_entry k (m, b) g) h (with_mark k (is_persistent m) h)
+strengthened sig g h k m b w e = let (l, c) = narrowed k m b g e in record {
   objects = return_object sig (constants_closed sig w) (raise 1 k) l g (with_entry k (m, b) g) (with_mark k (is_persistent m)) c h;
   neutrals = return_neutral sig (constants_closed sig w) (raise 1 k) l g (with_entry k (m, b) g) (with_mark k (is_persistent m)) c h;
   expressions = return_expression sig (constants_closed sig w) (raise 1 k) l g (with_entry k (m, b) g) (with_mark k (is_persistent m)) c h;

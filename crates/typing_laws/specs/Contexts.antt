@@ -1,5 +1,5 @@
 -- Entries of a context: a new one, two that change places, and one that nothing mentions.
-use Rattle.std.specs.Prelude.{ℕ, zero, suc, ◌≡◌, ◌≤◌, Bool, [], ◌∷◌, length}
+use Rattle.std.specs.Prelude.{ℕ, zero, suc, ◌≡◌, ◌≤◌, Bool, true, [], ◌∷◌, length}
 use Rattle.clf_syntax.specs.declared.tree.Mode.{Mode}
 use Rattle.clf_syntax.specs.Tree.{PlainObject, PlainNeutral, PlainExpression, PlainTuple}
 use Rattle.clf_syntax.specs.TypeTree.{PlainType, PlainTelescope}
@@ -54,10 +54,10 @@ abbrev pub ContextWeakening : Type 0
 ContextWeakening = (sig : PlainSignature) (g : Context) (h : Holding) (k : ℕ) (m : Mode) (b : PlainType) → WellFormedSignature sig → length h ≡ length g → k ≤ length g
     → AreCarried sig (raise 1 k) g (with_entry k (m, b) g) h (with_mark k (is_persistent m) h)
 
--- Strengthening: an entry that nothing mentions may go, if it is persistent or not held.
+-- Strengthening: an entry that nothing mentions may go, whether it is held or not. (A persistent one is held.)
 abbrev pub ContextStrengthening : Type 0
-ContextStrengthening = (sig : PlainSignature) (g : Context) (h : Holding) (k : ℕ) (m : Mode) (b : PlainType) → WellFormedSignature sig → k ≤ length g
-    → AreBroughtBack sig (raise 1 k) g (with_entry k (m, b) g) h (with_mark k (is_persistent m) h)
+ContextStrengthening = (sig : PlainSignature) (g : Context) (h : Holding) (k : ℕ) (m : Mode) (b : PlainType) (held : Bool) → WellFormedSignature sig → k ≤ length g
+    → (is_persistent m ≡ true → held ≡ true) → AreBroughtBack sig (raise 1 k) g (with_entry k (m, b) g) h (with_mark k held h)
 
 -- Exchange: two neighbouring entries, of which the newer one does not mention the older one, change places.
 abbrev pub ContextExchange : Type 0

@@ -1,7 +1,7 @@
 //! Laws of the rules, each stated by a function that does nothing.
 ghost use Rattle.typing_laws.specs.Congruence.{JoinedIsCongruence, JoinedIsEquivalenceOnEachSort};
 ghost use Rattle.typing_laws.specs.Contexts.{ContextExchange, ContextStrengthening, ContextWeakening};
-ghost use Rattle.typing_laws.specs.Held.{AffineWeakening, MentionsHeldAlone};
+ghost use Rattle.typing_laws.specs.Held.{AffineWeakening, LettingGo, MentionsHeldAlone};
 ghost use Rattle.typing_laws.specs.LostTypes.{ExchangeLosesTypes};
 ghost use Rattle.typing_laws.specs.SimpleTyping.{SynthesizedIsSimplyFormed, TypedIsSimplyTyped, WellFormedIsSimplyFormed};
 ghost use Rattle.typing_laws.specs.Splits.{SplitAssociates, SplitCommutes, SplitHasNeutral};
@@ -43,9 +43,10 @@ pub fn exchange()
     ensures { ContextExchange }
 {}
 
-/// What is typed stays typed without an entry of the context that nothing mentions, if it is persistent or not held.
+/// What is typed stays typed where an affine or linear entry that nothing mentions is not held, and without an entry that nothing mentions.
 pub fn strengthening()
-    ensures { ContextStrengthening }
+    ensures letting_go { LettingGo }
+    ensures context { ContextStrengthening }
 {}
 
 /// A split commutes and associates, and the persistent entries alone take nothing.

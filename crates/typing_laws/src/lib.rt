@@ -4,6 +4,6 @@
 mod laws;
 
 pub use laws::{
-    congruence, exchange, lost_types, mentions, one_type, simple_typing, splits,
-    strengthening, used, weakening, worked_trees,
+    congruence, exchange, lost_types, mentions, one_type, simple_typing, splits, strengthening,
+    used, weakening, worked_trees,
 };

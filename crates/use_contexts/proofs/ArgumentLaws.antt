@@ -94,7 +94,7 @@ affine-agrees ms l (Some r) Q a b = (
 )
 
 -- ---- persistent arguments
-alone_length : (ms : List Mode) → length (persistent_alone ms) ≡ length ms
+pub alone_length : (ms : List Mode) → length (persistent_alone ms) ≡ length ms
 alone_length [] = refl
 alone_length (m ∷ ms) = ap suc (alone_length ms)
 
@@ -104,10 +104,10 @@ alone_within (Persistent ∷ ms) = (refl, alone_within ms)
 alone_within (Affine ∷ ms) = (refl, alone_within ms)
 alone_within (Linear ∷ ms) = (refl, alone_within ms)
 
-alone_part : (ms : List Mode) → IsSubholding ms (persistent_alone ms) (persistent_alone ms)
+pub alone_part : (ms : List Mode) → IsSubholding ms (persistent_alone ms) (persistent_alone ms)
 alone_part ms = (alone_length ms, alone_within ms)
 
-alone_bare : (ms : List Mode) → is_unrestricted ms (persistent_alone ms) ≡ true
+pub alone_bare : (ms : List Mode) → is_unrestricted ms (persistent_alone ms) ≡ true
 alone_bare [] = refl
 alone_bare (Persistent ∷ ms) = alone_bare ms
 alone_bare (Affine ∷ ms) = alone_bare ms

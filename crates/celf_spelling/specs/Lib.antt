@@ -1,0 +1,14 @@
+pub use Rattle.celf_lexer.specs.Tokens
+pub use Rattle.celf_surface.specs.Surface
+pub use Rattle.celf_grammar.specs.State
+pub use Rattle.celf_grammar.specs.Grammar
+pub use Rattle.celf_sugar.specs.PlainTree
+pub use Rattle.celf_sugar.specs.Sugar
+pub use Rattle.celf_sugar.specs.Faults
+pub use Rattle.clf_printer.specs.Text
+pub mod Printed
+pub mod Placeless
+pub mod Printable
+pub mod Spelling
+pub mod Laws
+pub mod Worked

@@ -1,0 +1,14 @@
+pub use Rattle.clf_syntax.specs.Tree
+pub use Rattle.clf_syntax.specs.TypeTree
+pub use Rattle.clf_sig.specs.Entry
+pub use Rattle.clf_rules.specs.Typing
+pub use Rattle.clf_rules.specs.WellFormed
+pub use Rattle.clf_rules.specs.Explained
+pub use Rattle.typing_laws.specs.SimpleTyping
+pub mod Outcome
+pub mod Checking
+pub mod Formation
+pub mod Starts
+pub mod Puts
+pub mod Laws
+pub mod Hereditary
