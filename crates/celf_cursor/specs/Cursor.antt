@@ -1,12 +1,12 @@
 -- Cursors, as states of a reading.
-use Rattle.std.specs.Prelude.{ℕ, ◌≡◌, ◌≢◌, ◌≤◌, ◌⊎◌, false, List, [], ◌∷◌, length, Result, Ok, Err}
+use Rattle.std.specs.Prelude.{ℕ, ◌+◌, ◌≡◌, ◌≢◌, ◌<◌, ◌≤◌, ◌⊎◌, false, List, [], ◌∷◌, length, Result, Ok, Err}
 use Rattle.celf_lexer.specs.declared.token.TokenKind.{TokenKind}
-use Rattle.celf_lexer.specs.declared.token.TokenKind.TheVariants.{ConstName}
+use Rattle.celf_lexer.specs.declared.token.TokenKind.TheVariants.{ConstName, RightBrace, Star}
 use Rattle.celf_lexer.specs.declared.token.Token.{Token}
 use Rattle.celf_lexer.specs.declared.token.LexFault.{LexFault}
-use Rattle.celf_lexer.specs.Tokens.{Lexeme, next_token, tokens_at}
+use Rattle.celf_lexer.specs.Tokens.{Lexeme, next_token, tokens_at, size_limit}
 use Rattle.celf_surface.specs.declared.surface.Span.{Span}
-use Rattle.celf_grammar.specs.State.{State, next_kind}
+use Rattle.celf_grammar.specs.State.{State, Takes, next_kind}
 use Rattle.celf_grammar.specs.Grammar.{is_name_kind}
 use Rattle.celf_cursor.specs.declared.cursor.Cursor.{Cursor}
 use Rattle.celf_cursor.specs.declared.stop.Stop.{Stop}
@@ -27,9 +27,25 @@ kind_next text c = next_kind (state_of text c).rest
 
 -- The cursor stands in the text: its next token is the first one behind the last that was taken.
 pub record IsCursorOf (text : List ℕ) (c : Cursor) : Type 0 where
-  pub size : length text ≤ 16777216
+  pub size : length text ≤ size_limit
   pub within : c.end ≤ length text
   pub next : c.next ≡ next_token text c.end
+
+-- the most `*` of products that may be open at a place
+abbrev pub star_limit : ℕ
+star_limit = 4096
+
+-- how many `*` are open behind a closing sign, of those before the part and those at its end: braces give back the `*` of what they
+-- enclose. Other brackets give none back, since a product in parentheses may become as many functions as one without them.
+abbrev pub stars_behind : TokenKind → ℕ → ℕ → ℕ
+stars_behind RightBrace before within = before
+stars_behind _ before within = within
+
+-- A `*` is taken, and one more is open.
+pub record OpensStar (text : List ℕ) (c d : Cursor) : Type 0 where
+  pub taken : Takes Star (state_of text c) (state_of text d)
+  pub room : c.stars < star_limit
+  pub opened : d.stars ≡ c.stars + 1
 
 -- the bytes of a token
 abbrev pub span_of : Token → Span
@@ -52,6 +68,10 @@ Misses text k c e = (e ≡ unexpected c.next) × (kind_next text c ≢ k)
 -- A token of this kind is to open a nested part: another one comes next, or there is no room.
 abbrev pub MissesOpening : List ℕ → TokenKind → Cursor → Stop → Type 0
 MissesOpening text k c e = Misses text k c e ⊎ ((e ≡ too_deep c.next) × (kind_next text c ≡ k) × (c.room ≡ 0))
+
+-- A `*` comes next, and as many are open as may be: memory has run out.
+abbrev pub MissesStar : Cursor → Stop → Type 0
+MissesStar c e = (e ≡ NoMemory) × (star_limit ≤ c.stars)
 
 -- the spelling of the token that comes next in a text
 abbrev pub next_spelling : List Lexeme → List ℕ

@@ -1,14 +1,11 @@
 //! Where a reading of a text stands.
 ghost use Rattle.std.specs.Prelude.{◌≡◌, ◌≢◌, ◌≤◌, ◌<◌, length, Ok};
-ghost use Rattle.celf_lexer.specs.Tokens.{tokens_from, lexeme_of};
+ghost use Rattle.celf_lexer.specs.Tokens.{tokens_from, lexeme_of, size_limit};
 ghost use Rattle.celf_grammar.specs.State.{State, TakesToken, EndsPart, span_to};
 ghost use Rattle.celf_cursor.specs.Cursor.{IsCursorOf, state_of, kind_next};
 
 use celf_lexer::{LexFault, Token, TokenKind};
 use celf_surface::Span;
-
-/// The greatest size of a text, in bytes.
-pub const MAX_BYTES: u32 = 16_777_216;
 
 /// Where a reading of a text stands.
 #[derive(Clone, Copy, Debug)]
@@ -19,18 +16,19 @@ pub struct Cursor {
     pub room: u32,
     /// The byte behind the last token that was taken.
     pub end: u32,
-    /// How many signs `*` of products were taken since the reading began.
+    /// How many signs `*` of products are open.
     pub stars: u32,
 }
 
 /// The cursor at a byte.
 #[tactic(auto, using(crate::proofs::Cursors::start_steps), unfolding(crate::specs::Cursor::state_of))]
 pub fn cursor_at(bytes: &[u8], at: u32, room: u32) -> Cursor
-    requires size { length bytes.now ≤ MAX_BYTES }
+    requires size { length bytes.now ≤ size_limit }
     requires place { at ≤ length bytes.now }
     ensures state { state_of bytes.now result ≡ record { rest = tokens_from bytes.now at; room = room; end = at } }
     ensures cursor { IsCursorOf bytes.now result }
     ensures end { result.end ≡ at }
+    ensures stars { result.stars ≡ 0 }
 {
     Cursor {
         next: celf_lexer::next(bytes, at),
@@ -49,6 +47,7 @@ pub(crate) fn advance(bytes: &[u8], cursor: Cursor, token: Token, room: u32) -> 
     ensures taken { TakesToken room (lexeme_of bytes.now token) (state_of bytes.now cursor) (state_of bytes.now result) }
     ensures cursor { IsCursorOf bytes.now result }
     ensures further { cursor.end < result.end }
+    ensures stars { result.stars ≡ cursor.stars }
 {
     let behind = cursor_at(bytes, token.end, room);
     Cursor {
@@ -57,6 +56,17 @@ pub(crate) fn advance(bytes: &[u8], cursor: Cursor, token: Token, room: u32) -> 
         end: behind.end,
         stars: cursor.stars,
     }
+}
+
+/// The same cursor with so many `*` open.
+#[tactic(auto, unfolding(crate::specs::Cursor::state_of))]
+pub(crate) fn with_stars(bytes: &[u8], cursor: Cursor, stars: u32) -> Cursor
+    ensures state { state_of bytes.now result ≡ state_of bytes.now cursor }
+    ensures cursor { IsCursorOf bytes.now cursor → IsCursorOf bytes.now result }
+    ensures end { result.end ≡ cursor.end }
+    ensures stars { result.stars ≡ stars }
+{
+    Cursor { stars, ..cursor }
 }
 
 /// The kind of the token that comes next, and the end where none begins.
@@ -92,6 +102,7 @@ pub fn end_part(bytes: &[u8], before: Cursor, cursor: Cursor) -> Cursor
     ensures ended { EndsPart (state_of bytes.now before).room (state_of bytes.now cursor) (state_of bytes.now result) }
     ensures cursor { IsCursorOf bytes.now result }
     ensures end { result.end ≡ cursor.end }
+    ensures stars { result.stars ≡ cursor.stars }
 {
     Cursor {
         next: cursor.next,

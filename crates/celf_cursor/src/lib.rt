@@ -7,7 +7,7 @@ mod sign;
 mod stop;
 mod word;
 
-pub use cursor::{Cursor, MAX_BYTES, cursor_at, end_part, kind_of_next, span_from};
-pub use sign::{close, open, take};
+pub use cursor::{Cursor, cursor_at, end_part, kind_of_next, span_from};
+pub use sign::{close, open, open_star, take};
 pub use stop::{Stop, unexpected};
 pub use word::{take_constant, take_directive, take_name, take_number, take_one};

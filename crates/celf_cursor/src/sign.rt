@@ -1,12 +1,16 @@
 //! The taking of signs and keywords.
-ghost use Rattle.std.specs.Prelude.{◌≡◌, ◌≢◌, ◌<◌, IfOk, IfErr, IsTrue, ◌↔◌, Ok};
+ghost use Rattle.std.specs.Prelude.{◌≡◌, ◌≢◌, ◌<◌, IfOk, IfErr, Ok};
 ghost use Rattle.celf_grammar.specs.State.{Takes, Opens, Closes};
-ghost use Rattle.celf_cursor.specs.Cursor.{IsCursorOf, state_of, kind_next, Misses, MissesOpening};
+ghost use Rattle.celf_cursor.specs.Cursor.{IsCursorOf, state_of, kind_next, stars_behind, Misses, MissesOpening, MissesStar, OpensStar};
 
-use crate::cursor::{Cursor, advance};
+use crate::cursor::{Cursor, advance, with_stars};
 use crate::kind::is_kind;
 use crate::stop::{Stop, too_deep, unexpected};
 use celf_lexer::{Token, TokenKind};
+
+/// The most `*` that may be open at a place. What a product becomes is dropped and gone through by recursion, once a factor, so the stack
+/// of the program would not hold many more: its memory has run out.
+const MAX_STARS: u32 = 4096;
 
 /// The token that comes next, of this kind.
 #[tactic(auto, unfolding(crate::specs::Cursor::state_of))]
@@ -29,6 +33,7 @@ pub fn take(bytes: &[u8], cursor: Cursor, kind: TokenKind) -> Result<Cursor, Sto
     ensures taken { IfOk result (λ c. Takes kind (state_of bytes.now cursor) (state_of bytes.now c)) }
     ensures cursor { IfOk result (IsCursorOf bytes.now) }
     ensures further { IfOk result (λ c. cursor.end < c.end) }
+    ensures stars { IfOk result (λ c. c.stars ≡ cursor.stars) }
     ensures missed { IfErr result (Misses bytes.now kind cursor) }
 {
     let token = wanted(bytes, cursor, kind)?;
@@ -43,6 +48,7 @@ pub fn open(bytes: &[u8], cursor: Cursor, kind: TokenKind) -> Result<Cursor, Sto
     ensures opened { IfOk result (λ c. Opens kind (state_of bytes.now cursor) (state_of bytes.now c)) }
     ensures cursor { IfOk result (IsCursorOf bytes.now) }
     ensures further { IfOk result (λ c. cursor.end < c.end) }
+    ensures stars { IfOk result (λ c. c.stars ≡ cursor.stars) }
     ensures missed { IfErr result (MissesOpening bytes.now kind cursor) }
 {
     let token = wanted(bytes, cursor, kind)?;
@@ -52,7 +58,24 @@ pub fn open(bytes: &[u8], cursor: Cursor, kind: TokenKind) -> Result<Cursor, Sto
     Ok(advance(bytes, cursor, token, cursor.room - 1))
 }
 
-/// Takes a token of this kind, which ends a part: there is room as before it.
+/// Takes the `*` that comes next, and opens it. One more than may be open is want of memory.
+pub fn open_star(bytes: &[u8], cursor: Cursor) -> Result<Cursor, Stop>
+    requires cursor { IsCursorOf bytes.now cursor }
+    requires kind { kind_next bytes.now cursor ≡ TokenKind.Star }
+    ensures opened { IfOk result (OpensStar bytes.now cursor) }
+    ensures cursor { IfOk result (IsCursorOf bytes.now) }
+    ensures further { IfOk result (λ c. cursor.end < c.end) }
+    ensures missed { IfErr result (MissesStar cursor) }
+{
+    if cursor.stars >= MAX_STARS {
+        return Err(Stop::NoMemory);
+    }
+    let behind = take(bytes, cursor, TokenKind::Star)?;
+    let stars = behind.stars + 1;
+    Ok(with_stars(bytes, behind, stars))
+}
+
+/// Takes a token of this kind, which ends a part: there is room as before it, and braces give back the `*` of what they enclose.
 #[tactic(auto, using(crate::proofs::Cursors::close_steps))]
 pub fn close(bytes: &[u8], before: Cursor, cursor: Cursor, kind: TokenKind) -> Result<Cursor, Stop>
     requires cursor { IsCursorOf bytes.now cursor }
@@ -60,8 +83,20 @@ pub fn close(bytes: &[u8], before: Cursor, cursor: Cursor, kind: TokenKind) -> R
     ensures closed { IfOk result (λ c. Closes kind (state_of bytes.now before).room (state_of bytes.now cursor) (state_of bytes.now c)) }
     ensures cursor { IfOk result (IsCursorOf bytes.now) }
     ensures further { IfOk result (λ c. cursor.end < c.end) }
+    ensures stars { IfOk result (λ c. c.stars ≡ stars_behind kind before.stars cursor.stars) }
     ensures missed { IfErr result (Misses bytes.now kind cursor) }
 {
     let token = wanted(bytes, cursor, kind)?;
-    Ok(advance(bytes, cursor, token, before.room))
+    let behind = advance(bytes, cursor, token, before.room);
+    Ok(with_stars(bytes, behind, stars_left(kind, before.stars, cursor.stars)))
+}
+
+/// How many `*` are open behind a closing sign.
+fn stars_left(kind: TokenKind, before: u32, within: u32) -> u32
+    ensures { result ≡ stars_behind kind before within }
+{
+    match kind {
+        TokenKind::RightBrace => before,
+        _ => within,
+    }
 }

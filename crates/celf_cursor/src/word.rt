@@ -85,6 +85,7 @@ pub fn take_name(alloc: Global, bytes: &[u8], cursor: Cursor) -> Result<(Name, C
     ensures taken { IfOk result (λ r. TakesName (state_of bytes.now cursor) r.0 (state_of bytes.now r.1)) }
     ensures cursor { IfOk result (λ r. IsCursorOf bytes.now r.1) }
     ensures further { IfOk result (λ r. cursor.end < r.1.end) }
+    ensures stars { IfOk result (λ r. r.1.stars ≡ cursor.stars) }
     ensures missed { IfErr result (MissesName bytes.now cursor) }
 {
     let token = wanted_name(bytes, cursor)?;
@@ -99,6 +100,7 @@ pub fn take_constant(alloc: Global, bytes: &[u8], cursor: Cursor) -> Result<(Nam
     ensures taken { IfOk result (λ r. TakesConstant (state_of bytes.now cursor) r.0 (state_of bytes.now r.1)) }
     ensures cursor { IfOk result (λ r. IsCursorOf bytes.now r.1) }
     ensures further { IfOk result (λ r. cursor.end < r.1.end) }
+    ensures stars { IfOk result (λ r. r.1.stars ≡ cursor.stars) }
     ensures missed { IfErr result (MissesConstant bytes.now cursor) }
 {
     let token = wanted(bytes, cursor, TokenKind::ConstName)?;
@@ -121,6 +123,7 @@ fn take_word(bytes: &[u8], cursor: Cursor, kind: TokenKind, word: &str) -> Resul
     ensures taken { IfOk result (λ c. TakesWord kind word.now (state_of bytes.now cursor) (state_of bytes.now c)) }
     ensures cursor { IfOk result (IsCursorOf bytes.now) }
     ensures further { IfOk result (λ c. cursor.end < c.end) }
+    ensures stars { IfOk result (λ c. c.stars ≡ cursor.stars) }
     ensures missed { IfErr result (MissesWord bytes.now kind word.now cursor) }
 {
     let token = wanted(bytes, cursor, kind)?;
@@ -137,6 +140,7 @@ pub fn take_one(bytes: &[u8], cursor: Cursor) -> Result<Cursor, Stop>
     ensures taken { IfOk result (λ c. TakesOne (state_of bytes.now cursor) (state_of bytes.now c)) }
     ensures cursor { IfOk result (IsCursorOf bytes.now) }
     ensures further { IfOk result (λ c. cursor.end < c.end) }
+    ensures stars { IfOk result (λ c. c.stars ≡ cursor.stars) }
     ensures missed { IfErr result (MissesWord bytes.now TokenKind.Number (codes "1") cursor) }
 {
     take_word(bytes, cursor, TokenKind::Number, "1")
@@ -148,6 +152,7 @@ pub fn take_directive(bytes: &[u8], cursor: Cursor, word: &str) -> Result<Cursor
     ensures taken { IfOk result (λ c. TakesDirective word.now (state_of bytes.now cursor) (state_of bytes.now c)) }
     ensures cursor { IfOk result (IsCursorOf bytes.now) }
     ensures further { IfOk result (λ c. cursor.end < c.end) }
+    ensures stars { IfOk result (λ c. c.stars ≡ cursor.stars) }
     ensures missed { IfErr result (MissesWord bytes.now TokenKind.Directive word.now cursor) }
 {
     take_word(bytes, cursor, TokenKind::Directive, word)
@@ -172,6 +177,7 @@ pub fn take_number(bytes: &[u8], cursor: Cursor) -> Result<(Bound, Cursor), Stop
     ensures taken { IfOk result (λ r. TakesNumber (state_of bytes.now cursor) r.0 (state_of bytes.now r.1)) }
     ensures cursor { IfOk result (λ r. IsCursorOf bytes.now r.1) }
     ensures further { IfOk result (λ r. cursor.end < r.1.end) }
+    ensures stars { IfOk result (λ r. r.1.stars ≡ cursor.stars) }
     ensures missed { IfErr result (Misses bytes.now TokenKind.Number cursor) }
 {
     let token = wanted(bytes, cursor, TokenKind::Number)?;

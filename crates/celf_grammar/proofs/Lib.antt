@@ -15,3 +15,4 @@ pub mod Goes
 pub mod OneObject
 pub mod OneType
 pub mod OneItem
+pub mod MoreRoom

@@ -83,5 +83,3 @@ tree-one s u v i j h g = (item-same h g refl).0
 
 pub behind-one : BehindIsOne
 behind-one s u v i j h g = (item-same h g refl).1
-
-pub ruleset reading_laws = (tree-one, behind-one)

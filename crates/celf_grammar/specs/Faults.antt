@@ -83,3 +83,8 @@ TreeIsOne = (s u v : State) (i j : WrittenItem) → IsItem s i u → IsItem s j 
 -- What is left behind an item is determined.
 abbrev pub BehindIsOne : Type 0
 BehindIsOne = (s u v : State) (i j : WrittenItem) → IsItem s i u → IsItem s j v → u ≡ v
+
+-- However much room there is for parts, the same tokens are read as one tree, and the same tokens are left behind it.
+abbrev pub TreeInAnyRoom : Type 0
+TreeInAnyRoom = (ts : List Lexeme) (end m n : ℕ) (u v : State) (i j : WrittenItem)
+    → IsItem (record { rest = ts; room = m; end = end }) i u → IsItem (record { rest = ts; room = n; end = end }) j v → (i ≡ j) × (u.rest ≡ v.rest)

@@ -2,7 +2,7 @@
 use Rattle.std.specs.Prelude.{ℕ, ◌+◌, ◌==◌, nat_lt, Bool, false, not, ◌&&◌, ◌||◌, if◌then◌else◌, List, [], ◌∷◌, length, take, drop, codes}
 use Rattle.celf_lexer.specs.declared.token.TokenKind.{TokenKind}
 use Rattle.celf_lexer.specs.declared.token.TokenKind.TheVariants as kind
-use Rattle.clf_syntax.specs.Word.{begins_word, goes_on, name_byte_first, is_name, is_capital, same_bytes, all_digits}
+use Rattle.clf_syntax.specs.Word.{begins_word, goes_on, name_byte_first, is_name, is_capital, same_bytes, all_digits, word_limit}
 
 -- how many bytes the word has that goes on here
 abbrev pub rest_length : List ℕ → ℕ
@@ -49,7 +49,7 @@ is_back_lolli word [] = false
 
 -- a token whose word begins after so many bytes
 abbrev pub of_word : ℕ → List ℕ → TokenKind → Front
-of_word before word k = if nat_lt 255 (length word) then long else token k (before + length word)
+of_word before word k = if nat_lt word_limit (length word) then long else token k (before + length word)
 
 -- the word, and what follows it
 abbrev pub word_front : List ℕ → List ℕ → Front

@@ -3,7 +3,7 @@ use Rattle.std.specs.Prelude.{ℕ, ◌≡◌, ◌<◌, ◌≤◌, ◌==◌, Bool
 use Rattle.std.specs.List.{Contains}
 use Rattle.celf_lexer.specs.declared.token.TokenKind.{TokenKind}
 use Rattle.celf_lexer.specs.declared.token.TokenKind.TheVariants as kind
-use Rattle.clf_syntax.specs.Word.{is_word, is_name, goes_on}
+use Rattle.clf_syntax.specs.Word.{is_word, is_name, goes_on, word_limit}
 use Rattle.celf_lexer.specs.Sign.{Front, token, long, bad, word_kind, hash_kind, signs, may_stand}
 
 -- No word goes on with these bytes.
@@ -34,8 +34,8 @@ abbrev pub word_in : List ℕ → List ℕ
 word_in [] = []
 word_in (b ∷ bs) = if b == 36 || b == 35 then bs else b ∷ bs
 
--- What begins some bytes: the token of the longest spelling; a long word where the word of that token has more than 255 bytes; nothing where no token may begin them.
+-- What begins some bytes: the token of the longest spelling; a long word where the word of that token is longer than a word may be; nothing where no token may begin them.
 abbrev pub IsFront : List ℕ → Front → Type 0
-IsFront bytes (token k n) = (s after : List ℕ) × (bytes ≡ s ++ after) × Spelled k s after × (length s ≡ n) × IsLongest bytes n × (length (word_in s) ≤ 255)
-IsFront bytes long = (k : TokenKind) × (s after : List ℕ) × (bytes ≡ s ++ after) × Spelled k s after × IsLongest bytes (length s) × (255 < length (word_in s))
+IsFront bytes (token k n) = (s after : List ℕ) × (bytes ≡ s ++ after) × Spelled k s after × (length s ≡ n) × IsLongest bytes n × (length (word_in s) ≤ word_limit)
+IsFront bytes long = (k : TokenKind) × (s after : List ℕ) × (bytes ≡ s ++ after) × Spelled k s after × IsLongest bytes (length s) × (word_limit < length (word_in s))
 IsFront bytes bad = (k : TokenKind) (s after : List ℕ) → bytes ≡ s ++ after → Spelled k s after → ⊥

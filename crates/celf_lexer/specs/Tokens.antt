@@ -8,6 +8,10 @@ use Rattle.celf_lexer.specs.declared.token.LexFault.TheVariants.{BadByte, LongNa
 use Rattle.celf_lexer.specs.Gap.{gap}
 use Rattle.celf_lexer.specs.Sign.{Front, token, long, bad, front}
 
+-- the greatest size of a text, in bytes
+abbrev pub size_limit : ℕ
+size_limit = 16777216
+
 -- what begins at this place, with its place
 abbrev pub placed : ℕ → Front → Result Token LexFault
 placed at (token k n) = Ok (record { kind = k; start = at; end = at + n })

@@ -1,7 +1,7 @@
 //! The next token of a text.
 
 ghost use Rattle.celf_lexer.specs.Sign as spec;
-ghost use Rattle.celf_lexer.specs.Tokens.{fault_byte, next_token, placed};
+ghost use Rattle.celf_lexer.specs.Tokens.{fault_byte, next_token, placed, size_limit};
 ghost use Rattle.clf_syntax.specs.Word as words;
 ghost use Rattle.std.specs.Prelude.{◌+◌, ◌<◌, ◌≡◌, ◌≢◌, ◌≤◌, ◌^◌, IfErr, IfOk, IsTrue, length};
 
@@ -126,7 +126,7 @@ fn token_here(bytes: &[u8], start: u32) -> Result<Token, LexFault>
 #[tactic(auto, unfolding(crate::specs::Tokens::first_of))]
 pub fn next(bytes: &[u8], at: u32) -> Result<Token, LexFault>
     requires place { at ≤ length bytes.now }
-    requires size { length bytes.now ≤ 16777216 }
+    requires size { length bytes.now ≤ size_limit }
     ensures exact { result ≡ next_token bytes.now at }
     ensures behind { IfOk result (λ t. at ≤ t.start) }
     ensures ordered { IfOk result (λ t. t.start ≤ t.end) }

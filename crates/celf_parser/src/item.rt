@@ -1,6 +1,7 @@
 //! Items.
 ghost use Rattle.std.specs.Prelude.{ℕ, ◌≡◌, ◌≢◌, ◌<◌, ◌≤◌, ◌+◌, List, ◌∷◌, length, drop, IfOk, IfErr, IfSome, IfNone};
 ghost use Rattle.celf_lexer.specs.Gap.{gap};
+ghost use Rattle.celf_lexer.specs.Tokens.{size_limit};
 ghost use Rattle.celf_surface.specs.Surface.{written_item};
 ghost use Rattle.celf_grammar.specs.Machine.{Symbol, Item as ItemSymbol};
 ghost use Rattle.celf_cursor.specs.Cursor.{IsCursorOf, state_of};
@@ -9,7 +10,7 @@ ghost use Rattle.celf_parser.specs.Place.{start_at, IsItemAt, IsFaultAt, HasDecl
 
 use crate::body::body_at;
 use crate::fault::SyntaxFault;
-use celf_cursor::{Cursor, MAX_BYTES, cursor_at, span_from, take};
+use celf_cursor::{Cursor, cursor_at, span_from, take};
 use celf_lexer::TokenKind;
 use celf_surface::Item;
 use std::alloc::Global;
@@ -20,7 +21,7 @@ pub const NESTING: u32 = 1000;
 /// The next item of a text from a place on, or `None` where only blanks and comments are left.
 pub fn next_item(alloc: Global, bytes: &[u8], at: u32) -> Result<Option<Item>, SyntaxFault>
     requires place { at ≤ length bytes.now }
-    requires size { length bytes.now ≤ MAX_BYTES }
+    requires size { length bytes.now ≤ size_limit }
     ensures item { IfOk result (λ found. IfSome found (λ item. IsItemAt bytes.now at (written_item item))) }
     ensures behind { IfOk result (λ found. IfSome found (λ item. (at < item.span.end) × (item.span.end ≤ length bytes.now))) }
     ensures name { IfOk result (λ found. IfSome found (λ item. HasDeclarableName (written_item item).body)) }

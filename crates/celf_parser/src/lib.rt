@@ -11,6 +11,5 @@ mod leaf;
 mod product;
 mod types;
 
-pub use celf_cursor::MAX_BYTES;
 pub use fault::SyntaxFault;
 pub use item::{NESTING, next_item};

@@ -11,8 +11,8 @@ ghost use Rattle.celf_parser.specs.Enclosed.{Binds, Encloses, IsMarked};
 use crate::arrow::{open_backward, open_forward};
 use crate::form;
 use crate::leaf::{family_at, one_at, top_at, word_at};
-use crate::product::{Factor, product, star};
-use celf_cursor::{Cursor, Stop, close, kind_of_next, open, span_from, take, take_name};
+use crate::product::{Factor, product};
+use celf_cursor::{Cursor, Stop, close, kind_of_next, open, open_star, span_from, take, take_name};
 use celf_lexer::TokenKind;
 use celf_surface::SType;
 use clf_syntax::{Mode, Name};
@@ -99,7 +99,7 @@ fn sync_at(alloc: Global, bytes: &[u8], cursor: Cursor) -> Result<(Boxed<SType>,
             return Ok((product(alloc, bytes, factors, ty, behind)?, behind));
         };
         factors.push(Factor { at, ty })?;
-        at = star(bytes, behind)?;
+        at = open_star(bytes, behind)?;
     }
 }
 

@@ -9,7 +9,7 @@ use Rattle.clf_syntax.specs.declared.fault.OrWide.{OrWide}
 use Rattle.clf_syntax.specs.declared.fault.OrWide.TheVariants.{Fault, NoMemory, TooFar}
 use Rattle.clf_syntax.specs.Wide.{IsWant}
 use Rattle.clf_sig.specs.declared.entry.Entry.{Entry}
-use Rattle.clf_sig.specs.Entry.{PlainEntry, PlainSignature, place_of}
+use Rattle.clf_sig.specs.Entry.{entry_limit, PlainEntry, PlainSignature, place_of}
 use Rattle.clf_sig.specs.Signature.{Declared as Declarations, plain_signature, plain_entry}
 use Rattle.clf_sig.proofs.Names.{plain_signature-append}
 use Rattle.clf_rules.specs.Typing.{HasType}
@@ -38,7 +38,7 @@ use Rattle.celf_run.specs.declared.options.Options.{Options}
 use Rattle.clf_sig.specs.Core.{PlainCore, declares, queries, traces, equates, checks}
 use Rattle.celf_explicit.specs.Explicit.{explicit, standing}
 use Rattle.celf_run.specs.Source.{written}
-use Rattle.celf_run.specs.Allowed.{Held, holding, room, declared_name, NameBarred, is_duplicate, is_full, NamePasses, Barred, by_unknown, Passes, HasCore, is_explicit, IsExplained, in_object, Declined, by_rules, Fits, accepted, typed, PlainAllowed, barred, declined, answered, Allowed, sugar_fault, plainly, sugar_refusal}
+use Rattle.celf_run.specs.Allowed.{Held, holding, declared_name, NameBarred, is_duplicate, is_full, NamePasses, Barred, by_unknown, Passes, HasCore, is_explicit, IsExplained, in_object, Declined, by_rules, Fits, accepted, typed, PlainAllowed, barred, declined, answered, Allowed, sugar_fault, plainly, sugar_refusal}
 use Rattle.celf_run.specs.Answering.{NameVerdict, MayBeDeclared, IsWithinReach, AnswersCore, fits, explained, refused_by_rules, JudgesClosed, IsReplyToFault}
 use Rattle.celf_run.proofs.Cores.{explicit-read}
 
@@ -79,7 +79,7 @@ pub name-placed : (sig : PlainSignature) (item : DesugaredItem) (name : List ℕ
 name-placed sig item name None d e h = absurd (cc)
 name-placed sig item name (Some k) d e h = is_duplicate d (sym e)
 
-pub new-passes : (sig : PlainSignature) (item : DesugaredItem) (name : List ℕ) → declared_name item.body ≡ Some name → place_of name sig ≡ None → (length sig ≡ room → ⊥) → NamePasses sig item
+pub new-passes : (sig : PlainSignature) (item : DesugaredItem) (name : List ℕ) → declared_name item.body ≡ Some name → place_of name sig ≡ None → (length sig ≡ entry_limit → ⊥) → NamePasses sig item
 new-passes sig item name d new space why (is_duplicate {name = other} {k = k} h p) =
     let same : ◌≡◌ {A = Option (List ℕ)} (Some name) (Some other) = sym d ∙ h in
     let name_is : name ≡ other = cc in

@@ -2,7 +2,7 @@
 use Rattle.std.proofs.Common.{ℕ, ◌≡◌, true, refl, sym, ap, ◌∙◌, subst, Option, Some, None, List, [], ◌∷◌, ◌++◌, length, ◌⊎◌, inl, inr}
 use Rattle.clf_syntax.specs.Tree.{PlainObject}
 use Rattle.clf_syntax.specs.TypeTree.{PlainType}
-use Rattle.clf_sig.specs.Entry.{PlainEntry, PlainSignature, place_of}
+use Rattle.clf_sig.specs.Entry.{entry_limit, PlainEntry, PlainSignature, place_of}
 use Rattle.clf_sig.specs.Core.{PlainCore, declares, queries, traces, equates, checks}
 use Rattle.clf_rules.specs.Typing.{HasType}
 use Rattle.clf_rules.specs.Explained.{ExplainedAt}
@@ -23,7 +23,7 @@ use Rattle.celf_reading.proofs.WellFormed.{bare-type, bare-signature}
 use Rattle.celf_replies.specs.Reply.{PlainWhy, duplicate, full, unknown_name, kernel, not_yet, PlainReply, entry, checked, refused}
 use Rattle.celf_run.specs.declared.options.Options.{Options}
 use Rattle.celf_run.specs.Source.{Task, written, faulty}
-use Rattle.celf_run.specs.Allowed.{Held, holding, room, declared_name, NameBarred, is_duplicate, is_full, NamePasses, by_name, by_unknown, Passes, is_explicit, by_rules, not_explicit, not_bare, PlainAllowed, barred, declined, answered, Allowed, at_fault, sugar_fault, plainly, sugar_refusal}
+use Rattle.celf_run.specs.Allowed.{Held, holding, declared_name, NameBarred, is_duplicate, is_full, NamePasses, by_name, by_unknown, Passes, is_explicit, by_rules, not_explicit, not_bare, PlainAllowed, barred, declined, answered, Allowed, at_fault, sugar_fault, plainly, sugar_refusal}
 use Rattle.celf_run.specs.Answering.{MayBeDeclared, IsWithinReach, AnswersCore, fits, explained, refused_by_rules}
 use Rattle.celf_run.specs.Laws.{EachTaskHasReply, IsTaskOfText}
 use Rattle.celf_run.proofs.Decisions.{decide-number, decide-bare, Decided}
@@ -34,12 +34,12 @@ use Rattle.celf_run.proofs.Answering.{may-be-declared, nameless-passes, new-pass
 abbrev NameTold : PlainSignature → DesugaredItem → Type 0
 NameTold sig item = ((why : PlainWhy) × NameBarred sig item why) ⊎ NamePasses sig item
 
-room-told : (sig : PlainSignature) (item : DesugaredItem) (name : List ℕ) → declared_name item.body ≡ Some name → place_of name sig ≡ None → Decided (length sig ≡ room) → NameTold sig item
+room-told : (sig : PlainSignature) (item : DesugaredItem) (name : List ℕ) → declared_name item.body ≡ Some name → place_of name sig ≡ None → Decided (length sig ≡ entry_limit) → NameTold sig item
 room-told sig item name d new (inl l) = inl (full, is_full d new l)
 room-told sig item name d new (inr n) = inr (new-passes sig item name d new n)
 
 place-told : (sig : PlainSignature) (item : DesugaredItem) (name : List ℕ) → declared_name item.body ≡ Some name → (r : Option ℕ) → place_of name sig ≡ r → NameTold sig item
-place-told sig item name d None e = room-told sig item name d e (decide-number (length sig) room)
+place-told sig item name d None e = room-told sig item name d e (decide-number (length sig) entry_limit)
 place-told sig item name d (Some k) e = inl (duplicate name, is_duplicate d e)
 
 name-told : (sig : PlainSignature) (item : DesugaredItem) (d : Option (List ℕ)) → declared_name item.body ≡ d → NameTold sig item

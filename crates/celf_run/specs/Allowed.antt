@@ -2,7 +2,7 @@
 use Rattle.std.specs.Prelude.{ℕ, ◌≡◌, List, [], ◌∷◌, ◌++◌, length, Option, Some, None}
 use Rattle.clf_syntax.specs.Tree.{PlainObject}
 use Rattle.clf_syntax.specs.TypeTree.{PlainType}
-use Rattle.clf_sig.specs.Entry.{PlainEntry, PlainSignature, place_of}
+use Rattle.clf_sig.specs.Entry.{PlainEntry, PlainSignature, entry_limit, place_of}
 use Rattle.clf_rules.specs.Typing.{HasType}
 use Rattle.clf_rules.specs.WellFormed.{WellFormedType, MayFollow}
 use Rattle.clf_rules.specs.Refusal.{Cause}
@@ -30,10 +30,6 @@ pub record Held : Type 0 where
 abbrev pub holding : PlainSignature → Held
 holding sig = record { signature = sig }
 
--- the entries that a signature has room for
-abbrev pub room : ℕ
-room = 65535
-
 -- the name that an item declares
 abbrev pub declared_name : DesugaredBody → Option (List ℕ)
 declared_name (declare n i c) = Some n
@@ -47,7 +43,7 @@ declared_name (check o t) = None
 -- The declared name is there already, or there is no room for its entry.
 pub data NameBarred (sig : PlainSignature) (item : DesugaredItem) : PlainWhy → Type 0 where
   is_duplicate : {name : List ℕ} {k : ℕ} → declared_name item.body ≡ Some name → place_of name sig ≡ Some k → NameBarred sig item (duplicate name)
-  is_full : {name : List ℕ} → declared_name item.body ≡ Some name → place_of name sig ≡ None → length sig ≡ room → NameBarred sig item full
+  is_full : {name : List ℕ} → declared_name item.body ≡ Some name → place_of name sig ≡ None → length sig ≡ entry_limit → NameBarred sig item full
 
 -- Nothing stands against the name.
 abbrev pub NamePasses : PlainSignature → DesugaredItem → Type 0

@@ -1,7 +1,7 @@
 -- Inner: what the functions below `answer_item` come to.
 use Rattle.std.specs.Prelude.{ℕ, ◌≡◌, ◌≢◌, true, List, [], ◌∷◌, length, Option, Some, None, Result, Ok, Err}
 use Rattle.clf_syntax.specs.Word.{is_declarable}
-use Rattle.clf_sig.specs.Entry.{PlainSignature, place_of}
+use Rattle.clf_sig.specs.Entry.{PlainSignature, entry_limit, place_of}
 use Rattle.clf_syntax.specs.Tree.{PlainObject}
 use Rattle.clf_syntax.specs.TypeTree.{PlainType}
 use Rattle.clf_syntax.specs.declared.fault.OrWide.{OrWide}
@@ -21,7 +21,7 @@ use Rattle.celf_replies.specs.Reply.{PlainWhy, kernel, unknown_name, PlainRefusa
 use Rattle.celf_run.specs.declared.options.Options.{Options}
 use Rattle.clf_sig.specs.Core.{PlainCore, declares, queries, traces, equates, checks}
 use Rattle.clf_syntax.specs.Wide.{IsWant}
-use Rattle.celf_run.specs.Allowed.{Held, room, declared_name, NameBarred, NamePasses, IsExplained, Fits}
+use Rattle.celf_run.specs.Allowed.{Held, declared_name, NameBarred, NamePasses, IsExplained, Fits}
 
 -- What stands against a name, or that nothing does.
 abbrev pub NameVerdict : PlainSignature → DesugaredItem → Option PlainWhy → Type 0
@@ -34,7 +34,7 @@ MayBeDeclared item = (name : List ℕ) → declared_name item.body ≡ Some name
 
 -- A core of the kinds that are answered, with its type or kind within reach; a declared name is new, and there is room for it.
 abbrev pub IsWithinReach : PlainSignature → PlainCore → Type 0
-IsWithinReach sig (declares n e) = (place_of n sig ≡ None) × (length sig ≢ room) × (is_declarable n ≡ true) × IsBareEntry sig e
+IsWithinReach sig (declares n e) = (place_of n sig ≡ None) × (length sig ≢ entry_limit) × (is_declarable n ≡ true) × IsBareEntry sig e
 IsWithinReach sig (queries a) = ⊥
 IsWithinReach sig (traces t) = ⊥
 IsWithinReach sig (equates n o a) = ⊥

@@ -1,6 +1,7 @@
 -- A whole run, by how it ends and by what the shelf tells of its files.
 use Rattle.std.specs.Prelude.{ℕ, ◌≡◌, ◌<◌, ◌⊎◌, List, [], length, Option, Some, None}
 use Rattle.clf_rules.specs.WellFormed.{WellFormedSignature}
+use Rattle.celf_lexer.specs.Tokens.{size_limit}
 use Rattle.celf_source.specs.Shelf.{Told, untold, lacking, holding}
 use Rattle.celf_source.specs.Sink.{Appends}
 use Rattle.celf_run.specs.declared.options.Options.{Options}
@@ -41,10 +42,6 @@ start text = record { text = text; at = 0 }
 
 abbrev pub nothing_held : Held
 nothing_held = holds []
-
--- the greatest size of a file, in bytes
-abbrev pub size_limit : ℕ
-size_limit = 16777216
 
 -- want of memory or of numbers, to which every exact end yields
 abbrev pub IsWant : Status → Type 0

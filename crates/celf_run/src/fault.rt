@@ -6,7 +6,7 @@ ghost use Rattle.celf_run.specs.Allowed.{sugar_refusal as sugar_refusal_of};
 ghost use Rattle.clf_syntax.specs.Wide.{IsWant};
 
 use celf_lexer::LexFault;
-use celf_parser::{MAX_BYTES, SyntaxFault};
+use celf_parser::SyntaxFault;
 use celf_replies::{Reply, Why};
 use celf_sugar::SugarFault;
 use clf_syntax::Want;

@@ -1,5 +1,6 @@
 //! A whole run.
 ghost use Rattle.std.specs.Prelude.{ℕ, List, ◌≡◌, ◌≤◌, ◌↔◌, length, Some, IsNone};
+ghost use Rattle.celf_lexer.specs.Tokens.{size_limit};
 ghost use Rattle.celf_source.specs.Count.{Rose};
 ghost use Rattle.celf_source.specs.Shelf.{CountsLack};
 ghost use Rattle.celf_run.specs.Options.{default_options};
@@ -11,11 +12,13 @@ use crate::options::Options;
 use crate::status::Status;
 use crate::turn::{Turn, next_turn};
 use crate::words::file_word;
-use celf_parser::MAX_BYTES;
 use celf_source::{ReadAllFault, Shelf, Sink, read_all};
 use clf_sig::Signature;
 use clf_syntax::Name;
 use std::alloc::Global;
+
+/// The greatest size of a file, in bytes.
+const MAX_BYTES: u32 = 16_777_216;
 
 /// Reads the file that the words name and answers its items in order, each by the lines of its reply.
 ///
@@ -51,7 +54,7 @@ pub fn run<F: Shelf, W: Sink>(alloc: Global, words: &[Name], shelf: &mut F, out:
 
 /// Answers the items of a text, one after the other.
 fn answer_all<W: Sink>(alloc: Global, options: &Options, bytes: &[u8], out: &mut W) -> Status
-    requires { length bytes.now ≤ MAX_BYTES }
+    requires { length bytes.now ≤ size_limit }
     ensures ended { Finishes options.now (start bytes.now) nothing_held (W.written out.old) (W.written out.new) result }
     ensures write_fault { result ≡ Status.WriteFault → Rose (W.faults out.old) (W.faults out.new) }
     ensures too_far { KeepsWide result }

@@ -1,6 +1,7 @@
 //! One turn of a run: what comes next in a text is answered, and the reply is written.
 ghost use Rattle.std.specs.Prelude.{ℕ, ◌≡◌, ◌<◌, ◌≤◌, false, length, IfOk, IfErr, IfSome, IfNone, OnErr};
 ghost use Rattle.clf_sig.specs.Signature.{plain_signature};
+ghost use Rattle.celf_lexer.specs.Tokens.{size_limit};
 ghost use Rattle.celf_source.specs.Count.{Rose};
 ghost use Rattle.celf_reading.specs.Bare.{IsBareSignature};
 ghost use Rattle.celf_replies.specs.Reply.{plain_reply, is_refusal};
@@ -13,7 +14,7 @@ use crate::answer::answer_item;
 use crate::fault::syntax_refusal;
 use crate::options::Options;
 use crate::status::Status;
-use celf_parser::{MAX_BYTES, next_item};
+use celf_parser::next_item;
 use celf_replies::{Reply, reply_text};
 use celf_source::{Sink, WriteAllFault, write_all};
 use clf_sig::Signature;
@@ -46,7 +47,7 @@ pub fn next_turn<W: Sink>(
     out: &mut W,
 ) -> Turn
     requires place { at ≤ length bytes.now }
-    requires size { length bytes.now ≤ MAX_BYTES }
+    requires size { length bytes.now ≤ size_limit }
     requires bare { IsBareSignature (plain_signature sig.old) }
     ensures turned { Turns options.now bytes.now at (holding (plain_signature sig.old)) (holding (plain_signature sig.new)) (W.written out.old) (W.written out.new) result }
     ensures onward { (end : ℕ) → result ≡ Turn.Next end → (at < end) × (end ≤ length bytes.now) }
@@ -76,7 +77,7 @@ fn next_answer(
     sig: &mut Signature,
 ) -> Result<Option<Answer>, Want>
     requires place { at ≤ length bytes.now }
-    requires size { length bytes.now ≤ MAX_BYTES }
+    requires size { length bytes.now ≤ size_limit }
     requires bare { IsBareSignature (plain_signature sig.old) }
     ensures over { IfOk result (λ found. IfNone found (IsOver (place_in bytes.now at) × (sig.new ≡ sig.old))) }
     ensures answered { IfOk result (λ found. IfSome found (λ answer.

@@ -1,7 +1,7 @@
 //! The signature.
 ghost use Rattle.std.specs.Prelude.{◌≡◌, ◌≤◌, ◌<◌, [], is_some, false, ◌∷◌, ◌++◌, map, length, slice_get, option_copied, option_map, string_bytes, IfOk, OnOk, OnErr, IfSome, IsSome, IsTrue, ◌↔◌};
 ghost use Rattle.clf_syntax.specs.PlainSimple.{plain_simple};
-ghost use Rattle.clf_sig.specs.Entry.{names, IsNamed, HasDistinctNames, place_of, entry_at, class_at, simple_class, simple_types};
+ghost use Rattle.clf_sig.specs.Entry.{entry_limit, names, IsNamed, HasDistinctNames, place_of, entry_at, class_at, simple_class, simple_types};
 ghost use Rattle.clf_sig.specs.Signature.{entries, plain_class, plain_entry, plain_signature};
 
 use crate::entry::{Class, Entry};
@@ -34,7 +34,7 @@ impl Model for Signature {
     ghost use Rattle.std.specs.Coded.{coded_list, coded×, coded_ℕ};
     ghost use Rattle.clf_syntax.specs.PlainSimple.{plain_simple};
     ghost use Rattle.clf_sig.specs.contracts.entry.Entry as entry;
-    ghost use Rattle.clf_sig.specs.Entry.{simple_types};
+    ghost use Rattle.clf_sig.specs.Entry.{entry_limit, simple_types};
     ghost use Rattle.clf_sig.specs.Signature.{Declared, plain_signature};
     ghost use Rattle.clf_sig.specs.Keys.{named};
 
@@ -44,7 +44,7 @@ impl Model for Signature {
 
     ghost view = { λ s. named s.declared.entries };
 
-    ghost invariant = { λ s. (length s.declared.entries ≤ 65535) × (map plain_simple s.simples.items ≡ simple_types (plain_signature (named s.declared.entries))) };
+    ghost invariant = { λ s. (length s.declared.entries ≤ entry_limit) × (map plain_simple s.simples.items ≡ simple_types (plain_signature (named s.declared.entries))) };
 }
 
 impl Signature {
@@ -62,7 +62,7 @@ impl Signature {
     /// How many entries there are. No two have the same name.
     pub fn len(&self) -> usize
         ensures len { result ≡ length self.now }
-        ensures bounded { length self.now ≤ MAX_ENTRIES }
+        ensures bounded { length self.now ≤ entry_limit }
         ensures distinct { HasDistinctNames (plain_signature self.now) }
     {
         self.declared.len()
@@ -118,7 +118,7 @@ impl Signature {
 
         // A name that is there already is reported as such, even where the signature is full.
         ensures duplicate { (result ≡ Err AddFault.Duplicate) ↔ IsNamed name.now (plain_signature self.old) }
-        ensures full { (result ≡ Err AddFault.Full) ↔ ((¬ IsNamed name.now (plain_signature self.old)) × (length self.old ≡ MAX_ENTRIES)) }
+        ensures full { (result ≡ Err AddFault.Full) ↔ ((¬ IsNamed name.now (plain_signature self.old)) × (length self.old ≡ entry_limit)) }
         ensures unchanged { OnErr result (self.new ≡ self.old) }
     {
         if self.find(name).is_some() {
@@ -139,7 +139,7 @@ impl Signature {
     /// Puts an entry of a new name behind all others.
     fn put(&mut self, name: &str, entry: Entry) -> Result<(), AllocError>
         requires absent { is_some (place_of name.now (plain_signature self.old)) ≡ false }
-        requires room { length self.old < MAX_ENTRIES }
+        requires room { length self.old < entry_limit }
         ensures added { OnOk result (self.new ≡ self.old ++ (name.now, entry) ∷ []) }
         ensures unchanged { OnErr result (self.new ≡ self.old) }
     {

@@ -32,7 +32,7 @@ same_number i v e = grind arith
 pub own_number : (i : ℕ) → nat_eq i i ≡ true
 own_number i = grind arith
 
-lift_agrees : (n : ℕ) (r s : Renumbering) (P : ℕ → Type 0) → ((i : ℕ) → P (i + n) → r i ≡ s i) → (i : ℕ) → P i → lifted n r i ≡ lifted n s i
+pub lift_agrees : (n : ℕ) (r s : Renumbering) (P : ℕ → Type 0) → ((i : ℕ) → P (i + n) → r i ≡ s i) → (i : ℕ) → P i → lifted n r i ≡ lifted n s i
 lift_agrees n r s P h i p = ⊎_elim
     (λ k. lift_in n r i k ∙ sym (lift_in n s i k))
     (λ k. lift_out n r i k ∙ ap (λ j. j + n) (h (i - n) (subst P (back k) p)) ∙ sym (lift_out n s i k))
@@ -78,16 +78,16 @@ unlift n r i j e = ⊎_elim (λ k. absurd (low k)) (λ k. (k, high k)) (cut j n)
     high k = let f : r (j - n) + n ≡ i + n = sym (lift_out n r j k) ∙ e in omega arith
 
 -- what occurs after a renaming comes from what occurred before
-abbrev Source : Renumbering → ℕ → (ℕ → Bool) → Type 0
+abbrev pub Source : Renumbering → ℕ → (ℕ → Bool) → Type 0
 Source r i f = (j : ℕ) × (r j ≡ i) × (f j ≡ true)
 
-from_first : (r : Renumbering) (i : ℕ) (f g : ℕ → Bool) → Source r i f → Source r i (λ j. f j || g j)
+pub from_first : (r : Renumbering) (i : ℕ) (f g : ℕ → Bool) → Source r i f → Source r i (λ j. f j || g j)
 from_first r i f g s = (s.0, s.1, or_first (f s.0) (g s.0) s.2)
 
-from_second : (r : Renumbering) (i : ℕ) (f g : ℕ → Bool) → Source r i g → Source r i (λ j. f j || g j)
+pub from_second : (r : Renumbering) (i : ℕ) (f g : ℕ → Bool) → Source r i g → Source r i (λ j. f j || g j)
 from_second r i f g s = (s.0, s.1, or_second (f s.0) (g s.0) s.2)
 
-from_under : (n : ℕ) (r : Renumbering) (i : ℕ) (f : ℕ → Bool) → Source (lifted n r) (i + n) f → Source r i (λ j. f (j + n))
+pub from_under : (n : ℕ) (r : Renumbering) (i : ℕ) (f : ℕ → Bool) → Source (lifted n r) (i + n) f → Source r i (λ j. f (j + n))
 from_under n r i f s = let u = unlift n r i s.0 s.1 in (s.0 - n, u.1, subst (λ j. f j ≡ true) (back s.0 u.0) s.2)
   where
     back : (j : ℕ) → n ≤ j → j ≡ j - n + n

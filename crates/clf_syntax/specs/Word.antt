@@ -56,9 +56,13 @@ is_hole_word w = same_bytes w (codes "_")
 abbrev pub is_name : List ℕ → Bool
 is_name w = is_word w && not (is_keyword w) && not (is_hole_word w) && not (all_digits w)
 
--- A name that the language can declare: a name of at most 255 bytes.
+-- the most bytes that a word may have
+abbrev pub word_limit : ℕ
+word_limit = 255
+
+-- A name that the language can declare: a name that is no longer than a word may be.
 abbrev pub is_declarable : List ℕ → Bool
-is_declarable w = is_name w && nat_le (length w) 255
+is_declarable w = is_name w && nat_le (length w) word_limit
 
 -- x and then at least one digit and nothing else: so variables are printed
 abbrev pub is_variable_word : List ℕ → Bool

@@ -1,9 +1,9 @@
 use Rattle.std.proofs.Common.{◌≡◌, ◌∙◌, sym, ap, subst, length, option_copied, List, ℕ, Some, Option}
-use Rattle.clf_sig.specs.Entry.{place_of}
+use Rattle.clf_sig.specs.Entry.{entry_limit, place_of}
 use Rattle.clf_sig.specs.Signature.{plain_signature}
 use Rattle.celf_sugar.specs.Plain.{desugared_item}
 use Rattle.celf_replies.specs.Reply.{duplicate}
-use Rattle.celf_run.specs.Allowed.{room, declared_name, NameBarred, is_full}
+use Rattle.celf_run.specs.Allowed.{declared_name, NameBarred, is_full}
 use Rattle.celf_run.proofs.Answering.{not-placed, plain-length, nameless-passes, name-placed, new-passes}
 use Rattle.celf_run.proofs.name.barred_name.Goals as goal
 
@@ -29,5 +29,5 @@ returns-then-len-eq-MAX_ENTRIES c =
     let name = c.in-Some.name.now in
     let declared : declared_name item.body ≡ Some name = sym c.declared_name.ensures ∙ ap option_copied c.in-Some.is in
     let new = not-placed sig name c.find.result (c.find.ensures.place ∙ ap (λ (n : List ℕ). place_of n sig) c.as_str.ensures) (sym c.is_some.ensures ∙ c.if-is_some.false) in
-    let whole : length sig ≡ room = plain-length c.args.sig.now ∙ sym c.len.ensures.len ∙ c.if-len-eq-MAX_ENTRIES.true in
+    let whole : length sig ≡ entry_limit = plain-length c.args.sig.now ∙ sym c.len.ensures.len ∙ c.if-len-eq-MAX_ENTRIES.true in
     is_full declared new whole

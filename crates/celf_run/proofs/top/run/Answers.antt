@@ -1,8 +1,9 @@
 use Rattle.std.proofs.Common.{◌≡◌, ◌∙◌, sym, subst, List, ℕ, Option, Some}
+use Rattle.celf_lexer.specs.Tokens.{size_limit}
 use Rattle.celf_source.specs.Shelf.{IsWhole, IsLonger, StandsBehind}
 use Rattle.celf_run.specs.declared.options.Options.{Options}
 use Rattle.celf_run.specs.Options.{default_options}
-use Rattle.celf_run.specs.Run.{start, nothing_held, size_limit}
+use Rattle.celf_run.specs.Run.{start, nothing_held}
 use Rattle.celf_run.specs.Turning.{Finishes}
 use Rattle.celf_run.proofs.Runs.{run-whole, run-read_fault, run-too_large, run-no_memory}
 use Rattle.celf_run.proofs.top.run.Goals as goal
