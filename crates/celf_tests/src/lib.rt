@@ -14,4 +14,6 @@ mod signature;
 #[cfg(test)]
 mod source;
 #[cfg(test)]
+mod traces;
+#[cfg(test)]
 mod trees;

@@ -1,5 +1,5 @@
 //! Whether a free variable occurs.
-ghost use Rattle.std.specs.Prelude.{◌≡◌, ◌≤◌, ℕ, ◌+◌, min, ◌||◌, map};
+ghost use Rattle.std.specs.Prelude.{◌≡◌, ◌<◌, ◌≤◌, ◌↔◌, ℕ, ◌+◌, min, ◌||◌, IsTrue, false, map};
 ghost use Rattle.std.specs.List.{list_any};
 ghost use Rattle.clf_syntax.specs.Plain.{plain_obj, plain_neutral, plain_elim, plain_expr, plain_entry};
 ghost use Rattle.clf_syntax.specs.PlainTypes.{plain_ty, plain_tele, plain_tele_entry, plain_kind};
@@ -189,6 +189,18 @@ impl Neutral {
         ensures { result ≡ spec.occurs_neutral var (plain_neutral self.now) }
     {
         occurs_neutral(self, u64::from(var))
+    }
+
+    /// Whether none of the newest variables occurs, of so many.
+    pub fn lacks_newest(&self, count: usize) -> bool
+        ensures { IsTrue result ↔ ((v : ℕ) → v < count → spec.occurs_neutral v (plain_neutral self.now) ≡ false) }
+    {
+        for var in 0..count {
+            if occurs_neutral(self, under(0, var)) {
+                return false;
+            }
+        }
+        true
     }
 }
 

@@ -1,6 +1,7 @@
 pub mod Moves
 pub mod Closed
 pub mod Joined
+pub mod Outside
 pub mod WideSteps
 pub mod Bijections
 pub mod Fronts

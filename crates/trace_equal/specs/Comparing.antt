@@ -37,6 +37,7 @@ compared_head s (Meta c) (Meta d) = nat_eq c d
 compared_head s _ _ = false
 
 -- ---- what is entered
+-- Tables and runs under other names, by which the contracts of `Tables` itself can speak of them.
 abbrev pub Scopes : Type 0
 Scopes = Tables
 

@@ -38,6 +38,10 @@ mutual
     in_entry : {m : Mode} {o u : PlainObject} {t : PlainTuple} → Exchanged o u → ExchangedTuple (entry m o t) (entry m u t)
     in_later_entry : {m : Mode} {o : PlainObject} {t u : PlainTuple} → ExchangedTuple t u → ExchangedTuple (entry m o t) (entry m o u)
 
+-- The right side of the second of two neighbouring steps mentions no variable of the first: it is some neutral, renumbered past them.
+abbrev pub IsIndependent : List Mode × PlainNeutral → List Mode × PlainNeutral → Type 0
+IsIndependent first second = (v : PlainNeutral) × (second.1 ≡ ren_neutral (up (length first.0)) v)
+
 -- A list of trees from the first to the second in which each is the one before after one step of X; the list may have one tree.
 pub data Chain (A : Type 0) (X : A → A → Type 0) : A → A → Type 0 where
   stop : {a : A} → Chain A X a a

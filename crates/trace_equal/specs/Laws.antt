@@ -8,6 +8,7 @@ use Rattle.trace_equal.specs.Exchange.{Joined, JoinedNeutral, JoinedExpression, 
 use Rattle.trace_equal.specs.Matching.{Matches, MatchesNeutral, MatchesExpression, MatchesTuple}
 use Rattle.trace_equal.specs.Bijection.{IsMatching, IsFirstMatching}
 use Rattle.trace_equal.specs.Ids.{EachUnder, by, rights_by, table_after, total}
+use Rattle.trace_equal.specs.Outside.{SameOutside, SameOutsideNeutral}
 use Rattle.trace_equal.specs.Places.{Covers, all_places, search}
 use Rattle.trace_equal.specs.Steps.{wide_steps}
 use Rattle.trace_equal.specs.Search.{first, is_joined}
@@ -79,3 +80,7 @@ FirstIsFoundUnderTables = (d : ℕ) (t u : List ℕ) (l : PlainExpression) (ss :
 -- All places in order are such candidates.
 abbrev pub AllPlacesCover : Type 0
 AllPlacesCover = (p : Renumbering) (e f : PlainExpression) → Covers (all_places (length (wide_steps f)) e) (ren_expression p e) f
+
+-- Trees are joined exactly where they are the same outside of monadic objects, and monadic objects at the same place are joined.
+abbrev pub JoinedIsSameOutside : Type 0
+JoinedIsSameOutside = ((o u : PlainObject) → Joined o u ↔ SameOutside o u) × ((n r : PlainNeutral) → JoinedNeutral n r ↔ SameOutsideNeutral n r)

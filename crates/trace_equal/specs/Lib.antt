@@ -3,6 +3,7 @@ pub use Rattle.clf_syntax.specs.Plain
 pub use Rattle.clf_syntax.specs.Renaming
 pub use Rattle.clf_syntax.specs.Occurs
 pub mod Exchange
+pub mod Outside
 pub mod Difference
 pub mod Matching
 pub mod Steps

@@ -1,13 +1,13 @@
 //! Equality up to exchange of independent steps, and the first matching of two expressions.
 ghost use Rattle.std.specs.Prelude.{◌↔◌, IfOk, IsTrue, map};
-ghost use Rattle.clf_syntax.specs.Plain.{plain_expr, plain_obj};
+ghost use Rattle.clf_syntax.specs.Plain.{plain_expr, plain_obj, plain_step};
 ghost use Rattle.trace_equal.specs.Bijection.{IsFirstMatching};
 ghost use Rattle.trace_equal.specs.Difference.{IsFirstDifference};
-ghost use Rattle.trace_equal.specs.Exchange.{Joined};
+ghost use Rattle.trace_equal.specs.Exchange.{IsIndependent, Joined};
 
 use crate::compare::{first_matching, joined_object};
 use crate::tables::Tables;
-use clf_syntax::{Expr, Obj};
+use clf_syntax::{Expr, Obj, Step};
 use sqlite_items::Items;
 use std::alloc::{AllocError, Global};
 
@@ -52,4 +52,11 @@ pub fn first_difference(
         return Ok(None);
     }
     Ok(Some(shorter))
+}
+
+/// Whether the right side of the second step mentions no variable of the first one, so that the two may change places.
+pub fn independent(first: &Step, second: &Step) -> bool
+    ensures { IsTrue result ↔ IsIndependent (plain_step first.now) (plain_step second.now) }
+{
+    second.rhs.lacks_newest(first.modes.len())
 }

@@ -1,5 +1,5 @@
 //! Laws of exchange, stated by functions that do nothing.
-ghost use Rattle.trace_equal.specs.Laws.{AllPlacesCover, FirstIsFound, FirstIsFoundUnderTables, IndependenceInWords, JoinedHasMatching, JoinedIsEquivalence, JoinedMatches, JoinedWithoutSteps, IsJoinedDecides};
+ghost use Rattle.trace_equal.specs.Laws.{AllPlacesCover, FirstIsFound, FirstIsFoundUnderTables, IndependenceInWords, JoinedHasMatching, JoinedIsEquivalence, JoinedIsSameOutside, JoinedMatches, JoinedWithoutSteps, IsJoinedDecides};
 
 /// Trees are joined exactly where they match, and without steps exactly where they are identical.
 #[tactic(auto, using(crate::proofs::Joined::exchange_laws))]
@@ -8,6 +8,12 @@ pub fn exchange()
     ensures independence { IndependenceInWords }
     ensures equivalence { JoinedIsEquivalence }
     ensures stepless { JoinedWithoutSteps }
+{}
+
+/// Joined trees are the same outside of their monadic objects, which are joined.
+#[tactic(auto, using(crate::proofs::Outside::outside_laws))]
+pub fn outside_monads()
+    ensures { JoinedIsSameOutside }
 {}
 
 /// Expressions are joined exactly where they have a matching, and the search finds the first one.

@@ -9,5 +9,5 @@ mod modes;
 mod rights;
 mod tables;
 
-pub use equality::{equal, first_difference, matching};
-pub use laws::{exchange, matchings, matchings_by_places};
+pub use equality::{equal, first_difference, independent, matching};
+pub use laws::{exchange, matchings, matchings_by_places, outside_monads};

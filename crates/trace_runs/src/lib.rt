@@ -1,0 +1,6 @@
+//! Runs: states, and steps that lead from one to the next.
+#![tactic(auto)]
+
+mod laws;
+
+pub use laws::runs;
