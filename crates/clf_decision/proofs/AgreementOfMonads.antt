@@ -13,7 +13,7 @@ use Rattle.use_contexts.proofs.UseLaws.{IsSubholding-self, idle-agrees, scopes-a
 use Rattle.use_contexts.proofs.ArgumentLaws.{entry-refused, entry-agrees}
 use Rattle.hered_subst.specs.Substitution.{single, SubstitutedTelescope}
 use Rattle.hered_subst.proofs.Types.{is_determined}
-use Rattle.trace_equal.specs.Search.{same_mode}
+use Rattle.clf_syntax.specs.Modes.{same_mode}
 use Rattle.clf_rules.specs.Explained.{telescope_width}
 use Rattle.clf_rules.specs.Typing.{StepRule, TupleEntryRule}
 use Rattle.clf_rules.specs.Refusal.{mode_differs, width}

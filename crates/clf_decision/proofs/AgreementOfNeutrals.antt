@@ -15,7 +15,7 @@ use Rattle.use_contexts.proofs.UseLaws.{IsSubholding-self, WellMarked-part, idle
 use Rattle.use_contexts.proofs.ArgumentLaws.{argument-agrees}
 use Rattle.hered_subst.specs.Substitution.{single, SubstitutedType}
 use Rattle.hered_subst.proofs.Types.{is_determined}
-use Rattle.trace_equal.specs.Search.{same_mode}
+use Rattle.clf_syntax.specs.Modes.{same_mode}
 use Rattle.clf_sig.specs.Entry.{PlainSignature, constant_type}
 use Rattle.clf_rules.specs.Typing.{HeadHasType, ApplicationRule}
 use Rattle.clf_rules.specs.Refusal.{mode_differs}

@@ -8,7 +8,7 @@ use Rattle.use_contexts.specs.Rows.{Answer, Agrees, Leftover, left_in_both, newe
 use Rattle.use_contexts.proofs.RowAnswers.{paired, paired_unless, closed}
 use Rattle.use_contexts.proofs.RowLaws.{agrees-same, pair-agrees}
 use Rattle.use_contexts.proofs.UseLaws.{IsSubholding-self, unit-agrees, scope-agrees}
-use Rattle.trace_equal.specs.Search.{same_mode}
+use Rattle.clf_syntax.specs.Modes.{same_mode}
 use Rattle.clf_rules.specs.Typing.{LambdaRule, PairRule}
 use Rattle.clf_rules.specs.Refusal.{unused, mode_differs}
 use Rattle.clf_decision.specs.Outcome.{Outcome, passed, refused, at_part, and_then, answer_of}

@@ -15,7 +15,7 @@ use Rattle.clf_rules.specs.Refusal.{mode_differs, eliminations}
 use Rattle.clf_rules.specs.Explained.{neutral_with, at_head, at_argument, at_first, at_second, before_argument, before_first, before_second, in_argument_part, argument_to_none, first_of_none, second_of_none, metavariable_stands, argument_differs, variable_not_held, no_variable, no_constant}
 use Rattle.clf_rules.proofs.UsedParts.{some-part}
 use Rattle.clf_rules.proofs.Leavings.{row-leaves}
-use Rattle.trace_equal.specs.Search.{same_mode}
+use Rattle.clf_syntax.specs.Modes.{same_mode}
 use Rattle.typing_laws.specs.SimpleTyping.{simple_of, families_of}
 use Rattle.clf_decision.specs.Outcome.{Outcome, passed, refused, at_part, and_then}
 use Rattle.clf_decision.specs.Checking.{Puts, constant_left, held_left, variable_left, head_left, argument_left, first_left, second_left}

@@ -16,7 +16,7 @@ use Rattle.clf_rules.specs.Explained.{MaySynthesize, object_at, whole, in_body, 
 use Rattle.clf_rules.proofs.Held.{same_number}
 use Rattle.typing_laws.specs.SimpleTyping.{simple_of, families_of}
 use Rattle.clf_rules.proofs.UsedParts.{some-part}
-use Rattle.trace_equal.specs.Search.{same_mode}
+use Rattle.clf_syntax.specs.Modes.{same_mode}
 use Rattle.clf_decision.specs.Outcome.{Outcome, passed, refused, at_part, and_then, answer_of}
 use Rattle.clf_decision.specs.Checking.{closed_scope, lambda_left, joined_left, pair_left, unit_left, first_unjoined, indices_left, found_left, atomic_left, monadic_left}
 use Rattle.clf_decision.proofs.AgreesWith.{AgreesWithType}

@@ -5,7 +5,8 @@ use Rattle.std.proofs.lemmas.Bool.{cond-true, cond-false}
 use Rattle.clf_syntax.specs.declared.tree.Mode.{Mode}
 use Rattle.clf_syntax.specs.Tree.{PlainObject}
 use Rattle.trace_equal.specs.Exchange.{Joined}
-use Rattle.trace_equal.specs.Search.{same_mode, is_joined}
+use Rattle.clf_syntax.specs.Modes.{same_mode}
+use Rattle.trace_equal.specs.Search.{is_joined}
 use Rattle.trace_equal.proofs.FirstMatching.{same_is_joined, mode_sound, mode_complete}
 use Rattle.clf_rules.specs.Explained.{FirstModes, FirstIndices}
 use Rattle.clf_decision.specs.Checking.{first_other_mode, first_unjoined}

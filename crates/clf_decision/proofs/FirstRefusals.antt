@@ -11,7 +11,7 @@ use Rattle.use_contexts.specs.Rows.{newest_difference}
 use Rattle.clf_sig.specs.Entry.{PlainSignature}
 use Rattle.clf_rules.specs.Refusal.{Cause, mode_differs, eliminations}
 use Rattle.clf_rules.specs.Explained.{CheckedPart, Reaches, ReachesInNeutral, ReachesInExpression, ReachesInTuple, whole, in_body, in_left_part, in_right_part, in_expression, in_neutral, at_head, at_argument, at_first, at_second, before_argument, before_first, before_second, in_argument_part, at_step, in_right_side, in_later_steps, in_tuple, at_rest, at_entry, in_entry, in_later_entries, Refuses, ExplainedAt, ExplainedInNeutral}
-use Rattle.trace_equal.specs.Search.{same_mode}
+use Rattle.clf_syntax.specs.Modes.{same_mode}
 use Rattle.typing_laws.specs.SimpleTyping.{simple_of, families_of}
 use Rattle.clf_decision.specs.Outcome.{refused, at_part, and_then}
 use Rattle.clf_decision.specs.Checking.{Puts, closed_scope, joined_left, atomic_left, argument_left, first_left, second_left, step_left, checked, inferred, checked_expression, checked_tuple}

@@ -17,7 +17,7 @@ use Rattle.clf_rules.specs.Refusal.{Cause, unused, mode_differs, family_differs,
 use Rattle.clf_rules.specs.Explained.{MayHaveType, MaySynthesize, object_at, neutral_with, Leaves, DiffersAt, Refuses, lambda_at_none, argument_to_none, pair_at_none, first_of_none, second_of_none, unit_at_none, monadic_at_none, neutral_at_none, neutral_of_none, hole_stands, metavariable_stands, lambda_differs, argument_differs, variable_not_held, variable_unused, parts_differ, other_family, other_index, no_variable, no_constant}
 use Rattle.clf_rules.proofs.UsedParts.{some-part}
 use Rattle.clf_rules.proofs.Leavings.{row-leaves, leaves-one}
-use Rattle.trace_equal.specs.Search.{same_mode}
+use Rattle.clf_syntax.specs.Modes.{same_mode}
 use Rattle.typing_laws.specs.SimpleTyping.{simple_of, families_of}
 use Rattle.clf_decision.specs.Outcome.{Outcome, passed, refused, at_part, and_then, answer_of}
 use Rattle.clf_decision.specs.Checking.{Puts, constant_left, held_left, variable_left, head_left, closed_scope, joined_left, first_unjoined, indices_left, atomic_left, argument_left, first_left, second_left, checked, inferred, checked_expression}

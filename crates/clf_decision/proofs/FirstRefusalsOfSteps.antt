@@ -17,7 +17,7 @@ use Rattle.clf_rules.specs.Typing.{HasType, Synthesizes, ExpressionHasType}
 use Rattle.clf_rules.specs.Refusal.{Cause, mode_differs, width, unused, level}
 use Rattle.clf_rules.specs.Explained.{MayHaveType, MaySynthesize, Leaves, step_at, entry_at, rest_at, telescope_width, IsIdle, Refuses, step_of_none, pattern_differs, pattern_width, entry_differs, tuple_too_short, tuple_too_long, step_unused}
 use Rattle.clf_rules.proofs.Leavings.{row-leaves, leaves-one}
-use Rattle.trace_equal.specs.Search.{same_mode}
+use Rattle.clf_syntax.specs.Modes.{same_mode}
 use Rattle.typing_laws.specs.SimpleTyping.{simple_of, families_of}
 use Rattle.clf_decision.specs.Outcome.{Outcome, passed, refused, at_part, and_then, answer_of}
 use Rattle.clf_decision.specs.Checking.{Puts, with_slack, first_other_mode, same_modes_left, pattern_left, closed_scopes, rest_left, step_left, checked, inferred, checked_expression, checked_tuple}

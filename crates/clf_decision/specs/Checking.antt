@@ -13,7 +13,8 @@ use Rattle.clf_syntax.specs.Renaming.{ren_type, ren_telescope, up}
 use Rattle.use_contexts.specs.Context.{Context, modes, telescope_modes, with_entries}
 use Rattle.use_contexts.specs.Holding.{Holding, allowed, all_held}
 use Rattle.use_contexts.specs.Rows.{taken, left_in_both, newest_difference, newest, older, is_unused, outside, slack_outside, Leftover}
-use Rattle.trace_equal.specs.Search.{same_mode, is_joined}
+use Rattle.clf_syntax.specs.Modes.{same_mode}
+use Rattle.trace_equal.specs.Search.{is_joined}
 use Rattle.clf_sig.specs.Entry.{PlainSignature, constant_type}
 use Rattle.clf_rules.specs.Refusal.{not_function, not_pair, not_top, not_monad, not_atomic, not_closed, mode_differs, width, not_held, unused, pairs_differ, family_differs, index_differs, unknown_head, level, eliminations}
 use Rattle.clf_rules.specs.Explained.{tuple_width, telescope_width}

@@ -20,7 +20,7 @@ use Rattle.use_contexts.specs.Holding.{Holding, all_held}
 use Rattle.use_contexts.specs.Marks.{marks}
 use Rattle.use_contexts.specs.Rows.{Leftover}
 use Rattle.clf_sig.specs.Entry.{PlainSignature}
-use Rattle.trace_equal.specs.Search.{same_mode}
+use Rattle.clf_syntax.specs.Modes.{same_mode}
 use Rattle.typing_laws.proofs.Carried.{square_telescope}
 use Rattle.clf_rules.specs.Refusal.{mode_differs, width}
 use Rattle.clf_decision.specs.Outcome.{Outcome, passed, refused, at_part, and_then}

@@ -9,7 +9,7 @@ use Rattle.clf_syntax.specs.declared.tree.TeleEntry.{TeleEntry, out-TeleEntry}
 use Rattle.clf_syntax.specs.TypeTree.{PlainType, telescope_of}
 use Rattle.clf_syntax.specs.PlainTypes.{plain_tele, plain_tele_entry, plain-tele, plain-tele-entry}
 use Rattle.use_contexts.specs.Context.{telescope_modes}
-use Rattle.trace_equal.specs.Search.{same_mode}
+use Rattle.clf_syntax.specs.Modes.{same_mode}
 use Rattle.clf_rules.specs.Refusal.{width, mode_differs}
 use Rattle.clf_rules.specs.Explained.{telescope_width}
 use Rattle.clf_decision.specs.Outcome.{passed, refused}

@@ -13,7 +13,7 @@ use Rattle.clf_syntax.specs.PlainTypes.{plain_tele_entry}
 use Rattle.use_contexts.specs.Context.{Context, modes}
 use Rattle.use_contexts.specs.Holding.{Holding, allowed}
 use Rattle.use_contexts.specs.Rows.{outside, slack_outside, Leftover}
-use Rattle.trace_equal.specs.Search.{same_mode}
+use Rattle.clf_syntax.specs.Modes.{same_mode}
 use Rattle.clf_sig.specs.Entry.{PlainSignature}
 use Rattle.clf_rules.specs.Refusal.{mode_differs, width}
 use Rattle.clf_rules.specs.Explained.{tuple_width, telescope_width}

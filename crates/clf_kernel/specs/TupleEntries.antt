@@ -6,7 +6,7 @@ use Rattle.clf_syntax.specs.TypeTree.{PlainTelescope, end, binding, telescope_of
 use Rattle.clf_syntax.specs.PlainTypes.{plain_tele_entry}
 use Rattle.use_contexts.specs.Context.{Context}
 use Rattle.use_contexts.specs.Rows.{Leftover}
-use Rattle.trace_equal.specs.Search.{same_mode}
+use Rattle.clf_syntax.specs.Modes.{same_mode}
 use Rattle.clf_sig.specs.Entry.{PlainSignature}
 use Rattle.clf_rules.specs.Refusal.{mode_differs, width}
 use Rattle.clf_decision.specs.Outcome.{Outcome, passed, refused, and_then}

@@ -20,7 +20,7 @@ ghost use Rattle.clf_kernel.specs.Trail.{IsGrown, OpensStep, OpensSteps, opened_
 ghost use Rattle.clf_kernel.specs.TupleEntries.{plain_rest, entry_behind};
 
 use crate::head::{infer_head, raised_telescope};
-use crate::parts::{check_atomic, check_unit, first_part, is_same, join, second_part};
+use crate::parts::{check_atomic, check_unit, first_part, join, second_part};
 use crate::putting::{put_in_entries, put_in_range};
 use crate::refusal::{AtType, Cause, Inferred, Stop, from_part, refuse, refuse_at, refuse_type};
 use crate::rows::{allowed_of, left_outside, slack_of};
@@ -28,7 +28,9 @@ use crate::scope::{close_scope, enter, leave, leave_to};
 use crate::trail::{Entered, Trail, close_steps, enter_step};
 use crate::tuple::{Rest, too_long, too_short};
 use clf_sig::Signature;
-use clf_syntax::{Elim, Expr, Mode, Neutral, Obj, Step, Tele, TeleEntry, TupleEntry, Ty};
+use clf_syntax::{
+    Elim, Expr, Mode, Neutral, Obj, Step, Tele, TeleEntry, TupleEntry, Ty, is_same_mode,
+};
 use sqlite_items::Items;
 use std::alloc::Global;
 use use_contexts::{Ctx, Holding, Left};
@@ -182,7 +184,7 @@ fn check_lambda(
             dom,
             cod,
         } => {
-            if !is_same(mode, *wanted) {
+            if !is_same_mode(mode, *wanted) {
                 return Err(refuse(
                     alloc,
                     Cause::ModeDiffers {
@@ -318,7 +320,7 @@ fn put_argument(
             dom,
             cod,
         } => {
-            if !is_same(mode, wanted) {
+            if !is_same_mode(mode, wanted) {
                 return Err(refuse_at(
                     alloc,
                     place,
@@ -532,7 +534,7 @@ fn check_tuple_entry(
 {
     let Rest { types, left } = rest;
     let first = &types.as_slice()[0];
-    if !is_same(entry.mode, first.mode) {
+    if !is_same_mode(entry.mode, first.mode) {
         let (wanted, found) = (first.mode, entry.mode);
         return Err(refuse_at(alloc, place, Cause::ModeDiffers { wanted, found }));
     }

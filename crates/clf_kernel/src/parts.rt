@@ -8,13 +8,12 @@ ghost use Rattle.use_contexts.specs.Rows.{newest_difference};
 ghost use Rattle.clf_decision.specs.Checking.{joined_left, unit_left, atomic_left, found_left, indices_left, first_unjoined, first_left, second_left};
 ghost use Rattle.clf_rules.specs.Refusal.{index_differs};
 ghost use Rattle.trace_equal.specs.Difference.{DiffersAt};
-ghost use Rattle.trace_equal.specs.Search.{same_mode};
 ghost use Rattle.clf_kernel.specs.Answers.{plain_left, plain_inferred};
 ghost use Rattle.clf_kernel.specs.Stops.{Gives, Ends};
 
 use crate::head::level;
 use crate::refusal::{AtType, Cause, Inferred, Stop, refuse, refuse_at, refuse_type};
-use clf_syntax::{Mode, Obj, Ty};
+use clf_syntax::{Obj, Ty};
 use std::alloc::Global;
 use trace_equal::first_difference;
 use use_contexts::{Ctx, Differ, Holding, Left, join_add};
@@ -198,18 +197,5 @@ pub fn second_part(alloc: Global, place: usize, found: Inferred) -> Result<Infer
         found @ (Ty::Fam { .. } | Ty::Fun { .. } | Ty::Top | Ty::Monad { .. }) => {
             Err(refuse_at(alloc, place, Cause::NotPair { found }))
         }
-    }
-}
-
-pub fn is_same(mode: Mode, other: Mode) -> bool
-    ensures { result ≡ same_mode mode other }
-{
-    match (mode, other) {
-        (Mode::Persistent, Mode::Persistent)
-        | (Mode::Affine, Mode::Affine)
-        | (Mode::Linear, Mode::Linear) => true,
-        (Mode::Persistent, Mode::Affine | Mode::Linear)
-        | (Mode::Affine, Mode::Persistent | Mode::Linear)
-        | (Mode::Linear, Mode::Persistent | Mode::Affine) => false,
     }
 }

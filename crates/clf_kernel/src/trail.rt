@@ -10,10 +10,9 @@ ghost use Rattle.clf_kernel.specs.Answers.{plain_left, plain_inferred};
 ghost use Rattle.clf_kernel.specs.Stops.{IsShort, Gives};
 ghost use Rattle.clf_kernel.specs.Trail.{IsGrown, EntersStep, closed_modes, closed_steps, opened_by, opened_width};
 
-use crate::parts::is_same;
 use crate::refusal::{Cause, Inferred, Stop, count, from_part, refuse, refuse_at, too_far};
 use crate::scope::close_modes;
-use clf_syntax::{Mode, Modes, Tele, Ty};
+use clf_syntax::{Mode, Modes, Tele, Ty, is_same_mode};
 use sqlite_items::Items;
 use std::alloc::Global;
 use use_contexts::{Ctx, Holding, Left};
@@ -109,7 +108,7 @@ fn same_pattern(alloc: Global, modes: &[Mode], tele: &Tele) -> Result<(), Stop>
     while at < modes.len() {
         let wanted = entries[at].mode;
         let found = modes[at];
-        if !is_same(found, wanted) {
+        if !is_same_mode(found, wanted) {
             return Err(refuse(alloc, Cause::ModeDiffers { wanted, found }));
         }
         at += 1;

@@ -11,7 +11,8 @@ use Rattle.clf_syntax.specs.Simple.{extended, extended_by, simple_modes, no_hole
 use Rattle.clf_syntax.proofs.RenamingLaws.{ext}
 use Rattle.hered_subst.specs.TypedEnvironments.{is_metavariable}
 use Rattle.hered_subst.proofs.Total.{meta_of}
-use Rattle.clf_simple.specs.Decision.{HeadTypes, heads_in, same_mode, same_type, same_telescope, has_modes, behind, at_function, at_with, at_top, at_lax, at_end, at_entry, stands, stands_as, argued, first_type, second_type, then_type, opened_by, in_scope, typed, type_of, expression_typed, tuple_typed}
+use Rattle.clf_syntax.specs.Modes.{same_mode}
+use Rattle.clf_simple.specs.Decision.{HeadTypes, heads_in, same_type, same_telescope, has_modes, behind, at_function, at_with, at_top, at_lax, at_end, at_entry, stands, stands_as, argued, first_type, second_type, then_type, opened_by, in_scope, typed, type_of, expression_typed, tuple_typed}
 
 -- the scope with one variable more, or with those of a telescope
 next_scope : (k : HeadTypes) (d : SimpleType) (g : List SimpleType) → heads_in k (d ∷ g) ≡ extended d (heads_in k g)

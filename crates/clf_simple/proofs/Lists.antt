@@ -10,7 +10,8 @@ use Rattle.clf_syntax.specs.declared.tree.Expr.{Expr, out-Expr}
 use Rattle.clf_syntax.specs.Tree.{PlainNeutral, head_alone, PlainElimination, arg, first, second, spine_on, steps_on, PlainTuple, done, tuple_of, head_of}
 use Rattle.clf_syntax.specs.TypeTree.{SimpleType, SimpleTelescope, simple_binding}
 use Rattle.clf_syntax.specs.Plain.{plain_neutral, plain_elim, plain_expr, plain_step, plain_entry, plain-neutral, plain-expr}
-use Rattle.clf_simple.specs.Decision.{HeadTypes, heads_in, then_type, then_scope, in_scope, type_of, elimination_type, spine_type, step_scope, steps_scope, expression_typed, tuple_typed, same_telescope, has_modes, same_mode}
+use Rattle.clf_syntax.specs.Modes.{same_mode}
+use Rattle.clf_simple.specs.Decision.{HeadTypes, heads_in, then_type, then_scope, in_scope, type_of, elimination_type, spine_type, step_scope, steps_scope, expression_typed, tuple_typed, same_telescope, has_modes}
 
 then_some : (x : Option SimpleType) → then_type x (λ t. Some t) ≡ x
 then_some (Some t) = refl

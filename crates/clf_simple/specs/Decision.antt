@@ -1,7 +1,7 @@
 -- Inner: simple typing decided by cases. The scope is the list of the variables' types, the newest first.
 use Rattle.std.specs.Prelude.{◌==◌, Bool, true, false, ◌&&◌, if◌then◌else◌, List, [], ◌∷◌, Option, Some, None}
 use Rattle.clf_syntax.specs.declared.tree.Mode.{Mode}
-use Rattle.clf_syntax.specs.declared.tree.Mode.TheVariants.{Persistent, Affine, Linear}
+use Rattle.clf_syntax.specs.Modes.{same_mode}
 use Rattle.clf_syntax.specs.Tree.{PlainObject, lam, pair, unit, monadic, atomic, hole, PlainNeutral, head_alone, app, fst, snd, PlainExpression, step, done, PlainTuple, empty, entry, PlainElimination, arg, first, second, head_of}
 use Rattle.clf_syntax.specs.TypeTree.{SimpleType, base, arrow, simple_with, simple_top, lax, SimpleTelescope, simple_end, simple_binding}
 use Rattle.clf_syntax.specs.Simple.{Assignment, assigned}
@@ -14,12 +14,6 @@ pub record HeadTypes : Type 0 where
 
 abbrev pub heads_in : HeadTypes → List SimpleType → Assignment
 heads_in k g = assigned k.constants k.metavariables g
-
-abbrev pub same_mode : Mode → Mode → Bool
-same_mode Persistent Persistent = true
-same_mode Affine Affine = true
-same_mode Linear Linear = true
-same_mode _ _ = false
 
 abbrev mutual
   pub same_type : SimpleType → SimpleType → Bool

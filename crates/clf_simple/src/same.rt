@@ -1,22 +1,10 @@
-//! Whether modes and simple types are the same.
+//! Whether simple types are the same.
 ghost use Rattle.std.specs.Prelude.{◌≡◌, map};
 ghost use Rattle.clf_syntax.specs.PlainSimple.{plain_simple, plain_simple_entry, simple_telescope_of};
+ghost use Rattle.clf_syntax.specs.Modes.{same_mode};
 ghost use Rattle.clf_simple.specs.Decision as spec;
 
-use clf_syntax::{Mode, Simple, SimpleEntry};
-
-pub fn same_mode(mode: Mode, other: Mode) -> bool
-    ensures { result ≡ spec.same_mode mode other }
-{
-    match (mode, other) {
-        (Mode::Persistent, Mode::Persistent)
-        | (Mode::Affine, Mode::Affine)
-        | (Mode::Linear, Mode::Linear) => true,
-        (Mode::Persistent, Mode::Affine | Mode::Linear)
-        | (Mode::Affine, Mode::Persistent | Mode::Linear)
-        | (Mode::Linear, Mode::Persistent | Mode::Affine) => false,
-    }
-}
+use clf_syntax::{Mode, Simple, SimpleEntry, is_same_mode};
 
 /// Whether two simple types are the same.
 #[cycle(same)]
@@ -35,7 +23,7 @@ pub fn same_type(ty: &Simple, other: &Simple) -> bool
                 dom: from,
                 cod: to,
             } => {
-                same_mode(*mode, *second)
+                is_same_mode(*mode, *second)
                     && same_type(dom.get(), from.get())
                     && same_type(cod.get(), to.get())
             }
@@ -84,13 +72,13 @@ fn same_entries(entries: &[SimpleEntry], others: &[SimpleEntry]) -> bool
 fn same_entry(entry: &SimpleEntry, other: &SimpleEntry) -> bool
     ensures { result ≡ spec.same_entry (plain_simple_entry entry.now) (plain_simple_entry other.now) }
 {
-    same_mode(entry.mode, other.mode) && same_type(&entry.ty, &other.ty)
+    is_same_mode(entry.mode, other.mode) && same_type(&entry.ty, &other.ty)
 }
 
 fn has_mode(entry: &SimpleEntry, mode: &Mode) -> bool
-    ensures { result ≡ spec.same_mode mode.now entry.now.mode }
+    ensures { result ≡ same_mode mode.now entry.now.mode }
 {
-    same_mode(*mode, entry.mode)
+    is_same_mode(*mode, entry.mode)
 }
 
 /// Whether these are the modes of the entries.

@@ -9,9 +9,11 @@ ghost use Rattle.hered_subst.specs.TypedEnvironments.{is_metavariable};
 ghost use Rattle.clf_simple.specs.Decision as spec;
 ghost use Rattle.clf_simple.specs.Scope.{head_types, scope};
 
-use crate::same::{has_modes, same_mode, same_type};
+use crate::same::{has_modes, same_type};
 use crate::scope::{Heads, head_type, with_entries, with_local};
-use clf_syntax::{Elim, Expr, Head, Mode, Neutral, Obj, Simple, SimpleEntry, Step, TupleEntry};
+use clf_syntax::{
+    Elim, Expr, Head, Mode, Neutral, Obj, Simple, SimpleEntry, Step, TupleEntry, is_same_mode,
+};
 use std::alloc::{AllocError, Global};
 
 /// Whether an object has the simple type. The types of constants and metavariables are by their numbers, and `ctx` has the variables, the newest last.
@@ -92,7 +94,7 @@ fn check_lambda<'a>(
             dom,
             cod,
         } => {
-            if !same_mode(mode, *wanted) {
+            if !is_same_mode(mode, *wanted) {
                 return Ok(false);
             }
             let inner = with_local(alloc, locals, dom.get())?;
@@ -248,7 +250,7 @@ fn apply<'a>(
             dom,
             cod,
         } => {
-            if !same_mode(mode, *wanted) {
+            if !is_same_mode(mode, *wanted) {
                 return Ok(None);
             }
             if !check(alloc, heads, locals, obj, dom.get())? {
@@ -376,7 +378,7 @@ fn check_entry<'a>(
 ) -> Result<bool, AllocError>
     ensures { IfOk result (λ b. b ≡ spec.entry_typed (head_types heads.now) (scope locals.now) (plain_entry part.now) (plain_simple_entry entry.now)) }
 {
-    if !same_mode(part.mode, entry.mode) {
+    if !is_same_mode(part.mode, entry.mode) {
         return Ok(false);
     }
     check(alloc, heads, locals, &part.obj, &entry.ty)

@@ -1,3 +1,4 @@
+pub mod Modes
 pub mod Tree
 pub mod TypeTree
 pub mod Plain

@@ -19,7 +19,7 @@ pub use erasure::erase;
 pub use fault::{Or, OrWide, Shortage, TooFar, Want, Wide};
 pub use identity::same;
 pub use laws::renaming;
-pub use modes::Modes;
+pub use modes::{Modes, is_same_mode};
 pub use name::Name;
 pub use occurs::{occurs_in_arguments, occurs_in_entries};
 pub use rename::{Renaming, deeper};

@@ -1,9 +1,22 @@
+//! Modes, and the lists of them that patterns have.
 ghost use Rattle.std.specs.Prelude.{◌≡◌, [], ◌∷◌, ◌++◌, IfOk, OnOk, OnErr, length};
+ghost use Rattle.clf_syntax.specs.Modes.{same_mode};
 
 use crate::tree::Mode;
 use smallvec::SmallVec;
 use std::alloc::{AllocError, Global};
 use std::marker::Model;
+
+/// Whether two modes are the same.
+pub fn is_same_mode(left: Mode, right: Mode) -> bool
+    ensures { result ≡ same_mode left right }
+{
+    match left {
+        Mode::Persistent => matches!(right, Mode::Persistent),
+        Mode::Affine => matches!(right, Mode::Affine),
+        Mode::Linear => matches!(right, Mode::Linear),
+    }
+}
 
 /// The modes of a pattern, which contracts see as their list.
 #[derive(Drop)]

@@ -9,7 +9,8 @@ use Rattle.hered_subst.specs.Substitution.{Image, keep, put, Environment, under,
 use Rattle.hered_subst.specs.Laws.{inserted}
 use Rattle.hered_subst.proofs.SimpleTyping.{rank, to_typed}
 use Rattle.hered_put.specs.Tupled.{tupled}
-use Rattle.hered_put.specs.Function.{Answer, made, untyped, too_far, after, Outcome, kept, value, as_object, written, free, Again, Stepped, stays, gives, stepped, same_mode, applied, argued, projected_first, projected_second, flattened, combined, run_by, run_neutral_by, run_expression_by, run_tuple_by, nested, nested_freely, run_each_by, run_type_by, run_telescope_by, run_kind_by}
+use Rattle.clf_syntax.specs.Modes.{same_mode}
+use Rattle.hered_put.specs.Function.{Answer, made, untyped, too_far, after, Outcome, kept, value, as_object, written, free, Again, Stepped, stays, gives, stepped, applied, argued, projected_first, projected_second, flattened, combined, run_by, run_neutral_by, run_expression_by, run_tuple_by, nested, nested_freely, run_each_by, run_type_by, run_telescope_by, run_kind_by}
 use Rattle.hered_put.specs.Passes.{PassesType, PassesTelescope, PassesKind}
 use Rattle.hered_put.specs.Laws.{Meets, FineUnless, Makes, AnswersAs, FreelyMakes, FreelyAnswersAs}
 use Rattle.hered_put.proofs.Sound.{freely-sound, free-sound, run_type-meets, run_telescope-meets, run_kind-meets}

@@ -19,7 +19,8 @@ use Rattle.clf_syntax.specs.Plain.{plain_obj, plain_neutral, plain_elim, plain_s
 use Rattle.hered_subst.specs.TypedEnvironments.{is_metavariable}
 use Rattle.clf_syntax.proofs.Next.{dropped}
 use Rattle.hered_subst.specs.Substitution.{Environment, under, single, objects}
-use Rattle.hered_put.specs.Function.{Answer, made, untyped, too_far, after, Outcome, kept, value, as_object, nested, first_part, second_part, stepped, stays_if, same_mode, combined, flattened, run, run_neutral, run_expression, run_tuple}
+use Rattle.clf_syntax.specs.Modes.{same_mode}
+use Rattle.hered_put.specs.Function.{Answer, made, untyped, too_far, after, Outcome, kept, value, as_object, nested, first_part, second_part, stepped, stays_if, combined, flattened, run, run_neutral, run_expression, run_tuple}
 use Rattle.hered_put.specs.Tupled.{tupled}
 use Rattle.hered_put.proofs.Typed.{same-itself}
 use Rattle.hered_put.proofs.Environments.{tuple-length}

@@ -18,7 +18,8 @@ use Rattle.hered_subst.proofs.Renamed.{renamed_expression}
 use Rattle.hered_subst.proofs.SimpleTyping.{image_idle}
 use Rattle.hered_subst.proofs.Total.{meta_of}
 use Rattle.hered_put.specs.Tupled.{among_raised, tupled}
-use Rattle.hered_put.specs.Function.{Answer, made, untyped, too_far, after, Outcome, kept, value, as_object, written, Again, stays_if, stepped, same_mode, argued, projected_first, projected_second, flattened, combined, standing, free, run_by, run_neutral_by, run_expression_by, run_tuple_by, nested, nested_freely, run_each_by, run_type_by, run_telescope_by, run_kind_by}
+use Rattle.clf_syntax.specs.Modes.{same_mode}
+use Rattle.hered_put.specs.Function.{Answer, made, untyped, too_far, after, Outcome, kept, value, as_object, written, Again, stays_if, stepped, argued, projected_first, projected_second, flattened, combined, standing, free, run_by, run_neutral_by, run_expression_by, run_tuple_by, nested, nested_freely, run_each_by, run_type_by, run_telescope_by, run_kind_by}
 use Rattle.hered_put.specs.Laws.{Meets}
 use Rattle.hered_put.specs.Passes.{Passes, passes_body, passes_left, passes_right, passes_monadic, passes_atomic, PassesNeutral, passes_kept, passes_put, passes_function, passes_argument, passes_value, passes_fst, passes_snd, PassesExpression, passes_step, passes_rest, passes_flattened, passes_tuple, PassesFlattened, passes_behind, passes_there, PassesTuple, passes_entry, passes_later, PassesEach, passes_one, passes_others, PassesType, passes_indices, passes_domain, passes_codomain, passes_left_type, passes_right_type, passes_monad, PassesTelescope, passes_binding, passes_later_binding, PassesKind, passes_first_argument, passes_later_argument}
 

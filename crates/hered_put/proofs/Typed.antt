@@ -16,7 +16,8 @@ use Rattle.hered_subst.specs.TypedEnvironments.{is_metavariable}
 use Rattle.hered_subst.proofs.SimpleTyping.{Typed, typed_lam, typed_pair, typed_unit, typed_monadic, typed_metavariable, typed_atomic, TypedNeutral, typed_bare, typed_app, typed_fst, typed_snd, TypedExpression, typed_step, typed_done, TypedTuple, typed_empty, typed_entry, rank, ranks, suited_all, tuple_length, to_typed}
 use Rattle.hered_subst.proofs.Total.{Suits, RankedEnvironment, env_bound, env_bounds, single_env, putting_env, raised_all, meta_of}
 use Rattle.hered_put.specs.Tupled.{tupled}
-use Rattle.hered_put.specs.Function.{Answer, made, untyped, too_far, after, Outcome, kept, value, as_object, written, Again, stays_if, stepped, same_mode, argued, projected_first, projected_second, flattened, combined, standing, free, run_by, run_neutral_by, run_expression_by, run_tuple_by, nested, nested_freely, run_each_by, run_type_by, run_telescope_by, run_kind_by}
+use Rattle.clf_syntax.specs.Modes.{same_mode}
+use Rattle.hered_put.specs.Function.{Answer, made, untyped, too_far, after, Outcome, kept, value, as_object, written, Again, stays_if, stepped, argued, projected_first, projected_second, flattened, combined, standing, free, run_by, run_neutral_by, run_expression_by, run_tuple_by, nested, nested_freely, run_each_by, run_type_by, run_telescope_by, run_kind_by}
 use Rattle.hered_put.specs.Laws.{FineUnless}
 use Rattle.hered_put.proofs.Sound.{tupled-put}
 

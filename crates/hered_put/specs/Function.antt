@@ -1,7 +1,7 @@
 -- Hereditary substitution as a function on plain trees. How deep what is put may nest is bounded by a number, the rank of a simple type.
 use Rattle.std.specs.Prelude.{ℕ, zero, suc, ◌+◌, ◌==◌, Bool, true, false, if◌then◌else◌, List, [], ◌∷◌, length}
 use Rattle.clf_syntax.specs.declared.tree.Mode.{Mode}
-use Rattle.clf_syntax.specs.declared.tree.Mode.TheVariants.{Persistent, Affine, Linear}
+use Rattle.clf_syntax.specs.Modes.{same_mode}
 use Rattle.clf_syntax.specs.Tree.{PlainObject, lam, pair, unit, monadic, atomic, hole, PlainNeutral, head_alone, app, fst, snd, PlainExpression, step, done, PlainTuple, empty, entry, PlainElimination, arg, first, second, head_of}
 use Rattle.clf_syntax.specs.TypeTree.{PlainType, family, function, both, top, monad, PlainTelescope, end, binding, PlainKind}
 use Rattle.clf_syntax.specs.Written.{fits, fits_head}
@@ -46,17 +46,6 @@ free i = made (standing i)
 pub record Again : Type 0 where
   pub object : Environment → PlainObject → Answer PlainObject
   pub expression : Environment → PlainExpression → Answer PlainExpression
-
-abbrev pub same_mode : Mode → Mode → Bool
-same_mode Persistent Persistent = true
-same_mode Persistent Affine = false
-same_mode Persistent Linear = false
-same_mode Affine Persistent = false
-same_mode Affine Affine = true
-same_mode Affine Linear = false
-same_mode Linear Persistent = false
-same_mode Linear Affine = false
-same_mode Linear Linear = true
 
 -- what stays of a step, or the expression whose steps come in its place
 pub data Stepped : Type 0 where

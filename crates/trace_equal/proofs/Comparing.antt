@@ -22,7 +22,8 @@ use Rattle.trace_equal.specs.Comparing.{Right, compared, compared_head, compared
 use Rattle.trace_equal.specs.Exchange.{Joined}
 use Rattle.trace_equal.specs.Ids.{EachUnder, by, by_id, ids, rights_by, table_after, total}
 use Rattle.trace_equal.specs.Places.{Covers, Right as NumberedRight, all_places, chosen, each, entered, is_absent, right, search, serves, tried}
-use Rattle.trace_equal.specs.Search.{first, is_joined, is_joined_neutral, is_joined_tuple, same_head, same_mode, same_modes}
+use Rattle.clf_syntax.specs.Modes.{same_mode, same_modes}
+use Rattle.trace_equal.specs.Search.{first, is_joined, is_joined_neutral, is_joined_tuple, same_head}
 use Rattle.trace_equal.specs.Steps.{result_of, wide_steps}
 
 -- ---- the ids of a table, the newest first

@@ -14,7 +14,7 @@ use Rattle.trace_equal.proofs.Fronts.{halves}
 use Rattle.trace_equal.specs.declared.tables.Run.{Run}
 use Rattle.trace_equal.specs.Places.{from_on}
 use Rattle.trace_equal.specs.Comparing.{count_from, place_in, run_of, runs_from, compared, compared_elimination, compared_entry, compared_head, compared_neutral, compared_spine, compared_tuple}
-use Rattle.trace_equal.specs.Search.{same_mode, same_modes}
+use Rattle.clf_syntax.specs.Modes.{same_mode, same_modes}
 
 -- ---- tests
 and_true : (a : Bool) → a && true ≡ a

@@ -16,7 +16,8 @@ use Rattle.trace_equal.proofs.WideSteps.{place}
 use Rattle.trace_equal.specs.Bijection.{AgreeAt, IsAtMost, IsFirstMatching, IsMatching}
 use Rattle.trace_equal.specs.Exchange.{JoinedNeutral, JoinedTuple}
 use Rattle.trace_equal.specs.Matching.{Matches, MatchesExpression, MatchesNeutral, MatchesTuple, Pulled, match_app, match_atomic, match_bare, match_done, match_empty, match_entry, match_fst, match_hole, match_lam, match_monadic, match_pair, match_snd, match_unit}
-use Rattle.trace_equal.specs.Search.{Front, attempt, first, front, or_else, past, places, prefixed, pull_at, is_joined, same_head, same_mode, same_modes, is_joined_neutral, is_joined_tuple}
+use Rattle.clf_syntax.specs.Modes.{same_mode, same_modes}
+use Rattle.trace_equal.specs.Search.{Front, attempt, first, front, or_else, past, places, prefixed, pull_at, is_joined, same_head, is_joined_neutral, is_joined_tuple}
 use Rattle.trace_equal.specs.Steps.{WideStep, below, ren_wide_step, size, wide_step, wide_steps}
 
 pub mode_sound : (m n : Mode) → same_mode m n ≡ true → m ≡ n

@@ -11,7 +11,8 @@ use Rattle.trace_equal.proofs.Fronts.{both, halves}
 use Rattle.trace_equal.specs.Bijection.{Absent, AgreeAt, Distinct, IsAtMost, IsFirstMatching, IsMatching}
 use Rattle.trace_equal.specs.Exchange.{JoinedNeutral}
 use Rattle.trace_equal.specs.Places.{AllAscending, Among, Ascending, Below, Covers, Listed, Right, all_places, chosen, each, entered, from_on, is_absent, or_else, right, rights, search, serves, tried, wide}
-use Rattle.trace_equal.specs.Search.{same_modes, is_joined_neutral, is_joined_tuple}
+use Rattle.clf_syntax.specs.Modes.{same_modes}
+use Rattle.trace_equal.specs.Search.{is_joined_neutral, is_joined_tuple}
 use Rattle.trace_equal.specs.Steps.{WideStep, below, result_of, size, wide_step, wide_steps}
 
 pub rights_are_wide : (e : PlainExpression) → map wide (rights e) ≡ wide_steps e

@@ -12,7 +12,7 @@ use Rattle.trace_equal.specs.declared.tables.Tables.{Tables}
 use Rattle.trace_equal.specs.declared.tables.Place.{Place}
 use Rattle.trace_equal.specs.declared.tables.Place.TheVariants.{Bound, Outside}
 use Rattle.trace_equal.specs.Places.{all_places, chosen, each, is_absent}
-use Rattle.trace_equal.specs.Search.{same_mode, same_modes}
+use Rattle.clf_syntax.specs.Modes.{same_mode, same_modes}
 use Rattle.trace_equal.specs.Steps.{result_of}
 
 -- ---- variables

@@ -4,7 +4,8 @@ use Rattle.clf_syntax.specs.Renaming.{Renumbering, ren_neutral, ren_tuple, up}
 use Rattle.clf_syntax.specs.Tree.{PlainExpression, PlainNeutral, PlainTuple, done, step}
 use Rattle.clf_syntax.specs.declared.tree.Mode.{Mode}
 use Rattle.trace_equal.specs.Bijection.{IsMatching}
-use Rattle.trace_equal.specs.Search.{same_modes, is_joined_neutral, is_joined_tuple}
+use Rattle.clf_syntax.specs.Modes.{same_modes}
+use Rattle.trace_equal.specs.Search.{is_joined_neutral, is_joined_tuple}
 use Rattle.trace_equal.specs.Steps.{WideStep, below, size, wide_step}
 
 -- The n newest variables get the numbers from a on, and the others keep theirs.

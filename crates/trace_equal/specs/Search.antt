@@ -2,11 +2,11 @@
 use Rattle.std.specs.Prelude.{ℕ, Bool, true, false, zero, suc, ◌+◌, ◌&&◌, ◌||◌, nat_lt, nat_le, nat_eq, if◌then◌else◌, List, [], ◌∷◌, length, map, Some, None, is_some}
 use Rattle.std.proofs.Common.{Option}
 use Rattle.clf_syntax.specs.Renaming.{crossed, down, ren_expression, ren_neutral, up}
+use Rattle.clf_syntax.specs.Modes.{same_mode, same_modes}
 use Rattle.clf_syntax.specs.Tree.{PlainExpression, PlainObject, PlainNeutral, PlainTuple, app, atomic, head_alone, done, empty, entry, fst, hole, lam, monadic, pair, snd, step, unit}
 use Rattle.clf_syntax.specs.declared.tree.Head.{Head}
 use Rattle.clf_syntax.specs.declared.tree.Head.TheVariants.{Const, Meta, Var}
 use Rattle.clf_syntax.specs.declared.tree.Mode.{Mode}
-use Rattle.clf_syntax.specs.declared.tree.Mode.TheVariants.{Affine, Linear, Persistent}
 use Rattle.trace_equal.specs.Steps.{wide_steps}
 
 -- none of the n variables from k on occurs
@@ -53,17 +53,6 @@ abbrev pub past : ℕ → ℕ → ℕ
 past zero j = suc j
 past (suc i) zero = zero
 past (suc i) (suc j) = suc (past i j)
-
-abbrev pub same_mode : Mode → Mode → Bool
-same_mode Persistent Persistent = true
-same_mode Affine Affine = true
-same_mode Linear Linear = true
-same_mode _ _ = false
-
-abbrev pub same_modes : List Mode → List Mode → Bool
-same_modes [] [] = true
-same_modes (m ∷ ms) (n ∷ ns) = same_mode m n && same_modes ms ns
-same_modes _ _ = false
 
 abbrev pub same_head : Head → Head → Bool
 same_head (Const c) (Const d) = nat_eq c d

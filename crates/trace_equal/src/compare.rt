@@ -6,10 +6,10 @@ ghost use Rattle.trace_equal.specs.Comparing as spec;
 ghost use Rattle.trace_equal.specs.Seeking.{IsNext, Advances, Marks, problem, served_at, sought_at};
 
 use crate::choice::{Choice, Taken};
-use crate::modes::{are_same_modes, is_same_mode};
+use crate::modes::are_same_modes;
 use crate::rights::{Rights, all_places, each_with, right_ids};
 use crate::tables::{Run, Tables, is_same_head};
-use clf_syntax::{Elim, Expr, Neutral, Obj, Step, TupleEntry, deeper};
+use clf_syntax::{Elim, Expr, Neutral, Obj, Step, TupleEntry, deeper, is_same_mode};
 use sqlite_items::{Items, at};
 use std::alloc::{AllocError, Global};
 

@@ -1,18 +1,8 @@
 //! Whether modes are the same.
 ghost use Rattle.std.specs.Prelude.{◌≡◌};
-ghost use Rattle.trace_equal.specs.Search.{same_mode, same_modes};
+ghost use Rattle.clf_syntax.specs.Modes.{same_modes};
 
-use clf_syntax::Mode;
-
-pub fn is_same_mode(left: Mode, right: Mode) -> bool
-    ensures { result ≡ same_mode left right }
-{
-    match left {
-        Mode::Persistent => matches!(right, Mode::Persistent),
-        Mode::Affine => matches!(right, Mode::Affine),
-        Mode::Linear => matches!(right, Mode::Linear),
-    }
-}
+use clf_syntax::{Mode, is_same_mode};
 
 #[tactic(auto, using(crate::proofs::ComparingLaws::mode_laws))]
 pub fn are_same_modes(left: &[Mode], right: &[Mode]) -> bool

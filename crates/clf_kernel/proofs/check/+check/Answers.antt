@@ -182,14 +182,14 @@ check_tuple-returns-then-not-is_empty-clause-outcome t c =
     ∙ short_entries hereditary (plain_signature c.args.sig.now) (context c.args.ctx.now) c.args.steps i c.loop-entry.rest.types (plain_left c.loop-entry.rest.left) some))
     (refusal_stops _ [] _ c.too_short.result (subst (λ n. Ends [] (width (n + length c.loop-entry.rest.types) n) c.too_short.result) v.2 (subst (λ n. Ends [] (width (c.loop-entry.before + n) c.loop-entry.before) c.too_short.result) c.len.ensures c.too_short.ensures)))
 
-pub check_tuple_entry-returns-then-not-is_same-clause-outcome : goal.check_tuple_entry-returns-then-not-is_same-clause-outcome
-check_tuple_entry-returns-then-not-is_same-clause-outcome t c =
+pub check_tuple_entry-returns-then-not-is_same_mode-clause-outcome : goal.check_tuple_entry-returns-then-not-is_same_mode-clause-outcome
+check_tuple_entry-returns-then-not-is_same_mode-clause-outcome t c =
     let x = c.index-as_slice-0.result in
     let ts = c.args.rest.types in
     let a = first_entry ts x c.requires.there (c.index-as_slice-0.is ∙ ap (λ l. get_or l 0 x) c.as_slice.ensures) in
     subst (λ w. Stops w c.refuse_at.result)
     (sym (ap (λ e. entry_behind hereditary (plain_signature c.args.sig.now) (context c.args.ctx.now) c.args.place e (plain_rest c.args.rest)) (plain-entry c.args.entry.now)
-    ∙ behind_other hereditary (plain_signature c.args.sig.now) (context c.args.ctx.now) c.args.place ((out-TupleEntry c.args.entry.now).mode, plain_obj (out-TupleEntry c.args.entry.now).obj) ts (drop 1 ts) x (plain_left c.args.rest.left) a (sym c.is_same.ensures ∙ c.if-not-is_same.true)))
+    ∙ behind_other hereditary (plain_signature c.args.sig.now) (context c.args.ctx.now) c.args.place ((out-TupleEntry c.args.entry.now).mode, plain_obj (out-TupleEntry c.args.entry.now).obj) ts (drop 1 ts) x (plain_left c.args.rest.left) a (sym c.is_same_mode.ensures ∙ c.if-not-is_same_mode.true)))
     (refusal_stops _ (c.args.place ∷ []) _ c.refuse_at.result c.refuse_at.ensures)
 
 pub check_tuple_entry-returns-in_err-left-clause-outcome : goal.check_tuple_entry-returns-in_err-left-clause-outcome
@@ -202,7 +202,7 @@ check_tuple_entry-returns-in_err-left-clause-outcome t c =
     subst (λ r. Gives plain_rest (entry_behind hereditary (plain_signature c.args.sig.now) (context c.args.ctx.now) c.args.place (plain_entry c.args.entry.now) (plain_rest c.args.rest)) r) (sym e)
     (subst (λ w. Stops w c.in_err-left.field-0.0)
     (sym (ap (λ e. entry_behind hereditary (plain_signature c.args.sig.now) (context c.args.ctx.now) c.args.place e (plain_rest c.args.rest)) (plain-entry c.args.entry.now)
-    ∙ behind_same hereditary (plain_signature c.args.sig.now) (context c.args.ctx.now) c.args.place ((out-TupleEntry c.args.entry.now).mode, plain_obj (out-TupleEntry c.args.entry.now).obj) ts (drop 1 ts) x (plain_left c.args.rest.left) a (sym c.is_same.ensures ∙ c.if-not-is_same.false)))
+    ∙ behind_same hereditary (plain_signature c.args.sig.now) (context c.args.ctx.now) c.args.place ((out-TupleEntry c.args.entry.now).mode, plain_obj (out-TupleEntry c.args.entry.now).obj) ts (drop 1 ts) x (plain_left c.args.rest.left) a (sym c.is_same_mode.ensures ∙ c.if-not-is_same_mode.false)))
     (then_stops _ _ c.in_err-left.field-0.0 c.in_err-left.ensures.outcome))
 
 pub check_tuple_entry-returns-clause-outcome : goal.check_tuple_entry-returns-clause-outcome
@@ -211,7 +211,7 @@ check_tuple_entry-returns-clause-outcome t c =
     let ts = c.args.rest.types in
     let a = first_entry ts x c.requires.there (c.index-as_slice-0.is ∙ ap (λ l. get_or l 0 x) c.as_slice.ensures) in
     ap (λ e. entry_behind hereditary (plain_signature c.args.sig.now) (context c.args.ctx.now) c.args.place e (plain_rest c.args.rest)) (plain-entry c.args.entry.now)
-    ∙ behind_same hereditary (plain_signature c.args.sig.now) (context c.args.ctx.now) c.args.place ((out-TupleEntry c.args.entry.now).mode, plain_obj (out-TupleEntry c.args.entry.now).obj) ts (drop 1 ts) x (plain_left c.args.rest.left) a (sym c.is_same.ensures ∙ c.if-not-is_same.false)
+    ∙ behind_same hereditary (plain_signature c.args.sig.now) (context c.args.ctx.now) c.args.place ((out-TupleEntry c.args.entry.now).mode, plain_obj (out-TupleEntry c.args.entry.now).obj) ts (drop 1 ts) x (plain_left c.args.rest.left) a (sym c.is_same_mode.ensures ∙ c.if-not-is_same_mode.false)
     ∙ ap (λ w. and_then w (λ z. passed (hereditary.into_telescope (plain_obj (out-TupleEntry c.args.entry.now).obj) (plain_ty (out-TeleEntry x).ty) (telescope_of (map plain_tele_entry (drop 1 ts))), z))) c.in_ok-left.ensures.outcome
     ∙ ap (λ v. passed (v, plain_left c.in_ok-left.left)) (ap (λ l. hereditary.into_telescope (plain_obj (out-TupleEntry c.args.entry.now).obj) (plain_ty (out-TeleEntry x).ty) (telescope_of (map plain_tele_entry (drop 1 l)))) (sym c.as_slice-2.ensures)
     ∙ ap (λ l. hereditary.into_telescope (plain_obj (out-TupleEntry c.args.entry.now).obj) (plain_ty (out-TeleEntry x).ty) (telescope_of (map plain_tele_entry l))) (sym (tail_slice c.as_slice-2.result.now))

@@ -9,7 +9,7 @@ use Rattle.clf_kernel.proofs.trail.same_pattern.Goals as goal
 pub loop-at-preserved : goal.loop-at-preserved
 loop-at-preserved c = (
   omega (arith, c.loop-at-test.true),
-  pattern_agrees c.args.modes.now c.args.tele.now c.as_slice-entries.result.now c.as_slice-entries.ensures c.if-modes-entries.false c.loop-at.at c.loop-at.invariant.1 c.index-entries-at.result c.loop-at-test.true (sym c.if-not-is_same.ensures),
+  pattern_agrees c.args.modes.now c.args.tele.now c.as_slice-entries.result.now c.as_slice-entries.ensures c.if-modes-entries.false c.loop-at.at c.loop-at.invariant.1 c.index-entries-at.result c.loop-at-test.true (sym c.if-not-is_same_mode.ensures),
 )
 
 pub returns : goal.returns
@@ -23,8 +23,8 @@ returns-then-modes-entries c =
     let k = ap (λ a. refused [] (width a (length c.args.modes.now))) (sym w) ∙ ap (λ b. refused [] (width c.in_ok-wanted.wanted b)) (sym c.in_ok-found.ensures.count) in
     subst (λ o. Stops o c.refuse.result) (sym (q ∙ k)) (refusal_stops _ [] (width c.in_ok-wanted.wanted c.in_ok-found.found) c.refuse.result c.refuse.ensures)
 
-pub returns-then-not-is_same : goal.returns-then-not-is_same
-returns-then-not-is_same c =
-    subst (λ o. Stops o c.refuse-then-not-is_same.result)
-    (sym (pattern_differs c.args.modes.now c.args.tele.now c.as_slice-entries.result.now c.as_slice-entries.ensures c.if-modes-entries.false c.loop-at.at c.loop-at.invariant.1 c.index-entries-at.result c.loop-at-test.true (sym c.if-not-is_same.ensures)))
-    (refusal_stops _ [] _ c.refuse-then-not-is_same.result c.refuse-then-not-is_same.ensures)
+pub returns-then-not-is_same_mode : goal.returns-then-not-is_same_mode
+returns-then-not-is_same_mode c =
+    subst (λ o. Stops o c.refuse-then-not-is_same_mode.result)
+    (sym (pattern_differs c.args.modes.now c.args.tele.now c.as_slice-entries.result.now c.as_slice-entries.ensures c.if-modes-entries.false c.loop-at.at c.loop-at.invariant.1 c.index-entries-at.result c.loop-at-test.true (sym c.if-not-is_same_mode.ensures)))
+    (refusal_stops _ [] _ c.refuse-then-not-is_same_mode.result c.refuse-then-not-is_same_mode.ensures)

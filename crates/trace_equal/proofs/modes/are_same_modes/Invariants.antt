@@ -1,5 +1,5 @@
 use Rattle.std.proofs.Common.{◌≡◌, drop, length}
-use Rattle.trace_equal.specs.Search.{same_modes}
+use Rattle.clf_syntax.specs.Modes.{same_modes}
 use Rattle.trace_equal.proofs.modes.are_same_modes.Given as goal
 
 abbrev pub invariant-loop-i : goal.invariant-loop-i
