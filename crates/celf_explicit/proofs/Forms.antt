@@ -1,6 +1,7 @@
 -- The laws of one kind of tree alone, which are sooner tried than all.
 use Rattle.clf_syntax.specs.Plain as core
 use Rattle.clf_syntax.specs.PlainTypes as core_type
+use Rattle.clf_syntax.specs.PlainSimple as simple
 use Rattle.celf_sugar.specs.Plain as written
 use Rattle.celf_sugar.proofs.EarliestLaws.{earliest-append}
 use Rattle.celf_explicit.specs.UnknownLists.{spine-listed, telescope-listed}
@@ -27,3 +28,6 @@ pub ruleset joined_laws = (earliest-append)
 pub ruleset spine_laws = (spine-listed)
 
 pub ruleset telescope_list_laws = (telescope-listed)
+
+-- the simple type without parts
+pub ruleset simple_top_laws = (simple.plain-SimpleTop)

@@ -3,3 +3,11 @@ pub mod ReadingLaws
 pub mod Forms
 pub mod Options
 pub mod Known
+pub mod AlongLaws
+pub mod Made
+pub mod Expressions
+pub mod TypeLists
+pub mod Wider
+pub mod WhereExplicit
+pub mod SimpleTypes
+pub mod LocalsLaws

@@ -11,3 +11,13 @@ pub mod Locals
 pub mod Entries
 pub mod Explicit
 pub mod Worked
+pub mod Places
+pub mod Heads
+pub mod Objects
+pub mod Types
+pub mod Items
+pub mod Explicitness
+pub mod Cores
+pub mod Parts
+pub mod Along
+pub mod Examples

@@ -42,7 +42,7 @@ pub fn explicit(
 }
 
 /// The fault of a name.
-fn unknown(alloc: Global, name: &PName) -> OrWide<UnknownName>
+pub fn unknown(alloc: Global, name: &PName) -> OrWide<UnknownName>
     ensures { IsUnknown name.now result }
 {
     match name.name.copy(alloc) {

@@ -1,5 +1,5 @@
 //! The local binders around a part of an object.
-ghost use Rattle.std.specs.Prelude.{◌≡◌, [], ◌∷◌, drop, IfOk, OnOk, option_copied, option_map};
+ghost use Rattle.std.specs.Prelude.{◌≡◌, ◌-◌, [], ◌∷◌, drop, length, IfOk, OnOk, option_copied, option_map};
 ghost use Rattle.celf_explicit.specs.Locals.{plain_place, plain_locals};
 ghost use Rattle.celf_explicit.specs.Reading as spec;
 
@@ -73,6 +73,30 @@ impl<'a> Locals<'a> {
         ensures { OnOk result (self.new ≡ (name.now, option_copied place.entry) ∷ self.old) }
     {
         self.locals.push(Local { name, place })
+    }
+
+    /// How many there are.
+    pub fn len(&self) -> usize
+        ensures { result ≡ length self.now }
+    {
+        self.locals.len()
+    }
+
+    /// Equal binders, to which others may be added. It fails only where memory runs out.
+    pub fn copy(&self, alloc: Global) -> Result<Locals<'a>, AllocError>
+        ensures { IfOk result (λ ls. ls ≡ self.now) }
+    {
+        let locals = Items::from_slice(alloc, self.locals.as_slice())?;
+        Ok(Locals { locals })
+    }
+
+    /// Keeps the oldest binders alone, of this number at most.
+    pub fn keep(&mut self, count: usize)
+        ensures { self.new ≡ drop (length self.old - count) self.old }
+    {
+        while self.locals.len() > count {
+            self.locals.pop();
+        }
     }
 
     /// Drops the newest binder.

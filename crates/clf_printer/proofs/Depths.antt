@@ -9,19 +9,19 @@ use Rattle.clf_sig.specs.Entry.{PlainSignature}
 use Rattle.clf_printer.specs.Depth.{scope_depth, neutral_depth, expression_depth, tuple_depth}
 use Rattle.clf_printer.specs.Text.{when, grouped, listed, is_application, is_atom, mark_text, new_variable_text, binder_text, binders_text, comma, pattern_text, argument_text, tuple_entry_text, step_text, width, tuple_comma, object_text, neutral_text, expression_text, tuple_text}
 
-length-three : (a b c : List ℕ) → length (a ++ b ++ c) ≡ length a + length b + length c
+pub length-three : (a b c : List ℕ) → length (a ++ b ++ c) ≡ length a + length b + length c
 length-three a b c = omega (arith, length-append (a ++ b) c, length-append a b)
 
-length-four : (a b c d : List ℕ) → length (a ++ b ++ c ++ d) ≡ length a + length b + length c + length d
+pub length-four : (a b c d : List ℕ) → length (a ++ b ++ c ++ d) ≡ length a + length b + length c + length d
 length-four a b c d = omega (arith, length-append (a ++ b ++ c) d, length-three a b c)
 
 length-five : (a b c d e : List ℕ) → length (a ++ b ++ c ++ d ++ e) ≡ length a + length b + length c + length d + length e
 length-five a b c d e = omega (arith, length-append (a ++ b ++ c ++ d) e, length-four a b c d)
 
-in-grouped : (wanted : Bool) (text : List ℕ) → length text ≤ length (grouped wanted text)
+pub in-grouped : (wanted : Bool) (text : List ℕ) → length text ≤ length (grouped wanted text)
 in-grouped wanted text = omega (arith, length-three (when wanted (codes "(")) text (when wanted (codes ")")))
 
-in-argument : (m : Mode) (atom : Bool) (text : List ℕ) → length text ≤ length (argument_text m atom text)
+pub in-argument : (m : Mode) (atom : Bool) (text : List ℕ) → length text ≤ length (argument_text m atom text)
 in-argument m atom text = omega (arith, in-grouped (not atom) text, length-three (codes " ") (mark_text m) (grouped (not atom) text))
 
 in-tuple_entry : (m : Mode) (atom : Bool) (text : List ℕ) → length text ≤ length (tuple_entry_text m atom text)

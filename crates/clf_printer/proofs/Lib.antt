@@ -5,3 +5,4 @@ pub mod Spines
 pub mod Appearances
 pub mod Next
 pub mod Depths
+pub mod TypeDepths

@@ -1,11 +1,12 @@
 //! The texts.
-ghost use Rattle.std.specs.Prelude.{◌≡◌, ◌+◌, ◌<◌, ◌^◌, [], IfOk, OnOk};
+ghost use Rattle.std.specs.Prelude.{◌≡◌, ◌+◌, ◌<◌, ◌^◌, [], IfOk, IfSome, OnOk};
 ghost use Rattle.clf_syntax.specs.Plain.{plain_obj};
 ghost use Rattle.clf_syntax.specs.PlainTypes.{plain_ty};
+ghost use Rattle.clf_sig.specs.Entry.{class_at};
 ghost use Rattle.clf_sig.specs.Signature.{plain_signature, plain_entry};
 ghost use Rattle.clf_printer.specs.declared.place.Place.TheVariants.{Whole};
 ghost use Rattle.clf_printer.specs.Text as spec;
-ghost use Rattle.clf_printer.specs.Depth.{scope_depth};
+ghost use Rattle.clf_printer.specs.Depth.{scope_depth, type_depth, class_depth};
 ghost use Rattle.clf_printer.specs.Metas.{appearing, appearing_type};
 ghost use Rattle.clf_printer.specs.Entry.{entry_text as entry_text_of};
 
@@ -41,7 +42,7 @@ pub fn object_text(
 }
 
 /// The text of a type under `level` binders, where metavariables are numbered as in an object. It fails only where memory
-/// runs out.
+/// runs out, so a type that has a text nests fewer binders than 2^64.
 pub fn type_text(
     alloc: Global,
     sig: &Signature,
@@ -49,7 +50,8 @@ pub fn type_text(
     metas: &[u32],
     ty: &Ty,
 ) -> Result<Vec<u8>, AllocError>
-    ensures { IfOk result (λ text. text.items ≡ spec.type_text (plain_signature sig.now) (appearing_type metas.now (plain_ty ty.now)) level Whole (plain_ty ty.now)) }
+    ensures text { IfOk result (λ text. text.items ≡ spec.type_text (plain_signature sig.now) (appearing_type metas.now (plain_ty ty.now)) level Whole (plain_ty ty.now)) }
+    ensures depth { OnOk result (type_depth (plain_ty ty.now) < 2 ^ 64) }
 {
     let mut numbered = Vec::from_slice(alloc, metas)?;
     note_type(&mut numbered, ty)?;
@@ -67,7 +69,8 @@ pub fn type_text(
 
 /// The text of the entry at a place of the signature, or `$` where there is none. It fails only where memory runs out.
 pub fn entry_text(alloc: Global, sig: &Signature, k: u32) -> Result<Vec<u8>, AllocError>
-    ensures { IfOk result (λ text. text.items ≡ entry_text_of (plain_signature sig.now) k) }
+    ensures text { IfOk result (λ text. text.items ≡ entry_text_of (plain_signature sig.now) k) }
+    ensures depth { OnOk result (IfSome (class_at (plain_signature sig.now) k) (λ class. class_depth class < 2 ^ 64)) }
 {
     let mut text = Vec::new(alloc);
     let Some(name) = sig.name(k) else {

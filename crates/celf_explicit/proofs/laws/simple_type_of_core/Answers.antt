@@ -1,0 +1,5 @@
+use Rattle.celf_explicit.proofs.SimpleTypes.{simple_type_of_core}
+use Rattle.celf_explicit.proofs.laws.simple_type_of_core.Goals as goal
+
+pub returns : goal.returns
+returns c = simple_type_of_core

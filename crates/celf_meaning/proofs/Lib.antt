@@ -1,0 +1,9 @@
+pub mod Made
+pub mod Scopes
+pub mod Meanings
+pub mod ObjectsRead
+pub mod TypesRead
+pub mod PlacesIgnored
+pub mod Closed
+pub mod ItemsRead
+pub mod LinesRead
