@@ -1,12 +1,3 @@
-pub mod Places
-pub mod Bare
-pub mod WellFormed
-pub mod Placeless
-pub mod PrintedTypes
-pub mod Locals
-pub mod PrintedObjects
-pub mod ReadsBack
-pub mod ChecksBack
 pub mod Named
 pub mod WellFormedLines
 pub mod LinesBack

@@ -1,13 +1,15 @@
 -- The lines of what is well formed are spelled.
-use Rattle.std.proofs.Common.{ℕ, ◌≡◌, ◌+◌, refl, ap, [], arith}
+use Rattle.std.proofs.Common.{ℕ, ◌≡◌, ◌+◌, ◌<◌, ◌^◌, refl, ap, List, [], IsTrue, arith}
 use Rattle.clf_syntax.specs.declared.tree.Mode.TheVariants.{Persistent, Affine, Linear}
 use Rattle.clf_syntax.specs.TypeTree.{PlainType, family, function, both, top, monad}
-use Rattle.clf_sig.specs.Entry.{PlainClass, family_of, constant_of, PlainSignature}
-use Rattle.clf_rules.specs.WellFormed.{leading_persistent, may_be_implicit}
+use Rattle.clf_syntax.specs.Word.{is_declarable}
+use Rattle.clf_sig.specs.Entry.{PlainClass, family_of, constant_of, PlainEntry, PlainSignature}
+use Rattle.clf_rules.specs.WellFormed.{leading_persistent, may_be_implicit, WellFormedSignature, WellFormedEntry}
+use Rattle.clf_printer.specs.Depth.{class_depth}
 use Rattle.clf_printer.specs.Metas.{appearing, appearing_type}
 use Rattle.celf_sugar.specs.Faults.{leading}
 use Rattle.celf_spelling.specs.Printed.{printed_type}
-use Rattle.celf_spelling.specs.Laws.{in_front}
+use Rattle.celf_spelling.specs.Laws.{in_front, IsPrintableEntry}
 use Rattle.celf_spelling.proofs.Spelled.{entries_are_spelled, checks_are_spelled}
 use Rattle.celf_reading.specs.Lines.{EntryLinesAreSpelled, CheckLinesAreSpelled}
 use Rattle.celf_reading.proofs.Named.{typed-named, formed-printable, class-formed-printable}
@@ -26,9 +28,13 @@ front-printed : (sig : PlainSignature) (c : PlainClass) → in_front sig c ≡ m
 front-printed sig (family_of k) = refl
 front-printed sig (constant_of a) = leading-printed sig a 0
 
+pub printable-entry : (sig : PlainSignature) (name : List ℕ) (e : PlainEntry) → WellFormedSignature sig → IsTrue (is_declarable name) → WellFormedEntry sig e → e.implicit < 2 ^ 32 → class_depth e.class < 2 ^ 64
+    → IsPrintableEntry sig name e
+printable-entry sig name e formed fit h counted small =
+    record { declarable = fit; printable = class-formed-printable sig formed e.class small h.0; counted = counted; leads = omega (arith, h.1, front-printed sig e.class) }
+
 pub entry_lines_are_spelled : EntryLinesAreSpelled
-entry_lines_are_spelled sig name e formed fit h counted small =
-    entries_are_spelled sig [] name e (record { declarable = fit; printable = class-formed-printable sig formed e.class small h.0; counted = counted; leads = omega (arith, h.1, front-printed sig e.class) })
+entry_lines_are_spelled sig name e formed fit h counted small = entries_are_spelled sig [] name e (printable-entry sig name e formed fit h counted small)
 
 pub check_lines_are_spelled : CheckLinesAreSpelled
 check_lines_are_spelled sig n a formed type_formed typed object_fits type_fits =

@@ -8,9 +8,6 @@ pub use Rattle.celf_grammar.specs.Grammar
 pub use Rattle.celf_sugar.specs.PlainTree
 pub use Rattle.celf_sugar.specs.Sugar
 pub use Rattle.celf_sugar.specs.Faults
-pub use Rattle.celf_explicit.specs.Entries
+pub use Rattle.celf_meaning.specs.ReadingBack
 pub use Rattle.clf_printer.specs.Text
-pub mod Reading
-pub mod Checks
-pub mod Bare
 pub mod Lines

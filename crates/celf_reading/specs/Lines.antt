@@ -11,8 +11,17 @@ use Rattle.celf_spelling.specs.Printed.{printed_entry, printed_check}
 use Rattle.celf_spelling.specs.Spelling.{SpellsItem}
 use Rattle.clf_sig.specs.Core.{declares, checks}
 use Rattle.celf_meaning.specs.ReadingBack.{ReadsAs}
-use Rattle.celf_reading.specs.Reading.{entry_line}
-use Rattle.celf_reading.specs.Checks.{judgment_text}
+use Rattle.clf_printer.specs.declared.place.Place.TheVariants.{Whole}
+use Rattle.clf_printer.specs.Text.{object_text, type_text, declaration_text}
+use Rattle.clf_printer.specs.Metas.{appearing, appearing_type}
+
+-- the line of an entry, over the entries before it
+abbrev pub entry_line : PlainSignature → List ℕ → PlainEntry → List ℕ
+entry_line sig name entry = declaration_text sig [] name entry ++ codes "\n"
+
+-- an object and its type, with a colon between
+abbrev pub judgment_text : PlainSignature → PlainObject → PlainType → List ℕ
+judgment_text sig n a = object_text sig (appearing [] n) 0 n ++ codes " : " ++ type_text sig (appearing_type [] a) 0 Whole a ++ codes ".\n"
 
 -- Over a well-formed signature the line of a well-formed entry, under a name that can be declared, spells the entry. Fewer than 2 ^ 32
 -- arguments are implicit, and no part has 2 ^ 64 or more variables bound around it.

@@ -9,7 +9,7 @@ use Rattle.clf_kernel.specs.Answers.{plain_cause}
 use Rattle.celf_replies.specs.declared.reply.Why.{Why}
 use Rattle.celf_replies.specs.declared.reply.Why.TheVariants.{BadByte, LongName, Unexpected, Directive, TooDeep, KindPlace, NotAsync, Redex, OutOfRange, BadImplicit, Duplicate, Full, UnknownName, Kernel, NotYet}
 use Rattle.celf_replies.specs.declared.reply.Reply.{Reply}
-use Rattle.celf_replies.specs.declared.reply.Reply.TheVariants.{Entry, Checked, Refused}
+use Rattle.celf_replies.specs.declared.reply.Reply.TheVariants.{Entry, Checked, Equal, Different, Refused}
 
 pub data PlainWhy : Type 0 where
   bad_byte : PlainWhy
@@ -42,11 +42,16 @@ pub data PlainReply : Type 0 where
   entry : ℕ → PlainReply
   -- an object and its type
   checked : PlainObject → PlainType → PlainReply
+  -- two objects of one type are joined, or not
+  equal : PlainReply
+  different : PlainReply
   refused : PlainRefusal → PlainReply
 
 abbrev pub is_refusal : PlainReply → Bool
 is_refusal (entry k) = false
 is_refusal (checked n a) = false
+is_refusal equal = false
+is_refusal different = false
 is_refusal (refused r) = true
 
 abbrev pub plain_why : Why → PlainWhy
@@ -69,4 +74,6 @@ plain_why NotYet = not_yet
 abbrev pub plain_reply : Reply → PlainReply
 plain_reply (Entry k) = entry k
 plain_reply (Checked obj ty) = checked (plain_obj obj) (plain_ty ty)
+plain_reply Equal = equal
+plain_reply Different = different
 plain_reply (Refused at why) = refused (record { at = at; why = plain_why why })

@@ -1,16 +1,16 @@
 -- The lines of a reply, over the signature that is held behind it.
-use Rattle.std.specs.Prelude.{ℕ, ◌<◌, ◌^◌, true, false, List, [], ◌++◌, codes}
+use Rattle.std.specs.Prelude.{ℕ, ◌<◌, ◌^◌, true, false, List, [], ◌++◌, IfSome, codes}
 use Rattle.std.specs.Fmt.{decimal}
 use Rattle.clf_syntax.specs.Tree.{PlainObject}
 use Rattle.clf_syntax.specs.TypeTree.{PlainType}
-use Rattle.clf_sig.specs.Entry.{PlainSignature}
+use Rattle.clf_sig.specs.Entry.{PlainSignature, class_at}
 use Rattle.clf_printer.specs.declared.place.Place.TheVariants.{Whole}
 use Rattle.clf_printer.specs.Text.{object_text, type_text}
 use Rattle.clf_printer.specs.Metas.{appearing, appearing_type}
-use Rattle.clf_printer.specs.Depth.{scope_depth}
+use Rattle.clf_printer.specs.Depth.{scope_depth, type_depth, class_depth}
 use Rattle.clf_printer.specs.Entry.{entry_text}
 use Rattle.celf_replies.specs.Causes.{cause_text, path_text}
-use Rattle.celf_replies.specs.Reply.{PlainWhy, bad_byte, long_name, unexpected, directive, too_deep, kind_place, not_async, redex, out_of_range, bad_implicit, duplicate, full, unknown_name, kernel, not_yet, PlainReply, entry, checked, refused}
+use Rattle.celf_replies.specs.Reply.{PlainWhy, bad_byte, long_name, unexpected, directive, too_deep, kind_place, not_async, redex, out_of_range, bad_implicit, duplicate, full, unknown_name, kernel, not_yet, PlainReply, entry, checked, equal, different, refused}
 
 -- what is said of a refusal behind its byte
 abbrev pub why_text : PlainSignature → PlainWhy → List ℕ
@@ -41,10 +41,14 @@ refusal_text sig at why = codes "refused at " ++ decimal at ++ codes ": " ++ why
 abbrev pub reply_text : PlainSignature → PlainReply → List ℕ
 reply_text sig (entry k) = entry_text sig k ++ codes "\n"
 reply_text sig (checked n a) = codes "check: " ++ judgment_text sig n a
+reply_text sig equal = codes "equal.\n"
+reply_text sig different = codes "different.\n"
 reply_text sig (refused r) = refusal_text sig r.at r.why
 
 -- The numbers of the variables in a reply are less than 2 ^ 64: so far are they written whole.
-abbrev pub IsNumbered : PlainReply → Type 0
-IsNumbered (entry k) = Unit {0}
-IsNumbered (checked n a) = scope_depth n < 2 ^ 64
-IsNumbered (refused r) = Unit {0}
+abbrev pub IsNumbered : PlainSignature → PlainReply → Type 0
+IsNumbered sig (entry k) = IfSome (class_at sig k) (λ class. class_depth class < 2 ^ 64)
+IsNumbered sig (checked n a) = (scope_depth n < 2 ^ 64) × (type_depth a < 2 ^ 64)
+IsNumbered sig equal = Unit {0}
+IsNumbered sig different = Unit {0}
+IsNumbered sig (refused r) = Unit {0}

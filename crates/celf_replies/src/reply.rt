@@ -45,6 +45,10 @@ pub enum Reply {
     Entry(u32),
     /// The object has the type.
     Checked { obj: Obj, ty: Ty },
+    /// Both objects have the type, and are the same up to the order of independent steps.
+    Equal,
+    /// Both objects have the type, and are not the same.
+    Different,
     /// The item is refused: the byte of the file at which the fault is told, and why.
     Refused { at: u32, why: Why },
 }

@@ -5,7 +5,7 @@ ghost use Rattle.clf_syntax.specs.PlainTypes.{plain_ty};
 ghost use Rattle.clf_sig.specs.Signature.{plain_signature};
 ghost use Rattle.clf_kernel.specs.Answers.{plain_cause};
 ghost use Rattle.clf_printer.specs.Entry.{entry_text as entry_text_of};
-ghost use Rattle.celf_replies.specs.Reply.{plain_why, plain_reply, checked, kernel};
+ghost use Rattle.celf_replies.specs.Reply.{plain_why, plain_reply, entry as entry_reply, checked, kernel};
 ghost use Rattle.celf_replies.specs.Text as spec;
 ghost use Rattle.clf_syntax.specs.Wide.{IsWant};
 
@@ -20,12 +20,14 @@ use std::alloc::{AllocError, Global};
 /// The lines of a reply, over the signature that is held behind it.
 pub fn reply_text(alloc: Global, sig: &Signature, reply: &Reply) -> Result<Vec<u8>, Want>
     ensures text { IfOk result (λ text. text.items ≡ spec.reply_text (plain_signature sig.now) (plain_reply reply.now)) }
-    ensures numbered { OnOk result (spec.IsNumbered (plain_reply reply.now)) }
+    ensures numbered { OnOk result (spec.IsNumbered (plain_signature sig.now) (plain_reply reply.now)) }
     ensures wide { IfErr result IsWant }
 {
     match reply {
         Reply::Entry(place) => entry_line(alloc, sig, *place),
         Reply::Checked { obj, ty } => check_line(alloc, sig, obj, ty),
+        Reply::Equal => Ok(Vec::from_slice(alloc, b"equal.\n")?),
+        Reply::Different => Ok(Vec::from_slice(alloc, b"different.\n")?),
         Reply::Refused { at, why } => refusal_line(alloc, sig, *at, why),
     }
 }
@@ -33,6 +35,7 @@ pub fn reply_text(alloc: Global, sig: &Signature, reply: &Reply) -> Result<Vec<u
 /// The line of the entry at a place.
 fn entry_line(alloc: Global, sig: &Signature, place: u32) -> Result<Vec<u8>, Want>
     ensures line { IfOk result (λ line. line.items ≡ entry_text_of (plain_signature sig.now) place ++ codes "\n") }
+    ensures numbered { OnOk result (spec.IsNumbered (plain_signature sig.now) (entry_reply place)) }
     ensures wide { IfErr result IsWant }
 {
     let mut line = entry_text(alloc, sig, place)?;
@@ -43,7 +46,7 @@ fn entry_line(alloc: Global, sig: &Signature, place: u32) -> Result<Vec<u8>, Wan
 /// The line of an object and its type.
 fn check_line(alloc: Global, sig: &Signature, obj: &Obj, ty: &Ty) -> Result<Vec<u8>, Want>
     ensures line { IfOk result (λ line. line.items ≡ spec.reply_text (plain_signature sig.now) (checked (plain_obj obj.now) (plain_ty ty.now))) }
-    ensures numbered { OnOk result (spec.IsNumbered (checked (plain_obj obj.now) (plain_ty ty.now))) }
+    ensures numbered { OnOk result (spec.IsNumbered (plain_signature sig.now) (checked (plain_obj obj.now) (plain_ty ty.now))) }
     ensures wide { IfErr result IsWant }
 {
     let object = object_text(alloc, sig, 0, &[], obj)?;

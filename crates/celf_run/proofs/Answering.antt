@@ -13,7 +13,10 @@ use Rattle.clf_sig.specs.Entry.{entry_limit, PlainEntry, PlainSignature, place_o
 use Rattle.clf_sig.specs.Signature.{Declared as Declarations, plain_signature, plain_entry}
 use Rattle.clf_sig.proofs.Names.{plain_signature-append}
 use Rattle.clf_rules.specs.Typing.{HasType}
-use Rattle.clf_rules.specs.Explained.{ExplainedAt}
+use Rattle.clf_rules.specs.WellFormed.{WellFormedType, WellFormedEntry}
+use Rattle.clf_rules.specs.Explained.{ExplainedInClass}
+use Rattle.trace_equal.specs.Exchange.{Joined}
+use Rattle.clf_kernel.specs.Exact.{ChecksEntry}
 use Rattle.clf_rules.specs.Refusal.{Cause}
 use Rattle.clf_kernel.specs.declared.refusal.Refusal.{Refusal}
 use Rattle.clf_kernel.specs.Answers.{plain_cause}
@@ -24,23 +27,23 @@ use Rattle.celf_surface.specs.Surface.{WrittenBody, WrittenItem, declare, query,
 use Rattle.celf_parser.specs.Place.{HasDeclarableName}
 use Rattle.celf_sugar.specs.declared.fault.SugarFault.{SugarFault}
 use Rattle.celf_sugar.specs.declared.fault.SugarFault.TheVariants.{NoMemory as NoRoom}
-use Rattle.celf_sugar.specs.PlainTree.{DesugaredItem}
+use Rattle.celf_sugar.specs.PlainTree.{DesugaredItem, DesugaredClass}
+use Rattle.celf_sugar.specs.PlainTree as plain
 use Rattle.celf_sugar.specs.Sugar.{body, desugared}
 use Rattle.celf_sugar.specs.Faults.{first_fault}
 use Rattle.celf_sugar.specs.Answers.{IsFirst}
 use Rattle.celf_explicit.specs.Unknown.{first_unknown}
 use Rattle.celf_explicit.proofs.Options.{option_map-some}
-use Rattle.celf_reading.specs.Bare.{IsBareSignature, IsBareType, IsBareEntry}
-use Rattle.celf_reading.proofs.WellFormed.{bare-type, bare-entry, unnamed}
 use Rattle.celf_replies.specs.declared.reply.Reply.{Reply}
-use Rattle.celf_replies.specs.Reply.{PlainWhy, duplicate, full, unknown_name, PlainReply, plain_reply, entry, checked, refused}
+use Rattle.celf_replies.specs.Reply.{PlainWhy, duplicate, full, unknown_name, PlainReply, plain_reply, entry, checked, equal as equal_reply, different as different_reply, refused}
 use Rattle.celf_run.specs.declared.options.Options.{Options}
 use Rattle.clf_sig.specs.Core.{PlainCore, declares, queries, traces, equates, checks}
-use Rattle.celf_explicit.specs.Explicit.{explicit, standing}
+use Rattle.celf_explicit.specs.Explicit.{standing}
+use Rattle.celf_explicit.specs.Items.{core_of}
 use Rattle.celf_run.specs.Source.{written}
-use Rattle.celf_run.specs.Allowed.{Held, holding, declared_name, NameBarred, is_duplicate, is_full, NamePasses, Barred, by_unknown, Passes, HasCore, is_explicit, IsExplained, in_object, Declined, by_rules, Fits, accepted, typed, PlainAllowed, barred, declined, answered, Allowed, sugar_fault, plainly, sugar_refusal}
-use Rattle.celf_run.specs.Answering.{NameVerdict, MayBeDeclared, IsWithinReach, AnswersCore, fits, explained, refused_by_rules, JudgesClosed, IsReplyToFault}
-use Rattle.celf_run.proofs.Cores.{explicit-read}
+use Rattle.celf_run.specs.Allowed.{Held, holding, declared_name, NameBarred, is_duplicate, is_full, NamePasses, Barred, by_unknown, Passes, HasCore, is_explicit, IsTyped, IsUntyped, IsIllFormed, IsExplained, in_class, in_type, in_object, in_common_type, in_first, in_second, IsBeyondReach, Declined, by_rules, not_answered, Fits, accepted, typed, same, differing, PlainAllowed, barred, declined, answered, Allowed, sugar_fault, plainly, sugar_refusal}
+use Rattle.celf_run.specs.Answering.{NameVerdict, MayBeDeclared, MayBeAdded, AnswersCore, fits, explained, beyond, refused_by_rules, refused_as_beyond, FormsClosed, JudgesClosed, IsReplyToFault, ExplainsCore, Compares}
+use Rattle.celf_run.proofs.Cores.{unnamed, written-fits, declared-fits}
 
 none_of : {A : Type 0} (r : Option A) → is_some r ≡ false → r ≡ None
 none_of None h = refl
@@ -58,16 +61,19 @@ plain-added old new name e h = ap plain_signature h ∙ plain_signature-append o
 
 -- ---- names
 
--- The name that an item declares may be declared.
-pub may-be-declared : (item : WrittenItem) (plain : DesugaredItem) → plain ≡ desugared item → HasDeclarableName item.body → MayBeDeclared plain
-may-be-declared item plain is h name e = go item.body h (ap (λ (p : DesugaredItem). declared_name p.body) (sym is) ∙ e)
+-- The name that an item declares may be declared, with so many implicit arguments.
+pub may-be-declared : (item : WrittenItem) (plain : DesugaredItem) → plain ≡ desugared item → first_fault item ≡ None → HasDeclarableName item.body → MayBeDeclared plain
+may-be-declared item plain is clean h = record {
+  name = λ name e. go name item.body h (ap (λ (p : DesugaredItem). declared_name p.body) (sym is) ∙ e);
+  implicit = λ name count class e. written-fits item clean name count class (ap (λ (p : DesugaredItem). p.body) (sym is) ∙ e);
+}
   where
-    go : (b : WrittenBody) → HasDeclarableName b → declared_name (body b) ≡ Some name → is_declarable name ≡ true
-    go (declare n i t) h e = let n_is : n ≡ name = cc in subst (λ (x : List ℕ). is_declarable x ≡ true) n_is h
-    go (query d e' l a t) h e = absurd (cc)
-    go (trace n t) h e = absurd (cc)
-    go (equal l r t) h e = absurd (cc)
-    go (check o t) h e = absurd (cc)
+    go : (name : List ℕ) (b : WrittenBody) → HasDeclarableName b → declared_name (body b) ≡ Some name → is_declarable name ≡ true
+    go name (declare n i t) h e = let n_is : n ≡ name = cc in subst (λ (x : List ℕ). is_declarable x ≡ true) n_is h
+    go name (query d e' l a t) h e = absurd (cc)
+    go name (trace n t) h e = absurd (cc)
+    go name (equal l r t) h e = absurd (cc)
+    go name (check o t) h e = absurd (cc)
 
 -- An item that declares no name passes.
 pub nameless-passes : (sig : PlainSignature) (item : DesugaredItem) → declared_name item.body ≡ None → NamePasses sig item
@@ -97,47 +103,94 @@ passes-new sig item name passes d = go (place_of name sig) refl
 
 -- ---- cores
 
-pub within-reach : (sig : PlainSignature) (item : DesugaredItem) (core : PlainCore) → IsBareSignature sig → MayBeDeclared item → NamePasses sig item
-    → explicit sig item ≡ Some core → IsWithinReach sig core
-within-reach sig item (declares n e) b may passes h =
-    let read = explicit-read sig item.body (declares n e) b h in
+pub may-be-added : (sig : PlainSignature) (item : DesugaredItem) (core : PlainCore) → MayBeDeclared item → NamePasses sig item → core_of sig item ≡ Some core → MayBeAdded sig core
+may-be-added sig item (declares n e) may passes h =
+    let read = declared-fits sig item n e may.implicit h in
     let new = passes-new sig item n passes read.0 in
-    (new, (λ l. passes full (is_full read.0 new l)), may n read.0, read.1)
-within-reach sig item (queries a) b may passes h = explicit-read sig item.body (queries a) b h
-within-reach sig item (traces t) b may passes h = explicit-read sig item.body (traces t) b h
-within-reach sig item (equates n o a) b may passes h = explicit-read sig item.body (equates n o a) b h
-within-reach sig item (checks n a) b may passes h = explicit-read sig item.body (checks n a) b h
+    (new, (λ l. passes full (is_full read.0 new l)), may.name n read.0, read.1)
+may-be-added sig item (queries a) may passes h = tt
+may-be-added sig item (traces t) may passes h = tt
+may-be-added sig item (equates n o a) may passes h = tt
+may-be-added sig item (checks n a) may passes h = tt
 
--- A declaration within reach may follow the signature.
-pub accepts : (options : Options) (sig new : PlainSignature) (at : ℕ) (name : List ℕ) (e : PlainEntry) (reply : PlainReply) → IsWithinReach sig (declares name e)
+-- A well-formed entry that may be added is accepted.
+pub accepts : (options : Options) (sig new : PlainSignature) (at : ℕ) (name : List ℕ) (e : PlainEntry) (reply : PlainReply) → MayBeAdded sig (declares name e) → WellFormedEntry sig e
     → reply ≡ entry (length sig) → new ≡ sig ++ (name, e) ∷ [] → AnswersCore options (holding sig) at (declares name e) reply (holding new)
-accepts options sig new at name e reply reach is added =
+accepts options sig new at name e reply may formed is added =
     let fit : AnswersCore options (holding sig) at (declares name e) (entry (length sig)) (holding (sig ++ (name, e) ∷ [])) =
-    fits (accepted (reach.2, unnamed sig name reach.0, bare-entry sig e reach.3)) in
+    fits (accepted (may.2, unnamed sig name may.0, formed)) in
     subst (λ (r : PlainReply). AnswersCore options (holding sig) at (declares name e) r (holding new)) (sym is)
     (subst (λ (s : PlainSignature). AnswersCore options (holding sig) at (declares name e) (entry (length sig)) (holding s)) (sym added) fit)
 
--- An object that has its type is told.
-pub tells-typed : (options : Options) (sig : PlainSignature) (at : ℕ) (n : PlainObject) (a : PlainType) → IsWithinReach sig (checks n a) → HasType sig [] [] n a
-    → AnswersCore options (holding sig) at (checks n a) (checked n a) (holding sig)
-tells-typed options sig at n a reach has = fits (typed (bare-type sig [] a reach) has)
+-- What the kernel tells against a part of a core is told, or what is wanted.
+pub fault-told : (options : Options) (sig : PlainSignature) (at part : ℕ) (core : PlainCore) (fault : OrWide Refusal) (r : Result Reply Want) → ExplainsCore sig core part fault → IsReplyToFault at part fault r
+    → IfOk r (λ reply. AnswersCore options (holding sig) at core (plain_reply reply) (holding sig)) × IfErr r IsWant
+fault-told options sig at part core (Fault f) (Ok reply) why is =
+    let told : AnswersCore options (holding sig) at core (refused_by_rules at (part ∷ f.path.items) (plain_cause f.cause)) (holding sig) = explained why in
+    (subst (λ (x : PlainReply). AnswersCore options (holding sig) at core x (holding sig)) (sym is) told, tt)
+fault-told options sig at part core (Fault f) (Err want) why is = (tt, is)
+fault-told options sig at part core NoMemory (Ok reply) why is = absurd (cc)
+fault-told options sig at part core NoMemory (Err want) why is = let want_is : no_memory ≡ want = cc in (tt, subst IsWant want_is tt)
+fault-told options sig at part core (TooFar w) (Ok reply) why is = absurd (cc)
+fault-told options sig at part core (TooFar w) (Err want) why is = let want_is : too_far w ≡ want = cc in (tt, subst IsWant want_is why)
 
--- An object that has not is refused.
-pub tells-refusal : (options : Options) (sig : PlainSignature) (at : ℕ) (n : PlainObject) (a : PlainType) (path : List ℕ) (cause : Cause) (reply : PlainReply) → IsWithinReach sig (checks n a)
-    → (HasType sig [] [] n a → ⊥) → ExplainedAt sig [] [] n a path cause → reply ≡ refused_by_rules at (1 ∷ path) cause
-    → AnswersCore options (holding sig) at (checks n a) reply (holding sig)
-tells-refusal options sig at n a path cause reply reach none why is =
-    let told : AnswersCore options (holding sig) at (checks n a) (refused_by_rules at (1 ∷ path) cause) (holding sig) = explained (in_object (bare-type sig [] a reach) none why) in
-    subst (λ (r : PlainReply). AnswersCore options (holding sig) at (checks n a) r (holding sig)) (sym is) told
+-- against an entry
+pub entry-fault : (sig : PlainSignature) (name : List ℕ) (e : PlainEntry) (fault : OrWide Refusal) → ChecksEntry sig e (Err fault) → ExplainsCore sig (declares name e) 0 fault
+entry-fault sig name e (Fault f) told = in_class told.0 told.1
+entry-fault sig name e NoMemory told = tt
+entry-fault sig name e (TooFar w) told = told
+
+-- against a type or an object of a check
+pub type-fault : (sig : PlainSignature) (n : PlainObject) (a : PlainType) (fault : OrWide Refusal) → FormsClosed sig a (Err fault) → ExplainsCore sig (checks n a) 0 fault
+type-fault sig n a (Fault f) told = in_type told
+type-fault sig n a NoMemory told = tt
+type-fault sig n a (TooFar w) told = told
+
+pub object-fault : (sig : PlainSignature) (n : PlainObject) (a : PlainType) (fault : OrWide Refusal) → JudgesClosed sig n a (Err fault) → ExplainsCore sig (checks n a) 1 fault
+object-fault sig n a (Fault f) told = in_object told
+object-fault sig n a NoMemory told = tt
+object-fault sig n a (TooFar w) told = told
+
+-- and of an equation
+pub common-fault : (sig : PlainSignature) (n o : PlainObject) (a : PlainType) (fault : OrWide Refusal) → FormsClosed sig a (Err fault) → ExplainsCore sig (equates n o a) 0 fault
+common-fault sig n o a (Fault f) told = in_common_type told
+common-fault sig n o a NoMemory told = tt
+common-fault sig n o a (TooFar w) told = told
+
+pub first-fault : (sig : PlainSignature) (n o : PlainObject) (a : PlainType) (fault : OrWide Refusal) → JudgesClosed sig n a (Err fault) → ExplainsCore sig (equates n o a) 1 fault
+first-fault sig n o a (Fault f) told = in_first told
+first-fault sig n o a NoMemory told = tt
+first-fault sig n o a (TooFar w) told = told
+
+pub second-fault : (sig : PlainSignature) (n o : PlainObject) (a : PlainType) (fault : OrWide Refusal) → IsTyped sig n a → JudgesClosed sig o a (Err fault) → ExplainsCore sig (equates n o a) 2 fault
+second-fault sig n o a (Fault f) t told = in_second t told
+second-fault sig n o a NoMemory t told = tt
+second-fault sig n o a (TooFar w) t told = told
+
+-- Two typed objects are compared.
+pub comparison-told : (options : Options) (sig : PlainSignature) (at : ℕ) (n o : PlainObject) (a : PlainType) (reply : PlainReply) → IsTyped sig n a → IsTyped sig o a → Compares n o reply
+    → AnswersCore options (holding sig) at (equates n o a) reply (holding sig)
+comparison-told options sig at n o a reply t u (inl (is, joined)) =
+    let told : AnswersCore options (holding sig) at (equates n o a) equal_reply (holding sig) = fits (same t u joined) in
+    subst (λ (x : PlainReply). AnswersCore options (holding sig) at (equates n o a) x (holding sig)) (sym is) told
+comparison-told options sig at n o a reply t u (inr (is, apart)) =
+    let told : AnswersCore options (holding sig) at (equates n o a) different_reply (holding sig) = fits (differing t u apart) in
+    subst (λ (x : PlainReply). AnswersCore options (holding sig) at (equates n o a) x (holding sig)) (sym is) told
+
+pub compared-told : (options : Options) (sig : PlainSignature) (at : ℕ) (n o : PlainObject) (a : PlainType) (r : Result Reply Want) → IsTyped sig n a → IsTyped sig o a
+    → IfOk r (λ reply. Compares n o (plain_reply reply)) → IfOk r (λ reply. AnswersCore options (holding sig) at (equates n o a) (plain_reply reply) (holding sig))
+compared-told options sig at n o a (Ok reply) t u told = comparison-told options sig at n o a (plain_reply reply) t u told
+compared-told options sig at n o a (Err want) t u told = tt
 
 -- What a core comes to answers its item.
 pub core-allowed : (options : Options) (old new : PlainSignature) (item : DesugaredItem) (core : PlainCore) (reply : PlainReply) → NamePasses old item → first_unknown old item ≡ None
-    → explicit old item ≡ Some core → AnswersCore options (holding old) item.span.start core reply (holding new) → PlainAllowed options (holding old) item reply (holding new)
+    → core_of old item ≡ Some core → AnswersCore options (holding old) item.span.start core reply (holding new) → PlainAllowed options (holding old) item reply (holding new)
 core-allowed options old new item core reply passes known h (fits f) = answered (record { name = passes; known = known }) (is_explicit h) f
 core-allowed options old new item core reply passes known h (explained x) = declined (record { name = passes; known = known }) (by_rules (is_explicit h) x)
+core-allowed options old new item core reply passes known h (beyond x) = declined (record { name = passes; known = known }) (not_answered (is_explicit h) x)
 
 pub core-answers : (options : Options) (old new : PlainSignature) (item : DesugaredItem) (core : PlainCore) (r : Result Reply Want) → NamePasses old item → first_unknown old item ≡ None
-    → explicit old item ≡ Some core → IfOk r (λ reply. AnswersCore options (holding old) item.span.start core (plain_reply reply) (holding new))
+    → core_of old item ≡ Some core → IfOk r (λ reply. AnswersCore options (holding old) item.span.start core (plain_reply reply) (holding new))
     → IfOk r (λ reply. PlainAllowed options (holding old) item (plain_reply reply) (holding new))
 core-answers options old new item core (Ok reply) passes known h a = core-allowed options old new item core (plain_reply reply) passes known h a
 core-answers options old new item core (Err e) passes known h a = tt
@@ -173,20 +226,8 @@ unknown-barred sig item name span passes h =
     (subst (λ (n : List ℕ). Barred sig item (record { at = found.0.span.start; why = unknown_name n })) name_is by)
 
 -- What is added comes to an accepted declaration.
-pub core-accepted : (options : Options) (sig new : PlainSignature) (at : ℕ) (name : List ℕ) (e : PlainEntry) (r : Result Reply Want) → IsWithinReach sig (declares name e)
+pub core-accepted : (options : Options) (sig new : PlainSignature) (at : ℕ) (name : List ℕ) (e : PlainEntry) (r : Result Reply Want) → MayBeAdded sig (declares name e) → WellFormedEntry sig e
     → IfOk r (λ reply. plain_reply reply ≡ entry (length sig)) → OnOk r (new ≡ sig ++ (name, e) ∷ [])
     → IfOk r (λ reply. AnswersCore options (holding sig) at (declares name e) (plain_reply reply) (holding new))
-core-accepted options sig new at name e (Ok reply) reach is added = accepts options sig new at name e (plain_reply reply) reach is added
-core-accepted options sig new at name e (Err x) reach is added = tt
-
--- What the kernel tells against an object is told, or what is wanted.
-pub core-refused : (options : Options) (sig : PlainSignature) (at : ℕ) (n : PlainObject) (a : PlainType) (fault : OrWide Refusal) (r : Result Reply Want) → IsWithinReach sig (checks n a)
-    → JudgesClosed sig n a (Err fault) → IsReplyToFault at fault r
-    → IfOk r (λ reply. AnswersCore options (holding sig) at (checks n a) (plain_reply reply) (holding sig)) × IfErr r IsWant
-core-refused options sig at n a (Fault f) (Ok reply) reach judged is =
-    (tells-refusal options sig at n a f.path.items (plain_cause f.cause) (plain_reply reply) reach judged.0 judged.1 is, tt)
-core-refused options sig at n a (Fault f) (Err want) reach judged is = (tt, is)
-core-refused options sig at n a NoMemory (Ok reply) reach judged is = absurd (cc)
-core-refused options sig at n a NoMemory (Err want) reach judged is = let want_is : no_memory ≡ want = cc in (tt, subst IsWant want_is tt)
-core-refused options sig at n a (TooFar w) (Ok reply) reach judged is = absurd (cc)
-core-refused options sig at n a (TooFar w) (Err want) reach judged is = let want_is : too_far w ≡ want = cc in (tt, subst IsWant want_is judged)
+core-accepted options sig new at name e (Ok reply) may formed is added = accepts options sig new at name e (plain_reply reply) may formed is added
+core-accepted options sig new at name e (Err x) may formed is added = tt

@@ -1,22 +1,23 @@
--- Over a bare signature a task has one allowed reply.
-use Rattle.std.proofs.Common.{ℕ, ◌≡◌, true, refl, sym, ap, ◌∙◌, subst, Option, Some, None, List, [], ◌∷◌, ◌++◌}
+-- Over a well-formed signature a task has one allowed reply.
+use Rattle.std.proofs.Common.{ℕ, ◌≡◌, ◌≤◌, true, refl, sym, ap, ◌∙◌, subst, Option, Some, None, List, [], ◌∷◌, ◌++◌}
 use Rattle.clf_syntax.specs.Tree.{PlainObject}
 use Rattle.clf_syntax.specs.TypeTree.{PlainType}
 use Rattle.clf_sig.specs.Entry.{PlainEntry, PlainSignature, place_of}
 use Rattle.clf_sig.specs.Core.{PlainCore, declares, queries, traces, equates, checks}
+use Rattle.clf_rules.specs.WellFormed.{WellFormedSignature, may_be_implicit}
 use Rattle.clf_rules.specs.Refusal.{Cause}
 use Rattle.celf_surface.specs.Surface.{WrittenItem}
 use Rattle.celf_sugar.specs.PlainTree.{DesugaredItem}
 use Rattle.celf_sugar.specs.Sugar.{desugared}
-use Rattle.celf_explicit.specs.Explicit.{explicit}
-use Rattle.celf_reading.specs.Bare.{IsBareSignature}
-use Rattle.celf_reading.proofs.WellFormed.{bare-signature}
+use Rattle.celf_explicit.specs.Items.{core_of}
 use Rattle.celf_replies.specs.Reply.{PlainWhy, duplicate, full, unknown_name, kernel, PlainRefusal, PlainReply, refused}
 use Rattle.celf_run.specs.declared.options.Options.{Options}
 use Rattle.celf_run.specs.Source.{Task, written, faulty}
-use Rattle.celf_run.specs.Allowed.{Held, holding, NameBarred, is_duplicate, is_full, NamePasses, Barred, by_name, by_unknown, Passes, HasCore, is_explicit, IsExplained, in_object, Declined, by_rules, not_explicit, not_bare, Fits, accepted, typed, PlainAllowed, barred, declined, answered, Allowed, at_fault, sugar_fault, plainly, sugar_refusal}
+use Rattle.celf_run.specs.Allowed.{Held, holding, NameBarred, is_duplicate, is_full, NamePasses, Barred, by_name, by_unknown, Passes, HasCore, is_explicit, IsTyped, IsUntyped, IsIllFormed, IsExplained, in_class, in_type, in_object, in_common_type, in_first, in_second, IsBeyondReach, Declined, by_rules, not_explicit, not_answered, Fits, accepted, typed, same, differing, PlainAllowed, barred, declined, answered, Allowed, at_fault, sugar_fault, plainly, sugar_refusal}
+use Rattle.celf_run.specs.Answering.{StandInFront}
 use Rattle.celf_run.specs.Laws.{ReplyIsOne}
-use Rattle.celf_run.proofs.Closed.{closed-decided}
+use Rattle.celf_run.proofs.Closed.{object-decided, type-decided, entry-decided}
+use Rattle.celf_run.proofs.Cores.{written-fits, declared-fits}
 
 -- what stands in the same option
 some-one : {A : Type 0} (o : Option A) (x y : A) → o ≡ Some x → o ≡ Some y → x ≡ y
@@ -44,74 +45,141 @@ passes-free : (sig : PlainSignature) (item : DesugaredItem) (r : PlainRefusal) �
 passes-free sig item r p (by_name x) = p.name _ x
 passes-free sig item r p (by_unknown {name = name} q e) = not-both _ name p.known e
 
-explained-one : (sig : PlainSignature) (core : PlainCore) (path other : List ℕ) (cause because : Cause) → IsBareSignature sig
-    → IsExplained sig core path cause → IsExplained sig core other because → kernel path cause ≡ kernel other because
-explained-one sig (checks n a) path other cause because b (in_object {path = p} f none x) (in_object {path = q} g never y) =
-    let one = (closed-decided sig n a (bare-signature sig b) f).one p q cause because x y in
-    let path_is : p ≡ q = one.0 in
-    let cause_is : cause ≡ because = one.1 in
-    rw (path_is, cause_is) refl
-explained-one sig (declares n e) path other cause because b x y = elim x [ ]
-explained-one sig (queries a) path other cause because b x y = elim x [ ]
-explained-one sig (traces t) path other cause because b x y = elim x [ ]
-explained-one sig (equates n o a) path other cause because b x y = elim x [ ]
+-- ---- one refusal by the rules
 
-declined-one : (sig : PlainSignature) (item : DesugaredItem) (why because : PlainWhy) → IsBareSignature sig → Declined sig item why → Declined sig item because → why ≡ because
-declined-one sig item why because b (by_rules {core = core} {path = path} {cause = cause} (is_explicit h) x) (by_rules {core = core'} {path = path'} {cause = cause'} (is_explicit k) y) =
-    let same = some-one _ core' core k h in
-    explained-one sig core path path' cause cause' b x (subst (λ (c : PlainCore). IsExplained sig c path' cause') same y)
-declined-one sig item why because b (by_rules {core = core} (is_explicit h) x) (not_explicit e) = absurd (not-both _ core e h)
-declined-one sig item why because b (not_explicit e) (by_rules {core = core} (is_explicit h) x) = absurd (not-both _ core e h)
-declined-one sig item why because b (not_explicit e) (not_explicit f) = refl
-declined-one sig item why because b (not_bare n) y = absurd (n b)
-declined-one sig item why because b (by_rules c x) (not_bare n) = absurd (n b)
-declined-one sig item why because b (not_explicit e) (not_bare n) = absurd (n b)
+same-kernel : (path other : List ℕ) (cause because : Cause) → path ≡ other → cause ≡ because → kernel path cause ≡ kernel other because
+same-kernel path other cause because e f = rw (e, f) refl
+
+type-one : (sig : PlainSignature) (a : PlainType) (part : ℕ) (p q : List ℕ) (cause because : Cause) → WellFormedSignature sig → IsIllFormed sig a p cause → IsIllFormed sig a q because
+    → kernel (part ∷ p) cause ≡ kernel (part ∷ q) because
+type-one sig a part p q cause because w x y =
+    let one = (type-decided sig a w).one p q cause because x.explained y.explained in same-kernel (part ∷ p) (part ∷ q) cause because (ap (λ (l : List ℕ). part ∷ l) one.0) one.1
+
+object-one : (sig : PlainSignature) (n : PlainObject) (a : PlainType) (part : ℕ) (p q : List ℕ) (cause because : Cause) → WellFormedSignature sig → IsUntyped sig n a p cause → IsUntyped sig n a q because
+    → kernel (part ∷ p) cause ≡ kernel (part ∷ q) because
+object-one sig n a part p q cause because w x y =
+    let one = (object-decided sig n a w x.formed).one p q cause because x.explained y.explained in same-kernel (part ∷ p) (part ∷ q) cause because (ap (λ (l : List ℕ). part ∷ l) one.0) one.1
+
+-- what is presupposed of a core: of a declaration, that its implicit arguments stand in front
+abbrev IsFit : PlainCore → Type 0
+IsFit (declares n e) = e.implicit ≤ may_be_implicit e.class
+IsFit (queries a) = Unit {0}
+IsFit (traces t) = Unit {0}
+IsFit (equates n o a) = Unit {0}
+IsFit (checks n a) = Unit {0}
+
+is-fit : (sig : PlainSignature) (item : DesugaredItem) (core : PlainCore) → StandInFront item → core_of sig item ≡ Some core → IsFit core
+is-fit sig item (declares n e) stand h = (declared-fits sig item n e stand h).1
+is-fit sig item (queries a) stand h = tt
+is-fit sig item (traces t) stand h = tt
+is-fit sig item (equates n o a) stand h = tt
+is-fit sig item (checks n a) stand h = tt
+
+explained-one : (sig : PlainSignature) (core : PlainCore) (path other : List ℕ) (cause because : Cause) → WellFormedSignature sig → IsFit core
+    → IsExplained sig core path cause → IsExplained sig core other because → kernel path cause ≡ kernel other because
+explained-one sig (declares n e) path other cause because w fit (in_class {path = p} no x) (in_class {path = q} never y) =
+    let one = (entry-decided sig e w fit).one p q cause because x y in same-kernel (0 ∷ p) (0 ∷ q) cause because (ap (λ (l : List ℕ). 0 ∷ l) one.0) one.1
+explained-one sig (checks n a) path other cause because w fit (in_type {path = p} x) (in_type {path = q} y) = type-one sig a 0 p q cause because w x y
+explained-one sig (checks n a) path other cause because w fit (in_type x) (in_object y) = absurd (x.formed_not y.formed)
+explained-one sig (checks n a) path other cause because w fit (in_object x) (in_type y) = absurd (y.formed_not x.formed)
+explained-one sig (checks n a) path other cause because w fit (in_object {path = p} x) (in_object {path = q} y) = object-one sig n a 1 p q cause because w x y
+explained-one sig (equates n o a) path other cause because w fit (in_common_type {path = p} x) (in_common_type {path = q} y) = type-one sig a 0 p q cause because w x y
+explained-one sig (equates n o a) path other cause because w fit (in_common_type x) (in_first y) = absurd (x.formed_not y.formed)
+explained-one sig (equates n o a) path other cause because w fit (in_common_type x) (in_second t y) = absurd (x.formed_not t.formed)
+explained-one sig (equates n o a) path other cause because w fit (in_first x) (in_common_type y) = absurd (y.formed_not x.formed)
+explained-one sig (equates n o a) path other cause because w fit (in_first {path = p} x) (in_first {path = q} y) = object-one sig n a 1 p q cause because w x y
+explained-one sig (equates n o a) path other cause because w fit (in_first x) (in_second t y) = absurd (x.has_not t.has)
+explained-one sig (equates n o a) path other cause because w fit (in_second t x) (in_common_type y) = absurd (y.formed_not t.formed)
+explained-one sig (equates n o a) path other cause because w fit (in_second t x) (in_first y) = absurd (y.has_not t.has)
+explained-one sig (equates n o a) path other cause because w fit (in_second {path = p} t x) (in_second {path = q} u y) = object-one sig o a 2 p q cause because w x y
+explained-one sig (queries a) path other cause because w fit x y = elim x [ ]
+explained-one sig (traces t) path other cause because w fit x y = elim x [ ]
+
+-- what is out of reach is not explained
+beyond-unexplained : (sig : PlainSignature) (core : PlainCore) (path : List ℕ) (cause : Cause) → IsBeyondReach core → IsExplained sig core path cause → ⊥
+beyond-unexplained sig (declares n e) path cause b x = b
+beyond-unexplained sig (queries a) path cause b x = elim x [ ]
+beyond-unexplained sig (traces t) path cause b x = elim x [ ]
+beyond-unexplained sig (equates n o a) path cause b x = b
+beyond-unexplained sig (checks n a) path cause b x = b
+
+declined-one : (sig : PlainSignature) (item : DesugaredItem) (why because : PlainWhy) → WellFormedSignature sig → StandInFront item → Declined sig item why → Declined sig item because → why ≡ because
+declined-one sig item why because w stand (by_rules {core = core} {path = path} {cause = cause} (is_explicit h) x) (by_rules {core = core'} {path = path'} {cause = cause'} (is_explicit k) y) =
+    let same_core = some-one _ core' core k h in
+    explained-one sig core path path' cause cause' w (is-fit sig item core stand h) x (subst (λ (c : PlainCore). IsExplained sig c path' cause') same_core y)
+declined-one sig item why because w stand (by_rules {core = core} (is_explicit h) x) (not_explicit e) = absurd (not-both _ core e h)
+declined-one sig item why because w stand (by_rules {core = core} {path = path} {cause = cause} (is_explicit h) x) (not_answered {core = core'} (is_explicit k) b) =
+    absurd (beyond-unexplained sig core path cause (subst IsBeyondReach (some-one _ core' core k h) b) x)
+declined-one sig item why because w stand (not_explicit e) (by_rules {core = core} (is_explicit h) x) = absurd (not-both _ core e h)
+declined-one sig item why because w stand (not_explicit e) (not_explicit f) = refl
+declined-one sig item why because w stand (not_explicit e) (not_answered c b) = refl
+declined-one sig item why because w stand (not_answered {core = core'} (is_explicit k) b) (by_rules {core = core} {path = path} {cause = cause} (is_explicit h) x) =
+    absurd (beyond-unexplained sig core path cause (subst IsBeyondReach (some-one _ core' core k h) b) x)
+declined-one sig item why because w stand (not_answered c b) (not_explicit e) = refl
+declined-one sig item why because w stand (not_answered c b) (not_answered d b') = refl
 
 refused-unfit : (options : Options) (held new : Held) (core : PlainCore) (path : List ℕ) (cause : Cause) (reply : PlainReply) → IsExplained held.signature core path cause
     → Fits options held core reply new → ⊥
-refused-unfit options held new (checks n a) path cause reply (in_object f none x) (typed g has) = none has
-refused-unfit options held new (declares n e) path cause reply x y = elim x [ ]
+refused-unfit options held new (declares n e) path cause reply (in_class no x) (accepted stand) = no may.2
+refused-unfit options held new (checks n a) path cause reply (in_type x) (typed t) = x.formed_not t.formed
+refused-unfit options held new (checks n a) path cause reply (in_object x) (typed t) = x.has_not t.has
+refused-unfit options held new (equates n o a) path cause reply (in_common_type x) (same t u j) = x.formed_not t.formed
+refused-unfit options held new (equates n o a) path cause reply (in_common_type x) (differing t u j) = x.formed_not t.formed
+refused-unfit options held new (equates n o a) path cause reply (in_first x) (same t u j) = x.has_not t.has
+refused-unfit options held new (equates n o a) path cause reply (in_first x) (differing t u j) = x.has_not t.has
+refused-unfit options held new (equates n o a) path cause reply (in_second s x) (same t u j) = x.has_not u.has
+refused-unfit options held new (equates n o a) path cause reply (in_second s x) (differing t u j) = x.has_not u.has
 refused-unfit options held new (queries a) path cause reply x y = elim x [ ]
 refused-unfit options held new (traces t) path cause reply x y = elim x [ ]
-refused-unfit options held new (equates n o a) path cause reply x y = elim x [ ]
 
-declined-unfit : (options : Options) (held new : Held) (item : DesugaredItem) (core : PlainCore) (why : PlainWhy) (reply : PlainReply) → IsBareSignature held.signature
-    → Declined held.signature item why → explicit held.signature item ≡ Some core → Fits options held core reply new → ⊥
-declined-unfit options held new item core why reply b (by_rules {core = other} {path = path} {cause = cause} (is_explicit h) x) k f =
+beyond-unfit : (options : Options) (held new : Held) (core : PlainCore) (reply : PlainReply) → IsBeyondReach core → Fits options held core reply new → ⊥
+beyond-unfit options held new (declares n e) reply b x = b
+beyond-unfit options held new (queries a) reply b x = elim x [ ]
+beyond-unfit options held new (traces t) reply b x = elim x [ ]
+beyond-unfit options held new (equates n o a) reply b x = b
+beyond-unfit options held new (checks n a) reply b x = b
+
+declined-unfit : (options : Options) (held new : Held) (item : DesugaredItem) (core : PlainCore) (why : PlainWhy) (reply : PlainReply)
+    → Declined held.signature item why → core_of held.signature item ≡ Some core → Fits options held core reply new → ⊥
+declined-unfit options held new item core why reply (by_rules {core = other} {path = path} {cause = cause} (is_explicit h) x) k f =
     refused-unfit options held new core path cause reply (subst (λ (c : PlainCore). IsExplained held.signature c path cause) (some-one _ other core h k) x) f
-declined-unfit options held new item core why reply b (not_explicit e) k f = not-both _ core e k
-declined-unfit options held new item core why reply b (not_bare n) k f = n b
+declined-unfit options held new item core why reply (not_explicit e) k f = not-both _ core e k
+declined-unfit options held new item core why reply (not_answered {core = other} (is_explicit h) b) k f =
+    beyond-unfit options held new core reply (subst IsBeyondReach (some-one _ other core h k) b) f
 
 fits-one : (options : Options) (held new other : Held) (core : PlainCore) (reply further : PlainReply) → Fits options held core reply new → Fits options held core further other
     → (reply ≡ further) × (new ≡ other)
 fits-one options held new other (declares n e) reply further (accepted f) (accepted g) = (refl, refl)
-fits-one options held new other (checks n a) reply further (typed f x) (typed g y) = (refl, refl)
+fits-one options held new other (checks n a) reply further (typed t) (typed u) = (refl, refl)
+fits-one options held new other (equates n o a) reply further (same t u j) (same t' u' k) = (refl, refl)
+fits-one options held new other (equates n o a) reply further (same t u j) (differing t' u' k) = absurd (k j)
+fits-one options held new other (equates n o a) reply further (differing t u j) (same t' u' k) = absurd (j k)
+fits-one options held new other (equates n o a) reply further (differing t u j) (differing t' u' k) = (refl, refl)
 fits-one options held new other (queries a) reply further x y = elim x [ ]
 fits-one options held new other (traces t) reply further x y = elim x [ ]
-fits-one options held new other (equates n o a) reply further x y = elim x [ ]
 
 same-refusal : (options : Options) (held : Held) (r s : PlainRefusal) → r ≡ s → (refused r ≡ refused s) × (held ≡ held)
 same-refusal options held r s e = (ap refused e, refl)
 
-plain-one : (options : Options) (held new other : Held) (item : DesugaredItem) (reply further : PlainReply) → IsBareSignature held.signature
+plain-one : (options : Options) (held new other : Held) (item : DesugaredItem) (reply further : PlainReply) → WellFormedSignature held.signature → StandInFront item
     → PlainAllowed options held item reply new → PlainAllowed options held item further other → (reply ≡ further) × (new ≡ other)
-plain-one options held new other item reply further b (barred {refusal = refusal} x) (barred {refusal = s} y) = same-refusal options held refusal s (barred-one held.signature item refusal s x y)
-plain-one options held new other item reply further b (barred {refusal = refusal} x) (declined p d) = absurd (passes-free held.signature item refusal p x)
-plain-one options held new other item reply further b (barred {refusal = refusal} x) (answered p c f) = absurd (passes-free held.signature item refusal p x)
-plain-one options held new other item reply further b (declined p d) (barred {refusal = refusal} x) = absurd (passes-free held.signature item refusal p x)
-plain-one options held new other item reply further b (declined {why = why} p d) (declined {why = because} q e) =
-    same-refusal options held _ _ (ap (λ w. record { at = item.span.start; why = w }) (declined-one held.signature item why because b d e))
-plain-one options held new other item reply further b (declined {why = why} p d) (answered {core = core} q (is_explicit h) f) =
-    absurd (declined-unfit options held other item core why further b d h f)
-plain-one options held new other item reply further b (answered p c f) (barred {refusal = refusal} x) = absurd (passes-free held.signature item refusal p x)
-plain-one options held new other item reply further b (answered {core = core} p (is_explicit h) f) (declined {why = why} q d) =
-    absurd (declined-unfit options held new item core why reply b d h f)
-plain-one options held new other item reply further b (answered {core = core} p (is_explicit h) f) (answered {core = core'} q (is_explicit k) g) =
+plain-one options held new other item reply further w stand (barred {refusal = refusal} x) (barred {refusal = s} y) = same-refusal options held refusal s (barred-one held.signature item refusal s x y)
+plain-one options held new other item reply further w stand (barred {refusal = refusal} x) (declined p d) = absurd (passes-free held.signature item refusal p x)
+plain-one options held new other item reply further w stand (barred {refusal = refusal} x) (answered p c f) = absurd (passes-free held.signature item refusal p x)
+plain-one options held new other item reply further w stand (declined p d) (barred {refusal = refusal} x) = absurd (passes-free held.signature item refusal p x)
+plain-one options held new other item reply further w stand (declined {why = why} p d) (declined {why = because} q e) =
+    same-refusal options held _ _ (ap (λ w. record { at = item.span.start; why = w }) (declined-one held.signature item why because w stand d e))
+plain-one options held new other item reply further w stand (declined {why = why} p d) (answered {core = core} q (is_explicit h) f) =
+    absurd (declined-unfit options held other item core why further d h f)
+plain-one options held new other item reply further w stand (answered p c f) (barred {refusal = refusal} x) = absurd (passes-free held.signature item refusal p x)
+plain-one options held new other item reply further w stand (answered {core = core} p (is_explicit h) f) (declined {why = why} q d) =
+    absurd (declined-unfit options held new item core why reply d h f)
+plain-one options held new other item reply further w stand (answered {core = core} p (is_explicit h) f) (answered {core = core'} q (is_explicit k) g) =
     fits-one options held new other core reply further f (subst (λ (c : PlainCore). Fits options held c further other) (some-one _ core' core k h) g)
 
 pub reply_is_one : ReplyIsOne
-reply_is_one options held new other task reply further b at_fault at_fault = (refl, refl)
-reply_is_one options held new other task reply further b (sugar_fault {fault = fault} e) (sugar_fault {fault = f} g) = same-refusal options held _ _ (ap sugar_refusal (some-one _ fault f e g))
-reply_is_one options held new other task reply further b (sugar_fault {fault = fault} e) (plainly clean p) = absurd (not-both _ fault clean e)
-reply_is_one options held new other task reply further b (plainly clean p) (sugar_fault {fault = fault} e) = absurd (not-both _ fault clean e)
-reply_is_one options held new other task reply further b (plainly clean p) (plainly neat q) = plain-one options held new other _ reply further b p q
+reply_is_one options held new other task reply further w at_fault at_fault = (refl, refl)
+reply_is_one options held new other task reply further w (sugar_fault {fault = fault} e) (sugar_fault {fault = f} g) = same-refusal options held _ _ (ap sugar_refusal (some-one _ fault f e g))
+reply_is_one options held new other task reply further w (sugar_fault {fault = fault} e) (plainly clean p) = absurd (not-both _ fault clean e)
+reply_is_one options held new other task reply further w (plainly clean p) (sugar_fault {fault = fault} e) = absurd (not-both _ fault clean e)
+reply_is_one options held new other task reply further w (plainly {item = item} clean p) (plainly neat q) = plain-one options held new other (desugared item) reply further w (written-fits item clean) p q

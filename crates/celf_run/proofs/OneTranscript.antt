@@ -1,50 +1,39 @@
 -- A source has one transcript.
 use Rattle.std.proofs.Common.{ℕ, ◌≡◌, true, false, refl, sym, ap, ◌∙◌, subst, Bool, Option, Some, None, is_some, List, [], ◌∷◌, ◌++◌, length}
-use Rattle.clf_sig.specs.Entry.{PlainEntry, PlainSignature, place_of, IsNamed}
-use Rattle.clf_sig.proofs.Names.{is_named}
+use Rattle.clf_rules.specs.WellFormed.{WellFormedSignature}
+use Rattle.clf_rules.proofs.Signatures.{extended}
 use Rattle.clf_sig.specs.Core.{PlainCore, declares, queries, traces, equates, checks}
-use Rattle.celf_explicit.specs.Explicit.{explicit}
 use Rattle.celf_sugar.specs.PlainTree.{DesugaredItem}
-use Rattle.celf_reading.specs.Bare.{IsBareSignature}
-use Rattle.celf_reading.proofs.Bare.{bare-append}
 use Rattle.celf_replies.specs.Reply.{PlainReply, is_refusal}
 use Rattle.celf_run.specs.declared.options.Options.{Options}
 use Rattle.celf_run.specs.declared.status.Status.{Status}
 use Rattle.celf_run.specs.Source.{Source, Task}
-use Rattle.celf_run.specs.Allowed.{Held, Fits, accepted, typed, is_explicit, PlainAllowed, barred, declined, answered, Allowed, at_fault, sugar_fault, plainly}
+use Rattle.celf_run.specs.Allowed.{Held, Fits, accepted, typed, same, differing, PlainAllowed, barred, declined, answered, Allowed, at_fault, sugar_fault, plainly}
 use Rattle.celf_run.specs.Transcript.{Turn, finished, Transcribes, over, goes_on, stops}
 use Rattle.celf_run.specs.Laws.{TranscriptIsOne}
-use Rattle.celf_run.proofs.Cores.{explicit-read}
 use Rattle.celf_run.proofs.OneReply.{reply_is_one}
 use Rattle.celf_run.proofs.OneTask.{next_is_one, nothing_is_next}
 
--- A name that is not declared has no place.
-unplaced : (sig : PlainSignature) (name : List ℕ) (r : Option ℕ) → r ≡ place_of name sig → (IsNamed name sig → ⊥) → r ≡ None
-unplaced sig name None e absent = refl
-unplaced sig name (Some k) e absent = absurd (absent ((is_named name sig (Some k) e).0 refl))
+fits-formed : (options : Options) (held new : Held) (core : PlainCore) (reply : PlainReply) → WellFormedSignature held.signature → Fits options held core reply new → WellFormedSignature new.signature
+fits-formed options held new (declares name e) reply w (accepted may) = extended held.signature (name, e) w may
+fits-formed options held new (checks n a) reply w (typed t) = w
+fits-formed options held new (equates n o a) reply w (same t u j) = w
+fits-formed options held new (equates n o a) reply w (differing t u j) = w
+fits-formed options held new (queries a) reply w x = elim x [ ]
+fits-formed options held new (traces t) reply w x = elim x [ ]
 
-fits-bare : (options : Options) (held new : Held) (item : DesugaredItem) (core : PlainCore) (reply : PlainReply) → IsBareSignature held.signature
-    → explicit held.signature item ≡ Some core → Fits options held core reply new → IsBareSignature new.signature
-fits-bare options held new item (declares name e) reply b h (accepted may) =
-    bare-append held.signature name e b (unplaced held.signature name (place_of name held.signature) refl may.1) may.0
-    (explicit-read held.signature item.body (declares name e) b h).1
-fits-bare options held new item (checks n a) reply b h (typed f x) = b
-fits-bare options held new item (queries a) reply b h x = elim x [ ]
-fits-bare options held new item (traces t) reply b h x = elim x [ ]
-fits-bare options held new item (equates n o a) reply b h x = elim x [ ]
+plain-formed : (options : Options) (held new : Held) (item : DesugaredItem) (reply : PlainReply) → WellFormedSignature held.signature
+    → PlainAllowed options held item reply new → WellFormedSignature new.signature
+plain-formed options held new item reply w (barred x) = w
+plain-formed options held new item reply w (declined p x) = w
+plain-formed options held new item reply w (answered {core = core} p c f) = fits-formed options held new core reply w f
 
-plain-bare : (options : Options) (held new : Held) (item : DesugaredItem) (reply : PlainReply) → IsBareSignature held.signature
-    → PlainAllowed options held item reply new → IsBareSignature new.signature
-plain-bare options held new item reply b (barred x) = b
-plain-bare options held new item reply b (declined p x) = b
-plain-bare options held new item reply b (answered {core = core} p (is_explicit h) f) = fits-bare options held new item core reply b h f
-
--- What is held behind an allowed reply is bare where what was held before it is.
-allowed-bare : (options : Options) (held new : Held) (task : Task) (reply : PlainReply) → IsBareSignature held.signature
-    → Allowed options held task reply new → IsBareSignature new.signature
-allowed-bare options held new task reply b at_fault = b
-allowed-bare options held new task reply b (sugar_fault x) = b
-allowed-bare options held new task reply b (plainly {item = item} clean p) = plain-bare options held new _ reply b p
+-- What is held behind an allowed reply is well formed where what was held before it is.
+allowed-formed : (options : Options) (held new : Held) (task : Task) (reply : PlainReply) → WellFormedSignature held.signature
+    → Allowed options held task reply new → WellFormedSignature new.signature
+allowed-formed options held new task reply w at_fault = w
+allowed-formed options held new task reply w (sugar_fault x) = w
+allowed-formed options held new task reply w (plainly {item = item} clean p) = plain-formed options held new _ reply w p
 
 -- a turn is one
 record SameTurn (behind other : Source) (new further : Held) (reply because : PlainReply) : Type 0 where
@@ -52,7 +41,7 @@ record SameTurn (behind other : Source) (new further : Held) (reply because : Pl
   held : new ≡ further
   told : reply ≡ because
 
-turn-one : (options : Options) (source behind other : Source) (held new further : Held) (reply because : PlainReply) → IsBareSignature held.signature
+turn-one : (options : Options) (source behind other : Source) (held new further : Held) (reply because : PlainReply) → WellFormedSignature held.signature
     → Turn options source held reply behind new → Turn options source held because other further → SameTurn behind other new further reply because
 turn-one options source behind other held new further reply because b t u =
     let next = next_is_one source behind other t.task u.task t.next u.next in
@@ -83,7 +72,7 @@ transcript_is_one options source held last end bytes others status because b (go
     let same = turn-one options source behind behind' held new new' reply reply' b t u in
     let there = subst (λ (x : Source). Transcribes options x new' rest' because end) (sym same.source) h in
     let here = subst (λ (x : Held). Transcribes options behind x rest' because end) (sym same.held) there in
-    let more = transcript_is_one options behind new last end rest rest' status because (allowed-bare options held new t.task reply b t.allowed) g here in
+    let more = transcript_is_one options behind new last end rest rest' status because (allowed-formed options held new t.task reply b t.allowed) g here in
     let held_is = same.held in
     let reply_is = same.told in
     let rest_is = more.0 in

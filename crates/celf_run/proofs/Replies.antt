@@ -1,51 +1,58 @@
--- What is known of the replies that a task may have.
-use Rattle.std.proofs.Common.{ℕ, ◌≡◌, ◌≢◌, true, refl, sym, ap, ◌∙◌, subst, Option, Some, None, is_some, option_map, List, [], ◌∷◌, ◌++◌, length, IsTrue, Result, Ok, Err, inl, inr, codes}
-use Rattle.std.specs.Prelude.{IfOk, OnOk, IfErr}
-use Rattle.clf_sig.specs.Entry.{PlainEntry, PlainSignature, place_of}
+-- The lines of the replies that a task may have read back.
+use Rattle.std.proofs.Common.{ℕ, ◌≡◌, ◌<◌, ◌^◌, sym, ap, subst, Some, List, [], ◌∷◌, ◌++◌, length, slice_get, codes}
+use Rattle.std.specs.Prelude.{IfSome}
+use Rattle.std.specs.Option.{option_map}
+use Rattle.clf_sig.specs.Entry.{PlainEntry, PlainClass, PlainSignature, class_at}
+use Rattle.clf_sig.specs.Core.{PlainCore, declares, queries, traces, equates, checks}
+use Rattle.clf_rules.specs.WellFormed.{WellFormedSignature}
+use Rattle.clf_printer.specs.Depth.{class_depth}
+use Rattle.clf_printer.specs.Metas.{appearing_class}
+use Rattle.clf_printer.specs.Text.{declaration_text}
 use Rattle.celf_surface.specs.Surface.{WrittenItem}
-use Rattle.celf_sugar.specs.PlainTree.{DesugaredItem}
-use Rattle.celf_reading.specs.Bare.{IsBareSignature, IsBareEntry}
-use Rattle.celf_reading.specs.Reading.{Reads}
-use Rattle.celf_reading.proofs.ReadsBack.{reads_back}
-use Rattle.celf_reading.proofs.ChecksBack.{checks_read_back}
-use Rattle.celf_reading.proofs.Bare.{bare-append}
-use Rattle.celf_replies.specs.Reply.{PlainRefusal, PlainReply, entry, checked, refused}
+use Rattle.celf_sugar.specs.Sugar.{desugared}
+use Rattle.celf_explicit.specs.Items.{core_of}
+use Rattle.celf_meaning.specs.ReadingBack.{ReadsAs}
+use Rattle.celf_reading.proofs.Named.{class-formed-printable}
+use Rattle.celf_reading.proofs.LinesBack.{entry_reads_back, check_lines_read_back}
+use Rattle.celf_replies.specs.Reply.{PlainReply, entry, checked, refused}
 use Rattle.celf_replies.specs.Text.{IsNumbered}
 use Rattle.celf_run.specs.declared.options.Options.{Options}
-use Rattle.clf_sig.specs.Core.{PlainCore, declares, queries, traces, equates, checks}
-use Rattle.celf_explicit.specs.Explicit.{explicit}
 use Rattle.celf_run.specs.Source.{Task}
-use Rattle.celf_run.specs.Allowed.{Held, holding, Fits, accepted, typed, HasCore, is_explicit, PlainAllowed, barred, declined, answered, Allowed, at_fault, sugar_fault, plainly}
+use Rattle.celf_run.specs.Allowed.{Held, holding, Fits, accepted, typed, same, differing, is_explicit, PlainAllowed, barred, declined, answered, Allowed, at_fault, sugar_fault, plainly}
 use Rattle.celf_run.specs.Transcript.{ReadsBack}
-use Rattle.celf_run.proofs.Cores.{explicit-read}
-use Rattle.celf_run.proofs.Lines.{entry-line}
+use Rattle.celf_run.proofs.Cores.{declared-small}
+use Rattle.celf_run.proofs.Lines.{get-behind, entry-line}
 
-fits-reads_back : (options : Options) (held new : Held) (item : DesugaredItem) (core : PlainCore) (reply : PlainReply) → IsBareSignature held.signature
-    → explicit held.signature item ≡ Some core → Fits options held core reply new → IsNumbered reply → ReadsBack options held reply new
-fits-reads_back options held new item (declares name e) (entry k) b h (accepted may) n =
-    let read = explicit-read held.signature item.body (declares name e) b h in
-    let back = reads_back held.signature name e b may.0 read.1 in
-    (name, e, refl, subst (λ (l : List ℕ). Reads l held.signature name e) (sym (entry-line held.signature name e read.1)) back)
-fits-reads_back options held new item (checks o a) (checked o' a') b h (typed formed has) n =
-    let read = explicit-read held.signature item.body (checks o a) b h in
-    checks_read_back held.signature o a b read n has
-fits-reads_back options held new item (declares name e) (checked o a) b h x n = elim x [ ]
-fits-reads_back options held new item (declares name e) (refused r) b h x n = elim x [ ]
-fits-reads_back options held new item (queries a) reply b h x n = elim x [ ]
-fits-reads_back options held new item (traces t) reply b h x n = elim x [ ]
-fits-reads_back options held new item (equates o p a) reply b h x n = elim x [ ]
-fits-reads_back options held new item (checks o a) (entry k) b h x n = elim x [ ]
-fits-reads_back options held new item (checks o a) (refused r) b h x n = elim x [ ]
+-- what is said of the new entry
+numbered-entry : (sig : PlainSignature) (name : List ℕ) (e : PlainEntry) → IsNumbered (sig ++ (name, e) ∷ []) (entry (length sig)) → class_depth e.class < 2 ^ 64
+numbered-entry sig name e n = rw (get-behind sig (name, e)) at n
 
-plain-reads_back : (options : Options) (held new : Held) (item : DesugaredItem) (reply : PlainReply) → IsBareSignature held.signature
-    → PlainAllowed options held item reply new → IsNumbered reply → ReadsBack options held reply new
-plain-reads_back options held new item reply b (barred x) n = tt
-plain-reads_back options held new item reply b (declined p x) n = tt
-plain-reads_back options held new item reply b (answered {core = core} p (is_explicit h) f) n = fits-reads_back options held new item core reply b h f n
+fits-reads_back : (options : Options) (held new : Held) (item : WrittenItem) (core : PlainCore) (reply : PlainReply) → WellFormedSignature held.signature
+    → core_of held.signature (desugared item) ≡ Some core → Fits options held core reply new → IsNumbered new.signature reply → ReadsBack options held reply new
+fits-reads_back options held new item (declares name e) (entry k) w h (accepted may) n =
+    let sig = held.signature in
+    let small = numbered-entry sig name e n in
+    let back = entry_reads_back sig (appearing_class [] e.class) name e w may.0 may.2 (declared-small sig item name e h) small in
+    (name, e, refl, subst (λ (l : List ℕ). ReadsAs sig l (declares name e)) (sym (entry-line sig name e (class-formed-printable sig w e.class small may.2.0))) back)
+fits-reads_back options held new item (checks o a) (checked o' a') w h (typed t) n = check_lines_read_back held.signature o a w t.formed t.has n.0 n.1
+fits-reads_back options held new item (equates o p a) reply w h (same t u j) n = tt
+fits-reads_back options held new item (equates o p a) reply w h (differing t u j) n = tt
+fits-reads_back options held new item (declares name e) (checked o a) w h x n = elim x [ ]
+fits-reads_back options held new item (declares name e) (refused r) w h x n = elim x [ ]
+fits-reads_back options held new item (queries a) reply w h x n = elim x [ ]
+fits-reads_back options held new item (traces t) reply w h x n = elim x [ ]
+fits-reads_back options held new item (checks o a) (entry k) w h x n = elim x [ ]
+fits-reads_back options held new item (checks o a) (refused r) w h x n = elim x [ ]
 
--- Over a bare signature the lines of an allowed reply read back, where the numbers of its variables are written whole.
-pub allowed-reads_back : (options : Options) (held new : Held) (task : Task) (reply : PlainReply) → IsBareSignature held.signature
-    → Allowed options held task reply new → IsNumbered reply → ReadsBack options held reply new
-allowed-reads_back options held new task reply b at_fault n = tt
-allowed-reads_back options held new task reply b (sugar_fault x) n = tt
-allowed-reads_back options held new task reply b (plainly {item = item} clean p) n = plain-reads_back options held new _ reply b p n
+plain-reads_back : (options : Options) (held new : Held) (item : WrittenItem) (reply : PlainReply) → WellFormedSignature held.signature
+    → PlainAllowed options held (desugared item) reply new → IsNumbered new.signature reply → ReadsBack options held reply new
+plain-reads_back options held new item reply w (barred x) n = tt
+plain-reads_back options held new item reply w (declined p x) n = tt
+plain-reads_back options held new item reply w (answered {core = core} p (is_explicit h) f) n = fits-reads_back options held new item core reply w h f n
+
+-- Over a well-formed signature the lines of an allowed reply read back, where the numbers of its variables are written whole.
+pub allowed-reads_back : (options : Options) (held new : Held) (task : Task) (reply : PlainReply) → WellFormedSignature held.signature
+    → Allowed options held task reply new → IsNumbered new.signature reply → ReadsBack options held reply new
+allowed-reads_back options held new task reply w at_fault n = tt
+allowed-reads_back options held new task reply w (sugar_fault x) n = tt
+allowed-reads_back options held new task reply w (plainly {item = item} clean p) n = plain-reads_back options held new item reply w p n

@@ -4,9 +4,8 @@ use Rattle.clf_syntax.specs.declared.fault.Want.{Want}
 use Rattle.clf_syntax.specs.declared.fault.Want.TheVariants.{NoMemory as no_memory, TooFar as too_far}
 use Rattle.clf_sig.specs.Entry.{PlainSignature}
 use Rattle.celf_source.specs.Sink.{Appends, AppendsPrefix}
-use Rattle.celf_reading.specs.Bare.{IsBareSignature}
-use Rattle.celf_reading.proofs.WellFormed.{bare-signature}
-use Rattle.celf_replies.specs.Reply.{PlainReply, entry, checked, refused, is_refusal}
+use Rattle.clf_rules.specs.WellFormed.{WellFormedSignature}
+use Rattle.celf_replies.specs.Reply.{PlainReply, entry, checked, equal, different, refused, is_refusal}
 use Rattle.celf_replies.specs.Text.{reply_text, IsNumbered}
 use Rattle.celf_run.specs.declared.options.Options.{Options}
 use Rattle.celf_run.specs.declared.status.Status.{Status}
@@ -38,21 +37,23 @@ pub writes-given_up : (sig : PlainSignature) (reply : PlainReply) (end : ℕ) (w
 writes-given_up sig reply end w no_memory = record { written = []; appends = appends-nothing w w refl; is_front = inl refl }
 writes-given_up sig reply end w (too_far x) = record { written = []; appends = appends-nothing w w refl; is_front = inl refl }
 
-pub writes-whole : (sig : PlainSignature) (reply : PlainReply) (end : ℕ) (before after : Option (List ℕ)) → IsNumbered reply → Appends (reply_text sig reply) before after
+pub writes-whole : (sig : PlainSignature) (reply : PlainReply) (end : ℕ) (before after : Option (List ℕ)) → IsNumbered sig reply → Appends (reply_text sig reply) before after
     → Writes sig reply end before after (turn_behind reply end)
 writes-whole sig (entry k) end before after n a = (refl, refl, record { numbered = n; appends = a })
 writes-whole sig (checked o t) end before after n a = (refl, refl, record { numbered = n; appends = a })
+writes-whole sig equal end before after n a = (refl, refl, record { numbered = n; appends = a })
+writes-whole sig different end before after n a = (refl, refl, record { numbered = n; appends = a })
 writes-whole sig (refused r) end before after n a = (refl, record { numbered = n; appends = a })
 
-pub writes-front : (sig : PlainSignature) (reply : PlainReply) (text : List ℕ) (before after : Option (List ℕ)) → IsNumbered reply → text ≡ reply_text sig reply
+pub writes-front : (sig : PlainSignature) (reply : PlainReply) (text : List ℕ) (before after : Option (List ℕ)) → IsNumbered sig reply → text ≡ reply_text sig reply
     → AppendsPrefix text before after → WritesFront sig reply before after
 writes-front sig reply text before after n e (count, within, a) =
     record { written = take count text; appends = a; is_front = inr (n, count, ap (take count) e) }
 
 -- Nothing is left.
-pub finishes-over : (options : Options) (source : Source) (sig : PlainSignature) (before : Option (List ℕ)) → IsBareSignature sig → IsOver source
+pub finishes-over : (options : Options) (source : Source) (sig : PlainSignature) (before : Option (List ℕ)) → WellFormedSignature sig → IsOver source
     → Finishes options source (holding sig) before before Done
-finishes-over options source sig before b h = ([], appends-nothing before before refl, (holding sig, over h, bare-signature sig b))
+finishes-over options source sig before w h = ([], appends-nothing before before refl, (holding sig, over h, w))
 
 -- Nothing was written before the run was given up.
 pub finishes-given_up : (options : Options) (source : Source) (held : Held) (before : Option (List ℕ)) (want : Want)
@@ -60,9 +61,9 @@ pub finishes-given_up : (options : Options) (source : Source) (held : Held) (bef
 finishes-given_up options source held before no_memory = ([], appends-nothing before before refl, nothing)
 finishes-given_up options source held before (too_far w) = ([], appends-nothing before before refl, nothing)
 
-module _ (options : Options) (source : Source) (old : PlainSignature) (reply : PlainReply) (behind : Source) (new : PlainSignature) (formed : IsBareSignature old) (formed_behind : IsBareSignature new) (a : Answers options source (holding old) reply behind (holding new)) where
+module _ (options : Options) (source : Source) (old : PlainSignature) (reply : PlainReply) (behind : Source) (new : PlainSignature) (formed : WellFormedSignature old) (formed_behind : WellFormedSignature new) (a : Answers options source (holding old) reply behind (holding new)) where
   -- A reply that is printed makes a turn.
-  turn-of : IsNumbered reply → Turn options source (holding old) reply behind (holding new)
+  turn-of : IsNumbered new reply → Turn options source (holding old) reply behind (holding new)
   turn-of n = record { task = a.task; next = a.next; allowed = a.allowed; reads_back = allowed-reads_back options (holding old) (holding new) a.task reply formed a.allowed n }
 
   -- The front of a reply is written.
@@ -70,7 +71,7 @@ module _ (options : Options) (source : Source) (old : PlainSignature) (reply : P
       → (written : List ℕ) × Appends written before after × Begun options source (holding old) written
   front-begun before after w = (w.written, w.appends, go w.is_front)
     where
-      go : (w.written ≡ []) ⊎ (IsNumbered reply × (n : ℕ) × (w.written ≡ take n (reply_text new reply))) → Begun options source (holding old) w.written
+      go : (w.written ≡ []) ⊎ (IsNumbered new reply × (n : ℕ) × (w.written ≡ take n (reply_text new reply))) → Begun options source (holding old) w.written
       go (inl e) = subst (Begun options source (holding old)) (sym e) nothing
       go (inr (n, k, e)) = subst (Begun options source (holding old)) (sym e) (front k (turn-of n))
 
@@ -82,7 +83,7 @@ module _ (options : Options) (source : Source) (old : PlainSignature) (reply : P
       record { reply = reply; turn = subst (λ b. P (place_in text at) b) behind_is (subst (λ s. P s behind) s_is (turn-of w.numbered)); taken = on; told = w.appends }
   written-turns before after text at end s_is b_is (Ends Refused) (over_is, w) =
       subst (λ s. Finishes options s (holding old) before after Refused) s_is
-      (told options (holding new) reply, w.appends, (holding new, stops (turn-of w.numbered) over_is, bare-signature new formed_behind))
+      (told options (holding new) reply, w.appends, (holding new, stops (turn-of w.numbered) over_is, formed_behind))
   written-turns before after text at end s_is b_is (Ends WriteFault) w = subst (λ s. Finishes options s (holding old) before after WriteFault) s_is (front-begun before after w)
   written-turns before after text at end s_is b_is (Ends NoMemory) w = subst (λ s. Finishes options s (holding old) before after NoMemory) s_is (front-begun before after w)
   written-turns before after text at end s_is b_is (Ends (TooFar x)) w = subst (λ s. Finishes options s (holding old) before after (TooFar x)) s_is (front-begun before after w)
@@ -93,7 +94,7 @@ module _ (options : Options) (source : Source) (old : PlainSignature) (reply : P
 
 -- What was told of a reply comes to a turn.
 pub turns : (options : Options) (text : List ℕ) (at end : ℕ) (old new : PlainSignature) (reply : PlainReply) (before after : Option (List ℕ)) (r : Ended)
-    → IsBareSignature old → IsBareSignature new → Answers options (place_in text at) (holding old) reply (place_in text end) (holding new)
+    → WellFormedSignature old → WellFormedSignature new → Answers options (place_in text at) (holding old) reply (place_in text end) (holding new)
     → Writes new reply end before after r → Turns options text at (holding old) (holding new) before after r
 turns options text at end old new reply before after r b c a w =
     written-turns options (place_in text at) old reply (place_in text end) new b c a before after text at end refl refl r w

@@ -4,9 +4,10 @@ use Rattle.clf_syntax.specs.Tree.{PlainObject}
 use Rattle.clf_syntax.specs.TypeTree.{PlainType}
 use Rattle.clf_sig.specs.Entry.{PlainEntry, PlainSignature, entry_limit, place_of}
 use Rattle.clf_rules.specs.Typing.{HasType}
-use Rattle.clf_rules.specs.WellFormed.{WellFormedType, MayFollow}
+use Rattle.clf_rules.specs.WellFormed.{WellFormedType, WellFormedEntry, MayFollow}
 use Rattle.clf_rules.specs.Refusal.{Cause}
-use Rattle.clf_rules.specs.Explained.{ExplainedAt}
+use Rattle.clf_rules.specs.Explained.{ExplainedAt, ExplainedInType, ExplainedInClass}
+use Rattle.trace_equal.specs.Exchange.{Joined}
 use Rattle.celf_surface.specs.Surface.{WrittenItem}
 use Rattle.celf_sugar.specs.declared.plain.PName.{PName}
 use Rattle.celf_sugar.specs.declared.fault.SugarFault.{SugarFault}
@@ -15,11 +16,10 @@ use Rattle.celf_sugar.specs.Faults.{first_fault, fault_start}
 use Rattle.celf_sugar.specs.Sugar.{desugared}
 use Rattle.celf_sugar.specs.PlainTree.{DesugaredBody, declare, query, trace, equal, check, DesugaredItem}
 use Rattle.celf_explicit.specs.Unknown.{first_unknown}
-use Rattle.celf_reading.specs.Bare.{IsBareSignature}
-use Rattle.celf_replies.specs.Reply.{PlainWhy, kind_place, not_async, redex, out_of_range, bad_implicit, duplicate, full, unknown_name, kernel, not_yet, PlainRefusal, PlainReply, entry, checked, refused}
+use Rattle.celf_replies.specs.Reply.{PlainWhy, kind_place, not_async, redex, out_of_range, bad_implicit, duplicate, full, unknown_name, kernel, not_yet, PlainRefusal, PlainReply, entry, checked, equal as equal_reply, different as different_reply, refused}
 use Rattle.celf_run.specs.declared.options.Options.{Options}
-use Rattle.clf_sig.specs.Core.{PlainCore, declares, checks}
-use Rattle.celf_explicit.specs.Explicit.{explicit}
+use Rattle.clf_sig.specs.Core.{PlainCore, declares, queries, traces, equates, checks}
+use Rattle.celf_explicit.specs.Items.{core_of}
 use Rattle.celf_run.specs.Source.{Task, written, faulty}
 
 -- what a run holds between two tasks
@@ -61,28 +61,61 @@ pub record Passes (sig : PlainSignature) (item : DesugaredItem) : Type 0 where
 
 -- The item has this core.
 pub data HasCore (sig : PlainSignature) (item : DesugaredItem) : PlainCore → Type 0 where
-  is_explicit : {core : PlainCore} → explicit sig item ≡ Some core → HasCore sig item core
+  is_explicit : {core : PlainCore} → core_of sig item ≡ Some core → HasCore sig item core
 
--- The rules refuse the core for this cause, at the part to which the path leads. The type of a check has number 0 and the object number 1,
--- and the object is judged only at a type that is well formed.
+-- The rules form the type and give it to the object.
+pub record IsTyped (sig : PlainSignature) (n : PlainObject) (a : PlainType) : Type 0 where
+  pub formed : WellFormedType sig [] a
+  pub has : HasType sig [] [] n a
+
+-- The rules form the type and do not give it to the object, for this cause, at the part of the object to which the path leads.
+pub record IsUntyped (sig : PlainSignature) (n : PlainObject) (a : PlainType) (path : List ℕ) (cause : Cause) : Type 0 where
+  pub formed : WellFormedType sig [] a
+  pub has_not : HasType sig [] [] n a → ⊥
+  pub explained : ExplainedAt sig [] [] n a path cause
+
+-- The rules do not form the type, for this cause, at the part of it to which the path leads.
+pub record IsIllFormed (sig : PlainSignature) (a : PlainType) (path : List ℕ) (cause : Cause) : Type 0 where
+  pub formed_not : WellFormedType sig [] a → ⊥
+  pub explained : ExplainedInType sig [] a path cause
+
+-- The rules refuse the core for this cause, at the part to which the path leads. The kind or type of a declaration has number 0. The type of
+-- a check or an equation has number 0 and the object number 1, of an equation the second object number 2; they are judged in this order, and
+-- the objects only at a type that is well formed.
 pub data IsExplained (sig : PlainSignature) : PlainCore → List ℕ → Cause → Type 0 where
-  in_object : {n : PlainObject} {a : PlainType} {path : List ℕ} {cause : Cause} → WellFormedType sig [] a → (HasType sig [] [] n a → ⊥)
-      → ExplainedAt sig [] [] n a path cause → IsExplained sig (checks n a) (1 ∷ path) cause
+  in_class : {name : List ℕ} {e : PlainEntry} {path : List ℕ} {cause : Cause} → (WellFormedEntry sig e → ⊥) → ExplainedInClass sig e.class path cause
+      → IsExplained sig (declares name e) (0 ∷ path) cause
+  in_type : {n : PlainObject} {a : PlainType} {path : List ℕ} {cause : Cause} → IsIllFormed sig a path cause → IsExplained sig (checks n a) (0 ∷ path) cause
+  in_object : {n : PlainObject} {a : PlainType} {path : List ℕ} {cause : Cause} → IsUntyped sig n a path cause → IsExplained sig (checks n a) (1 ∷ path) cause
+  in_common_type : {n o : PlainObject} {a : PlainType} {path : List ℕ} {cause : Cause} → IsIllFormed sig a path cause → IsExplained sig (equates n o a) (0 ∷ path) cause
+  in_first : {n o : PlainObject} {a : PlainType} {path : List ℕ} {cause : Cause} → IsUntyped sig n a path cause → IsExplained sig (equates n o a) (1 ∷ path) cause
+  in_second : {n o : PlainObject} {a : PlainType} {path : List ℕ} {cause : Cause} → IsTyped sig n a → IsUntyped sig o a path cause → IsExplained sig (equates n o a) (2 ∷ path) cause
 
--- Why an item that passes is declined. Out of reach are so far items that are not explicit or have parts out of reach, and every item over a
--- signature that is not bare.
+-- Queries and traces are out of reach so far.
+abbrev pub IsBeyondReach : PlainCore → Type 0
+IsBeyondReach (declares n e) = ⊥
+IsBeyondReach (queries a) = Unit {0}
+IsBeyondReach (traces t) = Unit {0}
+IsBeyondReach (equates n o a) = ⊥
+IsBeyondReach (checks n a) = ⊥
+
+-- Why an item that passes is declined: by the rules, or since it is out of reach so far, as every item is that is not explicit.
 pub data Declined (sig : PlainSignature) (item : DesugaredItem) : PlainWhy → Type 0 where
   by_rules : {core : PlainCore} {path : List ℕ} {cause : Cause} → HasCore sig item core → IsExplained sig core path cause → Declined sig item (kernel path cause)
-  not_explicit : explicit sig item ≡ None → Declined sig item not_yet
-  not_bare : (IsBareSignature sig → ⊥) → Declined sig item not_yet
+  not_explicit : core_of sig item ≡ None → Declined sig item not_yet
+  not_answered : {core : PlainCore} → HasCore sig item core → IsBeyondReach core → Declined sig item not_yet
 
 -- The reply fits the core, and this is held behind it.
 pub data Fits (options : Options) (held : Held) : PlainCore → PlainReply → Held → Type 0 where
   -- A declaration that may follow the signature is its next entry.
   accepted : {name : List ℕ} {e : PlainEntry} → MayFollow held.signature (name, e)
       → Fits options held (declares name e) (entry (length held.signature)) (holding (held.signature ++ (name, e) ∷ []))
-  -- The rules form the type and give it to the object.
-  typed : {n : PlainObject} {a : PlainType} → WellFormedType held.signature [] a → HasType held.signature [] [] n a → Fits options held (checks n a) (checked n a) held
+  -- The object is typed.
+  typed : {n : PlainObject} {a : PlainType} → IsTyped held.signature n a → Fits options held (checks n a) (checked n a) held
+  -- Both objects are typed, and joined.
+  same : {n o : PlainObject} {a : PlainType} → IsTyped held.signature n a → IsTyped held.signature o a → Joined n o → Fits options held (equates n o a) equal_reply held
+  -- Both are typed, and not joined.
+  differing : {n o : PlainObject} {a : PlainType} → IsTyped held.signature n a → IsTyped held.signature o a → (Joined n o → ⊥) → Fits options held (equates n o a) different_reply held
 
 -- The replies of an item without sugar.
 pub data PlainAllowed (options : Options) (held : Held) (item : DesugaredItem) : PlainReply → Held → Type 0 where

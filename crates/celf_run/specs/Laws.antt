@@ -1,7 +1,7 @@
 -- Laws of the definitions of a run, as statements.
 use Rattle.std.specs.Prelude.{ℕ, ◌≡◌, List, [], ◌∷◌, ◌++◌}
 use Rattle.celf_parser.specs.Place.{HasDeclarableName}
-use Rattle.celf_reading.specs.Bare.{IsBareSignature}
+use Rattle.clf_rules.specs.WellFormed.{WellFormedSignature}
 use Rattle.celf_replies.specs.Reply.{PlainReply}
 use Rattle.celf_replies.specs.Text.{IsNumbered}
 use Rattle.celf_run.specs.declared.options.Options.{Options}
@@ -10,23 +10,23 @@ use Rattle.celf_run.specs.Source.{Source, Task, written, faulty, Next, IsOver}
 use Rattle.celf_run.specs.Allowed.{Held, Allowed}
 use Rattle.celf_run.specs.Transcript.{ReadsBack, Transcribes}
 
--- Over a bare signature the lines of each allowed reply read back, where the numbers of its variables are written whole.
+-- Over a well-formed signature the lines of each allowed reply read back, where the numbers of its variables are written whole.
 abbrev pub PrintedLinesReadBack : Type 0
-PrintedLinesReadBack = (options : Options) (old new : Held) (task : Task) (reply : PlainReply) → IsBareSignature old.signature
-    → Allowed options old task reply new → IsNumbered reply → ReadsBack options old reply new
+PrintedLinesReadBack = (options : Options) (old new : Held) (task : Task) (reply : PlainReply) → WellFormedSignature old.signature
+    → Allowed options old task reply new → IsNumbered new.signature reply → ReadsBack options old reply new
 
 -- a task as it comes of a text: a declared name is one that may be declared
 abbrev pub IsTaskOfText : Task → Type 0
 IsTaskOfText (written item) = HasDeclarableName item.body
 IsTaskOfText (faulty refusal) = Unit {0}
 
--- Each task has an allowed reply, over whatever is held.
+-- Over a well-formed signature each task has an allowed reply.
 abbrev pub EachTaskHasReply : Type 0
-EachTaskHasReply = (options : Options) (held : Held) (task : Task) → IsTaskOfText task → (reply : PlainReply) × (new : Held) × Allowed options held task reply new
+EachTaskHasReply = (options : Options) (held : Held) (task : Task) → WellFormedSignature held.signature → IsTaskOfText task → (reply : PlainReply) × (new : Held) × Allowed options held task reply new
 
--- Over a bare signature a task has one allowed reply, with one thing held behind it.
+-- Over a well-formed signature a task has one allowed reply, with one thing held behind it.
 abbrev pub ReplyIsOne : Type 0
-ReplyIsOne = (options : Options) (held new other : Held) (task : Task) (reply further : PlainReply) → IsBareSignature held.signature
+ReplyIsOne = (options : Options) (held new other : Held) (task : Task) (reply further : PlainReply) → WellFormedSignature held.signature
     → Allowed options held task reply new → Allowed options held task further other → (reply ≡ further) × (new ≡ other)
 
 -- What comes next is one task, with one source behind it, and none where nothing but blanks and comments is left.
@@ -36,8 +36,8 @@ NextIsOne = (source behind other : Source) (task further : Task) → Next source
 abbrev pub NothingIsNext : Type 0
 NothingIsNext = (source behind : Source) (task : Task) → IsOver source → Next source task behind → ⊥
 
--- What is answered over a bare signature is determined, so a source has one transcript over it, with one status and one thing held at its end.
+-- What is answered over a well-formed signature is determined, so a source has one transcript over it, with one status and one thing held at its end.
 abbrev pub TranscriptIsOne : Type 0
-TranscriptIsOne = (options : Options) (source : Source) (held last end : Held) (bytes others : List ℕ) (status because : Status) → IsBareSignature held.signature
+TranscriptIsOne = (options : Options) (source : Source) (held last end : Held) (bytes others : List ℕ) (status because : Status) → WellFormedSignature held.signature
     → Transcribes options source held bytes status last → Transcribes options source held others because end
     → (bytes ≡ others) × (status ≡ because) × (last ≡ end)

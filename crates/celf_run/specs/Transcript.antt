@@ -1,9 +1,9 @@
 -- A run, task after task: what is written, how it ends, and what is held then.
 use Rattle.std.specs.Prelude.{ℕ, ◌≡◌, true, false, List, [], ◌∷◌, ◌++◌, take, codes}
 use Rattle.clf_sig.specs.Entry.{PlainEntry}
-use Rattle.celf_reading.specs.Reading.{Reads}
-use Rattle.celf_reading.specs.Checks.{ReadsCheck}
-use Rattle.celf_replies.specs.Reply.{PlainReply, entry, checked, refused, is_refusal}
+use Rattle.clf_sig.specs.Core.{declares, checks}
+use Rattle.celf_meaning.specs.ReadingBack.{ReadsAs}
+use Rattle.celf_replies.specs.Reply.{PlainReply, entry, checked, equal, different, refused, is_refusal}
 use Rattle.celf_replies.specs.Text.{judgment_text, reply_text}
 use Rattle.celf_run.specs.declared.options.Options.{Options}
 use Rattle.celf_run.specs.declared.status.Status.{Status}
@@ -16,10 +16,12 @@ abbrev pub told : Options → Held → PlainReply → List ℕ
 told options new reply = reply_text new.signature reply
 
 -- The line of an accepted declaration reads back, over the entries before it, as its entry; what the line of a typed object says reads back, behind
--- #check, as the object and its type.
+-- #check, as the object and its type. The other lines repeat nothing.
 abbrev pub ReadsBack : Options → Held → PlainReply → Held → Type 0
-ReadsBack options old (entry k) new = (name : List ℕ) × (e : PlainEntry) × (new.signature ≡ old.signature ++ (name, e) ∷ []) × Reads (told options new (entry k)) old.signature name e
-ReadsBack options old (checked n a) new = ReadsCheck (codes "#check " ++ judgment_text new.signature n a) old.signature n a
+ReadsBack options old (entry k) new = (name : List ℕ) × (e : PlainEntry) × (new.signature ≡ old.signature ++ (name, e) ∷ []) × ReadsAs old.signature (told options new (entry k)) (declares name e)
+ReadsBack options old (checked n a) new = ReadsAs old.signature (codes "#check " ++ judgment_text new.signature n a) (checks n a)
+ReadsBack options old equal new = Unit {0}
+ReadsBack options old different new = Unit {0}
 ReadsBack options old (refused r) new = Unit {0}
 
 -- how a run ends where nothing is left

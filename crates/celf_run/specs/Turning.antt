@@ -4,7 +4,7 @@ use Rattle.celf_source.specs.Sink.{Appends}
 use Rattle.clf_syntax.specs.declared.fault.Want.{Want}
 use Rattle.clf_syntax.specs.declared.fault.Want.TheVariants.{NoMemory as no_memory, TooFar as too_far}
 use Rattle.clf_syntax.specs.Wide.{IsWide}
-use Rattle.celf_replies.specs.Reply.{PlainReply, entry, checked, refused, is_refusal}
+use Rattle.celf_replies.specs.Reply.{PlainReply, entry, checked, equal, different, refused, is_refusal}
 use Rattle.celf_replies.specs.Text.{reply_text, IsNumbered}
 use Rattle.clf_sig.specs.Entry.{PlainSignature}
 use Rattle.celf_run.specs.declared.options.Options.{Options}
@@ -31,11 +31,11 @@ pub record Answers (options : Options) (source : Source) (old : Held) (reply : P
 pub record WritesFront (sig : PlainSignature) (reply : PlainReply) (before after : Option (List ℕ)) : Type 0 where
   pub written : List ℕ
   pub appends : Appends written before after
-  pub is_front : (written ≡ []) ⊎ (IsNumbered reply × (n : ℕ) × (written ≡ take n (reply_text sig reply)))
+  pub is_front : (written ≡ []) ⊎ (IsNumbered sig reply × (n : ℕ) × (written ≡ take n (reply_text sig reply)))
 
 -- The lines of the reply were written.
 pub record WritesWhole (sig : PlainSignature) (reply : PlainReply) (before after : Option (List ℕ)) : Type 0 where
-  pub numbered : IsNumbered reply
+  pub numbered : IsNumbered sig reply
   pub appends : Appends (reply_text sig reply) before after
 
 -- What was written of a reply, by how the turn ends.
@@ -85,6 +85,8 @@ pub record Reached (options : Options) (text : List ℕ) (at : ℕ) (held : Held
 abbrev pub turn_behind : PlainReply → ℕ → Ended
 turn_behind (entry k) end = GoesOn end
 turn_behind (checked n a) end = GoesOn end
+turn_behind equal end = GoesOn end
+turn_behind different end = GoesOn end
 turn_behind (refused r) end = Ends Refused
 
 -- how a run ends that is given up

@@ -4,7 +4,7 @@ ghost use Rattle.clf_sig.specs.Signature.{plain_signature};
 ghost use Rattle.celf_surface.specs.Surface.{written_item};
 ghost use Rattle.celf_parser.specs.Place.{HasDeclarableName};
 ghost use Rattle.celf_sugar.specs.Plain.{desugared_item};
-ghost use Rattle.celf_reading.specs.Bare.{IsBareSignature};
+ghost use Rattle.clf_rules.specs.WellFormed.{WellFormedSignature};
 ghost use Rattle.celf_replies.specs.Reply.{plain_reply, refused};
 ghost use Rattle.celf_run.specs.Allowed.{Allowed, PlainAllowed, NamePasses, holding};
 ghost use Rattle.celf_run.specs.Answering.{MayBeDeclared, unknown_refusal};
@@ -15,7 +15,7 @@ use crate::fault::sugar_refusal;
 use crate::judged::answer_core;
 use crate::name::barred_name;
 use crate::options::Options;
-use celf_explicit::{UnknownName, explicit};
+use celf_explicit::{UnknownName, core_of};
 use celf_replies::{Reply, Why};
 use celf_sugar::{Plain, desugar};
 use celf_surface::Item;
@@ -25,18 +25,17 @@ use std::alloc::Global;
 
 /// Answers one item. Only an accepted declaration changes the signature.
 ///
-/// The signature is bare: all that is answered so far is over such a one. The name of a declaration is one that may be declared, as in
-/// every item of a text.
+/// The signature is well formed, and stays so. The name of a declaration is one that may be declared, as in every item of a text.
 pub fn answer_item(
     alloc: Global,
     sig: &mut Signature,
     options: &Options,
     item: &Item,
 ) -> Result<Reply, Want>
-    requires bare { IsBareSignature (plain_signature sig.old) }
+    requires formed { WellFormedSignature (plain_signature sig.old) }
     requires name { HasDeclarableName (written_item item.now).body }
     ensures allowed { IfOk result (λ reply. Allowed options.now (holding (plain_signature sig.old)) (written (written_item item.now)) (plain_reply reply) (holding (plain_signature sig.new))) }
-    ensures bare { IsBareSignature (plain_signature sig.new) }
+    ensures formed { WellFormedSignature (plain_signature sig.new) }
     ensures unchanged { OnErr result (sig.new ≡ sig.old) }
     ensures wide { IfErr result IsWant }
 {
@@ -58,10 +57,10 @@ fn answer_plain(
     options: &Options,
     plain: &Plain,
 ) -> Result<Reply, Want>
-    requires bare { IsBareSignature (plain_signature sig.old) }
+    requires formed { WellFormedSignature (plain_signature sig.old) }
     requires name { MayBeDeclared (desugared_item plain.now) }
     ensures allowed { IfOk result (λ reply. PlainAllowed options.now (holding (plain_signature sig.old)) (desugared_item plain.now) (plain_reply reply) (holding (plain_signature sig.new))) }
-    ensures bare { IsBareSignature (plain_signature sig.new) }
+    ensures formed { WellFormedSignature (plain_signature sig.new) }
     ensures unchanged { OnErr result (sig.new ≡ sig.old) }
     ensures wide { IfErr result IsWant }
 {
@@ -80,16 +79,16 @@ fn answer_named(
     options: &Options,
     plain: &Plain,
 ) -> Result<Reply, Want>
-    requires bare { IsBareSignature (plain_signature sig.old) }
+    requires formed { WellFormedSignature (plain_signature sig.old) }
     requires name { MayBeDeclared (desugared_item plain.now) }
     requires passes { NamePasses (plain_signature sig.old) (desugared_item plain.now) }
     ensures allowed { IfOk result (λ reply. PlainAllowed options.now (holding (plain_signature sig.old)) (desugared_item plain.now) (plain_reply reply) (holding (plain_signature sig.new))) }
-    ensures bare { IsBareSignature (plain_signature sig.new) }
+    ensures formed { WellFormedSignature (plain_signature sig.new) }
     ensures unchanged { OnErr result (sig.new ≡ sig.old) }
     ensures wide { IfErr result IsWant }
 {
     let at = plain.span.start;
-    match explicit(alloc, sig, plain) {
+    match core_of(alloc, sig, plain) {
         Ok(Some(core)) => answer_core(alloc, sig, options, at, core),
         Ok(None) => Ok(Reply::Refused {
             at,

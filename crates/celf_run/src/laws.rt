@@ -1,17 +1,17 @@
 //! Laws of the definitions of a run, each stated by a function that does nothing.
 ghost use Rattle.celf_run.specs.Laws.{EachTaskHasReply, NextIsOne, NothingIsNext, PrintedLinesReadBack, ReplyIsOne, TranscriptIsOne};
 
-/// Over a bare signature the lines of each allowed reply read back.
+/// Over a well-formed signature the lines of each allowed reply read back.
 pub fn printed_lines_read_back()
     ensures { PrintedLinesReadBack }
 {}
 
-/// Each task has an allowed reply, over whatever is held: so what `run` promises is never empty.
+/// Over a well-formed signature each task has an allowed reply: so what `run` promises is never empty.
 pub fn each_task_has_a_reply()
     ensures { EachTaskHasReply }
 {}
 
-/// Over a bare signature a task has one reply. What comes next in a text is one task, and none where nothing but blanks and comments is left. So a
+/// Over a well-formed signature a task has one reply. What comes next in a text is one task, and none where nothing but blanks and comments is left. So a
 /// text has one transcript.
 pub fn one_transcript()
     ensures reply { ReplyIsOne }

@@ -3,7 +3,7 @@ ghost use Rattle.std.specs.Prelude.{ℕ, ◌≡◌, ◌<◌, ◌≤◌, false, l
 ghost use Rattle.clf_sig.specs.Signature.{plain_signature};
 ghost use Rattle.celf_lexer.specs.Tokens.{size_limit};
 ghost use Rattle.celf_source.specs.Count.{Rose};
-ghost use Rattle.celf_reading.specs.Bare.{IsBareSignature};
+ghost use Rattle.clf_rules.specs.WellFormed.{WellFormedSignature};
 ghost use Rattle.celf_replies.specs.Reply.{plain_reply, is_refusal};
 ghost use Rattle.clf_syntax.specs.Wide.{IsWant};
 ghost use Rattle.celf_run.specs.Allowed.{holding};
@@ -48,12 +48,12 @@ pub fn next_turn<W: Sink>(
 ) -> Turn
     requires place { at ≤ length bytes.now }
     requires size { length bytes.now ≤ size_limit }
-    requires bare { IsBareSignature (plain_signature sig.old) }
+    requires formed { WellFormedSignature (plain_signature sig.old) }
     ensures turned { Turns options.now bytes.now at (holding (plain_signature sig.old)) (holding (plain_signature sig.new)) (W.written out.old) (W.written out.new) result }
     ensures onward { (end : ℕ) → result ≡ Turn.Next end → (at < end) × (end ≤ length bytes.now) }
     ensures write_fault { result ≡ Turn.Ended Status.WriteFault → Rose (W.faults out.old) (W.faults out.new) }
     ensures faults { W.faults out.old ≤ W.faults out.new }
-    ensures bare { IsBareSignature (plain_signature sig.new) }
+    ensures formed { WellFormedSignature (plain_signature sig.new) }
     ensures wide { EndsWide result }
 {
     match next_answer(alloc, options, bytes, at, sig) {
@@ -78,14 +78,14 @@ fn next_answer(
 ) -> Result<Option<Answer>, Want>
     requires place { at ≤ length bytes.now }
     requires size { length bytes.now ≤ size_limit }
-    requires bare { IsBareSignature (plain_signature sig.old) }
+    requires formed { WellFormedSignature (plain_signature sig.old) }
     ensures over { IfOk result (λ found. IfNone found (IsOver (place_in bytes.now at) × (sig.new ≡ sig.old))) }
     ensures answered { IfOk result (λ found. IfSome found (λ answer.
         Answers options.now (place_in bytes.now at) (holding (plain_signature sig.old)) (plain_reply answer.reply) (place_in bytes.now answer.end) (holding (plain_signature sig.new)))) }
     ensures onward { IfOk result (λ found. IfSome found (λ answer.
         is_refusal (plain_reply answer.reply) ≡ false → (at < answer.end) × (answer.end ≤ length bytes.now))) }
     ensures unchanged { OnErr result (sig.new ≡ sig.old) }
-    ensures bare { IsBareSignature (plain_signature sig.new) }
+    ensures formed { WellFormedSignature (plain_signature sig.new) }
     ensures wide { IfErr result IsWant }
 {
     match next_item(alloc, bytes, at) {
@@ -131,7 +131,7 @@ fn behind(reply: &Reply, end: u32) -> Turn
 {
     match reply {
         Reply::Refused { .. } => Turn::Ended(Status::Refused),
-        Reply::Entry(_) | Reply::Checked { .. } => Turn::Next(end),
+        Reply::Entry(_) | Reply::Checked { .. } | Reply::Equal | Reply::Different => Turn::Next(end),
     }
 }
 

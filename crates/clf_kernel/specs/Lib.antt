@@ -13,7 +13,6 @@ pub use Rattle.trace_equal.specs.Exchange
 pub use Rattle.clf_sig.specs.Entry
 pub use Rattle.clf_rules.specs.Typing
 pub use Rattle.clf_rules.specs.WellFormed
-pub use Rattle.clf_rules.specs.Reach
 pub use Rattle.clf_rules.specs.Refusal
 pub use Rattle.clf_rules.specs.Explained
 pub mod Answers

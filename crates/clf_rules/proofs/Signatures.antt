@@ -1,46 +1,14 @@
 -- Well-formed signatures, declaration by declaration.
-use Rattle.std.specs.Prelude.{ℕ, zero, suc, ◌≡◌, Bool, true, false, ◌&&◌, List, [], ◌∷◌, ◌++◌, Some, None, Contains, refl}
+use Rattle.std.specs.Prelude.{ℕ, zero, suc, ◌≡◌, List, [], ◌∷◌, ◌++◌, Some, None, Contains, refl}
 use Rattle.std.specs.List.{slice_get}
 use Rattle.std.proofs.Common.{ap, sym, subst, ◌∙◌}
 use Rattle.std.proofs.lemmas.List.Elements.{Contains-push, Contains-append_left}
-use Rattle.clf_syntax.specs.TypeTree.{PlainType, family, function, both, top, monad, PlainTelescope, end, binding, PlainKind}
+use Rattle.clf_syntax.specs.TypeTree.{PlainType, PlainKind}
 use Rattle.use_contexts.specs.Context.{Context}
 use Rattle.clf_sig.specs.Entry.{PlainSignature, Declaration, PlainClass, family_of, constant_of, kind_in, type_in, names, family_kind, constant_type}
-use Rattle.clf_rules.specs.WellFormed.{IndicesHaveTypes, WellFormedType, WellFormedTelescope, WellFormedKind, WellFormedClass, MayFollow, AllMayFollow}
-use Rattle.clf_rules.specs.Reach.{without_indices, telescope_without_indices}
-use Rattle.clf_rules.specs.Laws.{FamiliesWithoutArguments, AnyContext, Extended, EachFollows, NamesDiffer, EntriesWellFormed}
+use Rattle.clf_rules.specs.WellFormed.{WellFormedType, WellFormedKind, WellFormedClass, MayFollow, AllMayFollow}
+use Rattle.clf_rules.specs.Laws.{Extended, EachFollows, NamesDiffer, EntriesWellFormed}
 use Rattle.clf_rules.proofs.Longer.{longer, kept_type, kept_kind, longer_signatures}
-
-no_arguments : (sig : PlainSignature) (g : Context) (k : PlainKind) → IndicesHaveTypes sig g [] k → k ≡ []
-no_arguments sig g [] p = refl
-no_arguments sig g (a ∷ k) p = absurd p
-
-pub families_without_arguments : FamiliesWithoutArguments
-families_without_arguments sig g f = ((λ p. p.1 ∙ ap (λ k. Some k) (no_arguments sig g p.0 p.2)), (λ e. ([], e, tt)))
-
-pub first_of_both : (a b : Bool) → a && b ≡ true → a ≡ true
-first_of_both true b e = refl
-first_of_both false b e = e
-
-pub second_of_both : (a b : Bool) → a && b ≡ true → b ≡ true
-second_of_both true b e = e
-second_of_both false b e = cc
-
-mutual
-  pub any_type : (sig : PlainSignature) (a : PlainType) (g h : Context) → without_indices a ≡ true → WellFormedType sig g a → WellFormedType sig h a
-  any_type sig (family f []) g h e p = (families_without_arguments sig h f).1 ((families_without_arguments sig g f).0 p)
-  any_type sig (family f (n ∷ ns)) g h e p = absurd (cc)
-  any_type sig (function m a b) g h e p = (any_type sig a g h (first_of_both _ _ e) p.0, any_type sig b ((m, a) ∷ g) ((m, a) ∷ h) (second_of_both (without_indices a) _ e) p.1)
-  any_type sig (both a b) g h e p = (any_type sig a g h (first_of_both _ _ e) p.0, any_type sig b g h (second_of_both (without_indices a) _ e) p.1)
-  any_type sig top g h e p = p
-  any_type sig (monad s) g h e p = any_telescope sig s g h e p
-
-  pub any_telescope : (sig : PlainSignature) (s : PlainTelescope) (g h : Context) → telescope_without_indices s ≡ true → WellFormedTelescope sig g s → WellFormedTelescope sig h s
-  any_telescope sig end g h e p = p
-  any_telescope sig (binding m a s) g h e p = (any_type sig a g h (first_of_both _ _ e) p.0, any_telescope sig s ((m, a) ∷ g) ((m, a) ∷ h) (second_of_both (without_indices a) _ e) p.1)
-
-pub any_context : AnyContext
-any_context sig g h a = any_type sig a g h
 
 no_more : (s : PlainSignature) → s ++ [] ≡ s
 no_more [] = refl
@@ -129,4 +97,4 @@ constants_formed s (d ∷ l) (suc c) a p e = subst (λ x. WellFormedType x [] a)
 pub entries_well_formed : EntriesWellFormed
 entries_well_formed sig p = ((λ f k e. families_formed [] sig f k p e), (λ c a e. constants_formed [] sig c a p e))
 
-pub ruleset signature_laws = (families_without_arguments, any_context, extended, each_follows, names_differ, longer_signatures, entries_well_formed)
+pub ruleset signature_laws = (extended, each_follows, names_differ, longer_signatures, entries_well_formed)

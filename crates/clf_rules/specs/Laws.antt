@@ -9,16 +9,7 @@ use Rattle.clf_sig.specs.Entry.{PlainSignature, Declaration, names, family_kind,
 use Rattle.clf_rules.specs.Typing.{HasType, Synthesizes, ExpressionHasType}
 use Rattle.clf_rules.specs.WellFormed.{WellFormedType, WellFormedTelescope, WellFormedKind, WellFormedContext, MayFollow, WellFormedSignature}
 use Rattle.clf_rules.specs.Clean.{IsNotPersistent, CleanType, CleanTelescope, CleanContext}
-use Rattle.clf_rules.specs.Reach.{without_indices}
 use Rattle.clf_syntax.specs.Occurs.{occurs, occurs_type, occurs_telescope}
-
--- A family without arguments is a well-formed type exactly where the signature has it so.
-abbrev pub FamiliesWithoutArguments : Type 0
-FamiliesWithoutArguments = (sig : PlainSignature) (g : Context) (f : ℕ) → WellFormedType sig g (family f []) ↔ (family_kind sig f ≡ Some [])
-
--- A type without indices is well formed in every context where it is in one.
-abbrev pub AnyContext : Type 0
-AnyContext = (sig : PlainSignature) (g h : Context) (a : PlainType) → without_indices a ≡ true → WellFormedType sig g a → WellFormedType sig h a
 
 -- A well-formed signature stays well formed with one more declaration that may follow it.
 abbrev pub Extended : Type 0

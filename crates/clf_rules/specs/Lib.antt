@@ -12,7 +12,6 @@ pub use Rattle.clf_sig.specs.Entry
 pub mod Typing
 pub mod WellFormed
 pub mod Clean
-pub mod Reach
 pub mod Refusal
 pub mod Explained
 pub mod Laws

@@ -1,12 +1,5 @@
 //! Laws of the rules, each stated by a function that does nothing.
-ghost use Rattle.clf_rules.specs.Laws.{AnyContext, EachFollows, EntriesWellFormed, Extended, FamiliesWithoutArguments, LongerSignatures, MentionsNothingUnheld, NamesDiffer, WellFormedIsClean};
-
-/// Families without arguments are well formed where the signature has them so, and types without indices are so in every context.
-#[tactic(auto, using(crate::proofs::Signatures::signature_laws))]
-pub fn well_formed_types()
-    ensures families { FamiliesWithoutArguments }
-    ensures context { AnyContext }
-{}
+ghost use Rattle.clf_rules.specs.Laws.{EachFollows, EntriesWellFormed, Extended, LongerSignatures, MentionsNothingUnheld, NamesDiffer, WellFormedIsClean};
 
 /// A well-formed signature grows by declarations that may follow it, and no two of its names are the same.
 #[tactic(auto, using(crate::proofs::Signatures::signature_laws))]

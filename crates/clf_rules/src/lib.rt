@@ -4,5 +4,5 @@
 mod laws;
 mod worked;
 
-pub use laws::{clean, longer_signatures, well_formed_signatures, well_formed_types};
+pub use laws::{clean, longer_signatures, well_formed_signatures};
 pub use worked::worked_judgments;

@@ -5,7 +5,7 @@ use Rattle.celf_run.proofs.Answering.{may-be-declared, plainly-answers, sugar-an
 use Rattle.celf_run.proofs.answer.answer_item.Goals as goal
 
 pub answer_plain-reply-requires-clause-name : goal.answer_plain-reply-requires-clause-name
-answer_plain-reply-requires-clause-name c = may-be-declared (written_item c.args.item.now) (desugared_item c.in-Ok.plain) c.in-Ok.ensures.plain c.requires.name
+answer_plain-reply-requires-clause-name c = may-be-declared (written_item c.args.item.now) (desugared_item c.in-Ok.plain) c.in-Ok.ensures.plain c.in-Ok.ensures.clean c.requires.name
 
 pub returns-in-Ok-clause-allowed : goal.returns-in-Ok-clause-allowed
 returns-in-Ok-clause-allowed c =

@@ -1,21 +1,21 @@
 use Rattle.std.proofs.Common.{◌≡◌, ◌∙◌, sym, ap, subst, option_map, Err}
 use Rattle.clf_syntax.specs.declared.fault.OrWide.{OrWide}
 use Rattle.celf_explicit.specs.declared.item.UnknownName.{UnknownName}
-use Rattle.celf_explicit.specs.Explicit.{IsReading}
+use Rattle.celf_explicit.specs.Cores.{IsReadAs}
 use Rattle.clf_sig.specs.Signature.{plain_signature}
 use Rattle.clf_sig.specs.Core.{plain_core}
 use Rattle.celf_sugar.specs.Plain.{desugared_item}
 use Rattle.celf_replies.specs.Reply.{PlainReply, plain_reply, refused}
 use Rattle.celf_run.specs.Allowed.{holding, PlainAllowed, barred, declined, not_explicit}
 use Rattle.celf_run.specs.Answering.{unknown_refusal}
-use Rattle.celf_run.proofs.Answering.{within-reach, core-answers, unknown-barred}
+use Rattle.celf_run.proofs.Answering.{may-be-added, core-answers, unknown-barred}
 use Rattle.celf_run.proofs.answer.answer_named.Goals as goal
 
-pub answer_core-requires-clause-reach : goal.answer_core-requires-clause-reach
-answer_core-requires-clause-reach c =
+pub answer_core-requires-clause-added : goal.answer_core-requires-clause-added
+answer_core-requires-clause-added c =
     let sig = plain_signature c.args.sig.now in
     let item = desugared_item c.args.plain.now in
-    within-reach sig item (plain_core c.in-Ok-Some.core) c.requires.bare c.requires.name c.requires.passes (sym c.in-Ok-Some.ensures.1 ∙ ap (option_map plain_core) c.in-Ok-Some.field-0-is)
+    may-be-added sig item (plain_core c.in-Ok-Some.core) c.requires.name c.requires.passes (sym c.in-Ok-Some.ensures.1 ∙ ap (option_map plain_core) c.in-Ok-Some.field-0-is)
 
 pub returns-in-Ok-Some-clause-allowed : goal.returns-in-Ok-Some-clause-allowed
 returns-in-Ok-Some-clause-allowed c =
@@ -32,7 +32,7 @@ pub returns-in-Err-Fault-clause-allowed : goal.returns-in-Err-Fault-clause-allow
 returns-in-Err-Fault-clause-allowed c =
     let sig = plain_signature c.args.sig.now in
     let item = desugared_item c.args.plain.now in
-    let told = subst (λ (f : OrWide UnknownName). IsReading sig item (Err f)) c.in-Err-Fault.field-0-is c.in-Err-Fault.ensures in
+    let told = subst (λ (f : OrWide UnknownName). IsReadAs sig item (Err f)) c.in-Err-Fault.field-0-is c.in-Err-Fault.ensures in
     let allowed : PlainAllowed c.args.options.now (holding sig) item (refused (unknown_refusal c.in-Err-Fault.unknown.span.start c.in-Err-Fault.unknown.name)) (holding sig) =
     barred (unknown-barred sig item _ _ c.requires.passes told) in
     let said : plain_reply c.unknown_name.result ≡ refused (unknown_refusal c.in-Err-Fault.unknown.span.start c.in-Err-Fault.unknown.name) =

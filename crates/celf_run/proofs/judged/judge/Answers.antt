@@ -1,14 +1,19 @@
 use Rattle.clf_syntax.specs.Plain.{plain_obj}
 use Rattle.clf_syntax.specs.PlainTypes.{plain_ty}
 use Rattle.clf_sig.specs.Signature.{plain_signature}
-use Rattle.celf_run.proofs.Answering.{tells-typed, core-refused}
+use Rattle.clf_sig.specs.Core.{checks}
+use Rattle.celf_run.specs.Allowed.{typed}
+use Rattle.celf_run.specs.Answering.{fits}
+use Rattle.celf_run.proofs.Answering.{object-fault, fault-told}
 use Rattle.celf_run.proofs.judged.judge.Goals as goal
 
 pub returns-in-Ok-clause-answered : goal.returns-in-Ok-clause-answered
-returns-in-Ok-clause-answered c =
-    tells-typed c.args.options.now (plain_signature c.args.sig.now) c.args.at (plain_obj c.args.obj) (plain_ty c.args.ty) c.requires.reach c.in-Ok.ensures
+returns-in-Ok-clause-answered c = fits (typed (record { formed = c.requires.type_formed; has = c.in-Ok.ensures }))
 
 pub returns-in-Err : goal.returns-in-Err
 returns-in-Err c =
-    let told = core-refused c.args.options.now (plain_signature c.args.sig.now) c.args.at (plain_obj c.args.obj) (plain_ty c.args.ty) c.in-Err.fault c.not_typed.result c.requires.reach c.in-Err.ensures c.not_typed.ensures in
+    let sig = plain_signature c.args.sig.now in
+    let n = plain_obj c.args.obj in
+    let a = plain_ty c.args.ty in
+    let told = fault-told c.args.options.now sig c.args.at 1 (checks n a) c.in-Err.fault c.refusal_of.result (object-fault sig n a c.in-Err.fault c.in-Err.ensures) c.refusal_of.ensures in
     record { answered = told.0; wide = told.1 }

@@ -15,7 +15,7 @@ items-preserved g c =
     let faults = c.next_turn.ensures.faults in
     record {
       place = onward.1;
-      bare = c.next_turn.ensures.bare;
+      formed = c.next_turn.ensures.formed;
       faults = omega arith;
       reached = reached-onward c.args.options.now c.args.bytes.now c.items.at c.in-Next.end old new _ _ _ c.items.invariant.reached taken;
     }

@@ -1,7 +1,7 @@
--- The run has come to a place, with a bare signature, and no fault was taken back.
+-- The run has come to a place, with a well-formed signature, and no fault was taken back.
 use Rattle.std.proofs.Common.{◌≤◌, ◌-◌, length}
 use Rattle.clf_sig.specs.Signature.{plain_signature}
-use Rattle.celf_reading.specs.Bare.{IsBareSignature}
+use Rattle.clf_rules.specs.WellFormed.{WellFormedSignature}
 use Rattle.celf_run.specs.Allowed.{holding}
 use Rattle.celf_run.specs.Turning.{Reached}
 use Rattle.celf_run.proofs.top.answer_all.Given as goal
@@ -9,7 +9,7 @@ use Rattle.celf_run.proofs.top.answer_all.Given as goal
 abbrev pub invariant-items : goal.invariant-items
 invariant-items g l = record {
   place : l.at ≤ length l.bytes;
-  bare : IsBareSignature (plain_signature l.sig);
+  formed : WellFormedSignature (plain_signature l.sig);
   faults : g.W.Sink.faults l.fn.out ≤ g.W.Sink.faults l.out;
   reached : Reached l.options l.bytes l.at (holding (plain_signature l.sig)) (g.W.Sink.written l.fn.out) (g.W.Sink.written l.out);
 }
