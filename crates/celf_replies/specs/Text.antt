@@ -1,9 +1,9 @@
 -- The lines of a reply, over the signature that is held behind it.
-use Rattle.std.specs.Prelude.{ℕ, ◌<◌, ◌^◌, true, false, List, [], ◌++◌, IfSome, codes}
+use Rattle.std.specs.Prelude.{ℕ, ◌≡◌, ◌<◌, ◌^◌, true, false, List, [], ◌++◌, Some, codes}
 use Rattle.std.specs.Fmt.{decimal}
 use Rattle.clf_syntax.specs.Tree.{PlainObject}
 use Rattle.clf_syntax.specs.TypeTree.{PlainType}
-use Rattle.clf_sig.specs.Entry.{PlainSignature, class_at}
+use Rattle.clf_sig.specs.Entry.{PlainEntry, PlainSignature, entry_at}
 use Rattle.clf_printer.specs.declared.place.Place.TheVariants.{Whole}
 use Rattle.clf_printer.specs.Text.{object_text, type_text}
 use Rattle.clf_printer.specs.Metas.{appearing, appearing_type}
@@ -47,7 +47,7 @@ reply_text sig (refused r) = refusal_text sig r.at r.why
 
 -- The numbers of the variables in a reply are less than 2 ^ 64: so far are they written whole.
 abbrev pub IsNumbered : PlainSignature → PlainReply → Type 0
-IsNumbered sig (entry k) = IfSome (class_at sig k) (λ class. class_depth class < 2 ^ 64)
+IsNumbered sig (entry k) = (e : PlainEntry) → entry_at sig k ≡ Some e → class_depth e.class < 2 ^ 64
 IsNumbered sig (checked n a) = (scope_depth n < 2 ^ 64) × (type_depth a < 2 ^ 64)
 IsNumbered sig equal = Unit {0}
 IsNumbered sig different = Unit {0}

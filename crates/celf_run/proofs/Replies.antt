@@ -1,8 +1,7 @@
 -- The lines of the replies that a task may have read back.
 use Rattle.std.proofs.Common.{ℕ, ◌≡◌, ◌<◌, ◌^◌, sym, ap, subst, Some, List, [], ◌∷◌, ◌++◌, length, slice_get, codes}
-use Rattle.std.specs.Prelude.{IfSome}
 use Rattle.std.specs.Option.{option_map}
-use Rattle.clf_sig.specs.Entry.{PlainEntry, PlainClass, PlainSignature, class_at}
+use Rattle.clf_sig.specs.Entry.{Declaration, PlainEntry, PlainSignature}
 use Rattle.clf_sig.specs.Core.{PlainCore, declares, queries, traces, equates, checks}
 use Rattle.clf_rules.specs.WellFormed.{WellFormedSignature}
 use Rattle.clf_printer.specs.Depth.{class_depth}
@@ -25,7 +24,7 @@ use Rattle.celf_run.proofs.Lines.{get-behind, entry-line}
 
 -- what is said of the new entry
 numbered-entry : (sig : PlainSignature) (name : List ℕ) (e : PlainEntry) → IsNumbered (sig ++ (name, e) ∷ []) (entry (length sig)) → class_depth e.class < 2 ^ 64
-numbered-entry sig name e n = rw (get-behind sig (name, e)) at n
+numbered-entry sig name e n = n e (ap (option_map (λ (d : Declaration). d.1)) (get-behind sig (name, e)))
 
 fits-reads_back : (options : Options) (held new : Held) (item : WrittenItem) (core : PlainCore) (reply : PlainReply) → WellFormedSignature held.signature
     → core_of held.signature (desugared item) ≡ Some core → Fits options held core reply new → IsNumbered new.signature reply → ReadsBack options held reply new
