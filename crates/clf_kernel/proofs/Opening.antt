@@ -16,13 +16,14 @@ use Rattle.clf_sig.specs.Entry.{PlainSignature}
 use Rattle.typing_laws.proofs.Carried.{square_telescope}
 use Rattle.clf_decision.specs.Outcome.{Outcome, passed, refused, at_part, and_then}
 use Rattle.clf_decision.specs.Checking.{Puts, with_slack, pattern_left, closed_scope, closed_scopes, rest_left, step_left, inferred, checked_expression}
+use Rattle.clf_decision.proofs.Outcomes.{then_same}
 use Rattle.clf_kernel.specs.declared.refusal.Stop.{Stop}
 use Rattle.clf_kernel.specs.declared.trail.Opened.{Opened}
 use Rattle.clf_kernel.specs.declared.trail.Entered.{Entered}
 use Rattle.clf_kernel.specs.Stops.{Stops}
 use Rattle.clf_kernel.specs.Trail.{closed_mode, closed_modes, closed_step, closed_steps, opened_width, opened_by, plain_opened, IsEnteredStep, OpensStep}
 use Rattle.clf_kernel.proofs.Stops.{then_stops}
-use Rattle.clf_kernel.proofs.Closings.{then_same, steps_stop, opened_more, length-opened_by}
+use Rattle.clf_kernel.proofs.Closings.{steps_stop, opened_more, length-opened_by}
 
 -- ---- the ends of scopes, without the context
 pub scopes_modes : (u : PlainTelescope) (g : Context) (a : Leftover) → closed_scopes u g a ≡ closed_modes (telescope_modes u) (length g) a
@@ -45,9 +46,6 @@ module _ (puts : Puts) (sig : PlainSignature) (place : ℕ) (ms : List Mode) (r 
       ∙ ap (λ w. and_then (at_part place w) (λ same. rest_left place u g x.1 (rest u (all_held ms x.0)))) p
       ∙ rest_step place u g x.1 (rest u (all_held ms x.0))
       ∙ ap (λ ns. closed_step place ns (length g) x.1 (rest u (all_held ms x.0))) m
-
-  pub right_stops : (s : Stop) → Stops (at_part place (inferred puts sig g h r)) s → (e : PlainExpression) (t : PlainTelescope) → Stops (checked_expression puts sig g h place (step ms r e) t) s
-  right_stops s p e t = then_stops (at_part place (inferred puts sig g h r)) (λ f. step_left place ms g f (λ v row. checked_expression puts sig (with_entries v g) row (suc place) e (ren_telescope (up (length ms)) t))) s p
 
 -- ---- all steps
 risen : (a b : ℕ) (s : PlainTelescope) → ren_telescope (up a) (ren_telescope (up b) s) ≡ ren_telescope (up (a + b)) s
