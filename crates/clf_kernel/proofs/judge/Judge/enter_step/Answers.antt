@@ -2,6 +2,7 @@ use Rattle.std.proofs.Common.{◌≡◌, length, map, reverse, refl, ap, sym, su
 use Rattle.std.proofs.lemmas.List.{length-append}
 use Rattle.clf_syntax.specs.declared.tree.Tele.{out-Tele}
 use Rattle.clf_syntax.specs.PlainTypes.{plain_ty, plain_tele, plain_tele_entry, plain-Monad}
+use Rattle.use_contexts.specs.declared.context.Ctx.{Ctx}
 use Rattle.clf_decision.specs.Outcome.{passed}
 use Rattle.clf_decision.specs.Checking.{pattern_left}
 use Rattle.clf_kernel.proofs.Growing.{entries_length}
