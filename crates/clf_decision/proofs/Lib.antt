@@ -1,4 +1,3 @@
-pub mod Outcomes
 pub mod Tests
 pub mod Marked
 pub mod AgreesWith

@@ -1,3 +1,4 @@
+pub mod Outcomes
 pub mod RowSteps
 pub mod Stops
 pub mod Spines

@@ -16,7 +16,7 @@ use Rattle.clf_sig.specs.Entry.{PlainSignature}
 use Rattle.typing_laws.proofs.Carried.{square_telescope}
 use Rattle.clf_decision.specs.Outcome.{Outcome, passed, refused, at_part, and_then}
 use Rattle.clf_decision.specs.Checking.{Puts, with_slack, pattern_left, closed_scope, closed_scopes, rest_left, step_left, inferred, checked_expression}
-use Rattle.clf_decision.proofs.Outcomes.{then_same}
+use Rattle.clf_kernel.proofs.Outcomes.{then_same}
 use Rattle.clf_kernel.specs.declared.refusal.Stop.{Stop}
 use Rattle.clf_kernel.specs.declared.trail.Opened.{Opened}
 use Rattle.clf_kernel.specs.declared.trail.Entered.{Entered}

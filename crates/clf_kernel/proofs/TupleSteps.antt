@@ -19,7 +19,7 @@ use Rattle.clf_rules.specs.Refusal.{mode_differs, width}
 use Rattle.clf_rules.specs.Explained.{tuple_width, telescope_width}
 use Rattle.clf_decision.specs.Outcome.{Outcome, passed, refused, at_part, and_then}
 use Rattle.clf_decision.specs.Checking.{Puts, with_slack, entry_left, checked, checked_tuple}
-use Rattle.clf_decision.proofs.Outcomes.{then_then, then_same}
+use Rattle.clf_kernel.proofs.Outcomes.{then_then, then_same}
 use Rattle.clf_kernel.specs.declared.refusal.Stop.{Stop}
 use Rattle.clf_kernel.specs.Stops.{Stops}
 use Rattle.clf_kernel.specs.Spine.{argument_used}

@@ -22,7 +22,7 @@ impl Judge<'_> {
     /// A monadic object stands at a monad.
     #[cycle(check)]
     #[tactic(auto, using(clf_syntax::specs::PlainTypes::plain_type_laws, crate::proofs::Stops::stop_laws))]
-    fn check_monadic(&mut self, expr: &Expr, ty: &Ty, row: Holding) -> Result<Left, Stop>
+    pub fn check_monadic(&mut self, expr: &Expr, ty: &Ty, row: Holding) -> Result<Left, Stop>
         requires marked { length (marks row) ≡ length (context_of self.old) }
         requires numbered { length (context_of self.old) < 2 ^ 32 }
         ensures outcome { Gives plain_left (monadic_left (plain_ty ty.now) (λ s. checked_expression hereditary (signature_of self.old) (context_of self.old) (marks row) 0 (plain_expr expr.now) s)) result }

@@ -117,7 +117,7 @@ impl Judge<'_> {
     /// What an argument leaves of what its function left.
     #[cycle(check)]
     #[tactic(auto, using(crate::proofs::Stops::stop_laws))]
-    fn check_argument(
+    pub fn check_argument(
         &mut self,
         mode: Mode,
         obj: &Obj,

@@ -32,7 +32,7 @@ impl Judge<'_> {
     /// What the entries of a tuple leave of a row, behind so many steps.
     #[cycle(check)]
     #[tactic(auto, using(crate::proofs::Stops::stop_laws))]
-    fn check_tuple(
+    pub fn check_tuple(
         &mut self,
         steps: usize,
         entries: &[TupleEntry],

@@ -13,7 +13,7 @@ use Rattle.clf_syntax.specs.Renaming.{ren_telescope, up}
 use Rattle.use_contexts.specs.Marks.{marks}
 use Rattle.clf_rules.specs.Refusal.{width, mode_differs}
 use Rattle.clf_decision.specs.Outcome.{passed, refused, and_then, at_part}
-use Rattle.clf_decision.specs.Checking.{closed_scope, checked, checked_expression, checked_tuple}
+use Rattle.clf_decision.specs.Checking.{closed_scope, atomic_left, checked, checked_expression, checked_tuple}
 use Rattle.clf_decision.specs.Hereditary.{hereditary}
 use Rattle.clf_kernel.specs.Spine.{elimination_left, spine_left}
 use Rattle.clf_kernel.specs.Answers.{plain_left, plain_inferred}
@@ -30,6 +30,11 @@ use Rattle.clf_kernel.specs.declared.judge.Judge.{Judge}
 use Rattle.clf_kernel.specs.Judge.{IsEntered, IsGrown, signature_of, context_of}
 use Rattle.clf_kernel.proofs.Growing.{not_grown, grown_again, grown_by_one, same_signature, entries_length}
 use Rattle.clf_kernel.proofs.judge.Judge.+check.Goals as goal
+
+pub check_neutral-returns-clause-outcome : goal.check_neutral-returns-clause-outcome
+check_neutral-returns-clause-outcome t c =
+    subst (λ w. Gives plain_left (and_then w (atomic_left (context_of c.args.self.now) (plain_ty c.args.ty.now))) c.check_atomic.result) (sym c.in_ok-found.ensures.outcome)
+    (subst (λ j. Gives plain_left (atomic_left (context_of j) (plain_ty c.args.ty.now) (plain_inferred c.in_ok-found.found)) c.check_atomic.result) c.in_ok-found.ensures.kept c.check_atomic.ensures.outcome)
 
 pub check_part-returns-in-Err-clause-outcome : goal.check_part-returns-in-Err-clause-outcome
 check_part-returns-in-Err-clause-outcome t c = part_stops _ _ _ _ c.from_part.ensures c.in-Err.ensures.outcome
