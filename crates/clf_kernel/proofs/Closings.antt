@@ -4,9 +4,9 @@ use Rattle.std.proofs.Math.Seq.{take-suc}
 use Rattle.std.proofs.lemmas.List.{map-append, reverse-append, length-reverse, length-map, length-take-le}
 use Rattle.clf_syntax.specs.declared.tree.Mode.{Mode}
 use Rattle.use_contexts.specs.Rows.{Leftover}
-use Rattle.clf_decision.specs.Outcome.{Outcome, passed, refused, at_part, and_then}
+use Rattle.clf_decision.specs.Outcome.{Outcome, passed, at_part, and_then}
 use Rattle.clf_decision.specs.Checking.{with_slack}
-use Rattle.clf_kernel.proofs.Outcomes.{then_then, then_same, then_itself}
+use Rattle.clf_decision.proofs.Outcomes.{then_then, then_same, then_itself}
 use Rattle.clf_kernel.specs.declared.refusal.Stop.{Stop}
 use Rattle.clf_kernel.specs.declared.trail.Opened.{Opened}
 use Rattle.clf_kernel.specs.Stops.{Stops}

@@ -1,5 +1,5 @@
 -- Expressions and tuples, whole: what their steps and entries come to.
-use Rattle.std.proofs.Common.{◌≡◌, ◌<◌, ℕ, zero, suc, ◌+◌, true, false, Bool, if◌then◌else◌, List, [], ◌∷◌, ◌++◌, length, map, take, drop, get_or, ◌-◌, Result, Ok, Err, IfOk, refl, sym, ap, subst, ◌∙◌, arith}
+use Rattle.std.proofs.Common.{◌≡◌, ◌<◌, ℕ, suc, ◌+◌, true, false, if◌then◌else◌, List, [], ◌∷◌, length, map, take, drop, get_or, ◌-◌, Result, Ok, Err, IfOk, refl, sym, ap, subst, ◌∙◌, arith}
 use Rattle.std.proofs.Math.Seq.{drop-cons, take-length}
 use Rattle.std.proofs.lemmas.Bool.{cond-true, cond-false}
 use Rattle.std.proofs.lemmas.List.{length-map, length-drop}
@@ -9,22 +9,21 @@ use Rattle.clf_syntax.specs.declared.tree.Step.{Step}
 use Rattle.clf_syntax.specs.declared.tree.Tele.{Tele, out-Tele}
 use Rattle.clf_syntax.specs.declared.tree.TeleEntry.{TeleEntry, out-TeleEntry}
 use Rattle.clf_syntax.specs.declared.tree.TupleEntry.{TupleEntry}
-use Rattle.clf_syntax.specs.Tree.{PlainObject, PlainNeutral, PlainExpression, PlainTuple, step, done, empty, steps_on, tuple_of}
-use Rattle.clf_syntax.specs.TypeTree.{PlainType, monad, PlainTelescope, end, binding, telescope_of}
+use Rattle.clf_syntax.specs.Tree.{PlainObject, PlainNeutral, PlainExpression, PlainTuple, done, empty, steps_on, tuple_of}
+use Rattle.clf_syntax.specs.TypeTree.{PlainType, PlainTelescope, end, binding, telescope_of}
 use Rattle.clf_syntax.specs.Plain.{plain_expr, plain_step, plain_entry, plain-expr}
 use Rattle.clf_syntax.specs.PlainTypes.{plain_ty, plain_tele, plain_tele_entry, plain-tele, plain-tele-entry}
 use Rattle.clf_syntax.specs.Renaming.{ren_telescope, up}
 use Rattle.clf_syntax.proofs.TypeRenaming.{identity_telescope}
 use Rattle.use_contexts.specs.Context.{Context, telescope_modes, with_entries}
 use Rattle.use_contexts.specs.Holding.{Holding, all_held}
-use Rattle.use_contexts.specs.Marks.{marks}
 use Rattle.use_contexts.specs.Rows.{Leftover}
 use Rattle.clf_sig.specs.Entry.{PlainSignature}
 use Rattle.clf_syntax.specs.Modes.{same_mode}
 use Rattle.typing_laws.proofs.Carried.{square_telescope}
 use Rattle.clf_rules.specs.Refusal.{mode_differs, width}
 use Rattle.clf_decision.specs.Outcome.{Outcome, passed, refused, at_part, and_then}
-use Rattle.clf_decision.specs.Checking.{Puts, pattern_left, step_left, checked, inferred, checked_expression, checked_tuple}
+use Rattle.clf_decision.specs.Checking.{Puts, step_left, checked, inferred, checked_expression, checked_tuple}
 use Rattle.clf_decision.proofs.DecidedOutcomes.{Decided}
 use Rattle.clf_decision.proofs.AgreementOfMonads.{pattern-decided}
 use Rattle.clf_kernel.specs.declared.refusal.Stop.{Stop}
@@ -32,7 +31,7 @@ use Rattle.clf_kernel.specs.declared.trail.Opened.{Opened}
 use Rattle.clf_kernel.specs.declared.trail.Entered.{Entered}
 use Rattle.clf_kernel.specs.Spine.{argument_used}
 use Rattle.clf_kernel.specs.Stops.{Stops}
-use Rattle.clf_kernel.specs.Trail.{IsEnteredStep, EntersStep, OpensStep, closed_step, closed_steps, opened_by, opened_width}
+use Rattle.clf_kernel.specs.Trail.{EntersStep, OpensStep, closed_step, closed_steps, opened_by, opened_width}
 use Rattle.clf_kernel.specs.TupleEntries.{entry_behind}
 use Rattle.clf_kernel.proofs.Opening.{opens}
 use Rattle.clf_kernel.proofs.TupleSteps.{tuple_rest, entry_more, entry_stops, too_short}

@@ -4,7 +4,6 @@ use Rattle.std.proofs.Math.Logic.{◌⊎◌, inl, inr}
 use Rattle.std.proofs.lemmas.List.{append_assoc, append-nil, length-append, length-map, length-reverse}
 use Rattle.clf_syntax.specs.declared.tree.TeleEntry.{TeleEntry}
 use Rattle.clf_syntax.specs.PlainTypes.{plain_tele_entry}
-use Rattle.clf_sig.specs.Entry.{PlainSignature}
 use Rattle.use_contexts.specs.declared.context.Ctx.{Ctx}
 use Rattle.use_contexts.specs.Marks.{context}
 use Rattle.clf_kernel.specs.declared.judge.Judge.{Judge}

@@ -1,4 +1,3 @@
-pub mod Outcomes
 pub mod RowSteps
 pub mod Stops
 pub mod Spines

@@ -1,5 +1,5 @@
 -- A neutral's type, elimination by elimination from the head on.
-use Rattle.std.proofs.Common.{◌≡◌, ℕ, suc, ◌+◌, ◌<◌, List, [], ◌∷◌, length, map, drop, get_or, refl, sym, ap, subst, ◌∙◌, add-one}
+use Rattle.std.proofs.Common.{◌≡◌, ℕ, suc, ◌+◌, ◌<◌, List, [], ◌∷◌, length, map, drop, get_or, sym, ap, subst, ◌∙◌, add-one}
 use Rattle.std.proofs.Math.Seq.{drop-cons}
 use Rattle.clf_syntax.specs.declared.tree.Elim.{Elim}
 use Rattle.clf_syntax.specs.declared.tree.Neutral.{Neutral}
@@ -14,7 +14,7 @@ use Rattle.clf_decision.specs.Outcome.{passed, and_then}
 use Rattle.use_contexts.specs.Rows.{Leftover}
 use Rattle.clf_decision.specs.Checking.{head_left, inferred}
 use Rattle.clf_decision.specs.Hereditary.{hereditary}
-use Rattle.clf_kernel.proofs.Outcomes.{then_passed, then_then}
+use Rattle.clf_decision.proofs.Outcomes.{then_passed, then_then}
 use Rattle.clf_kernel.specs.declared.refusal.Stop.{Stop}
 use Rattle.clf_kernel.specs.Spine.{elimination_left, spine_left}
 use Rattle.clf_kernel.specs.Stops.{Stops}

@@ -2,7 +2,7 @@
 --
 -- A leftover is determined by the parts that it stands for, but for slack where its row has no linear entry: there slack has nothing to
 -- take, and a call may answer it or not.
-use Rattle.std.specs.Prelude.{◌≡◌, Result, Ok, Err, Some, None}
+use Rattle.std.specs.Prelude.{Result, Ok, Err, Some, None}
 use Rattle.clf_syntax.specs.declared.fault.OrWide.{OrWide}
 use Rattle.clf_syntax.specs.declared.fault.OrWide.TheVariants.{Fault, NoMemory, TooFar}
 use Rattle.clf_syntax.specs.Tree.{PlainObject, monadic, PlainNeutral, PlainExpression}
@@ -11,7 +11,7 @@ use Rattle.clf_syntax.specs.Wide.{IsWide}
 use Rattle.use_contexts.specs.declared.join.Left.{Left}
 use Rattle.use_contexts.specs.Context.{Context, modes}
 use Rattle.use_contexts.specs.Holding.{Holding}
-use Rattle.use_contexts.specs.Rows.{IsSubholding, Agrees, Leftover}
+use Rattle.use_contexts.specs.Rows.{IsSubholding, Agrees}
 use Rattle.clf_sig.specs.Entry.{PlainSignature, PlainEntry}
 use Rattle.clf_kernel.specs.declared.refusal.Refusal.{Refusal}
 use Rattle.clf_kernel.specs.declared.refusal.Inferred.{Inferred}

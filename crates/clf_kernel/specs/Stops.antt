@@ -1,5 +1,5 @@
 -- Inner: what the functions inside of the kernel answer. No call of the crate names these definitions.
-use Rattle.std.specs.Prelude.{ℕ, ◌≡◌, List, [], ◌∷◌, reverse, Result, Ok, Err}
+use Rattle.std.specs.Prelude.{ℕ, ◌≡◌, List, ◌∷◌, reverse, Result, Ok, Err}
 use Rattle.clf_syntax.specs.declared.fault.OrWide.{OrWide}
 use Rattle.clf_syntax.specs.declared.fault.OrWide.TheVariants.{Fault, NoMemory, TooFar}
 use Rattle.clf_syntax.specs.Wide.{IsWide}

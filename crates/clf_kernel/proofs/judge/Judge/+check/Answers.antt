@@ -11,8 +11,8 @@ use Rattle.clf_syntax.specs.Tree.{PlainExpression, done, steps_on, tuple_of}
 use Rattle.clf_syntax.specs.TypeTree.{PlainTelescope, telescope_of}
 use Rattle.clf_syntax.specs.Renaming.{ren_telescope, up}
 use Rattle.use_contexts.specs.Marks.{marks}
-use Rattle.clf_rules.specs.Refusal.{width, mode_differs}
-use Rattle.clf_decision.specs.Outcome.{passed, refused, and_then, at_part}
+use Rattle.clf_rules.specs.Refusal.{width}
+use Rattle.clf_decision.specs.Outcome.{passed, and_then, at_part}
 use Rattle.clf_decision.specs.Checking.{closed_scope, atomic_left, checked, checked_expression, checked_tuple}
 use Rattle.clf_decision.specs.Hereditary.{hereditary}
 use Rattle.clf_kernel.specs.Spine.{elimination_left, spine_left}

@@ -1,4 +1,4 @@
-use Rattle.std.proofs.Common.{◌≡◌, ◌+◌, [], ◌∷◌, length, map, Err, ap, sym, subst, ◌∙◌, OnOk, arith}
+use Rattle.std.proofs.Common.{◌≡◌, ◌+◌, map, Err, ap, sym, subst, ◌∙◌, OnOk, arith}
 use Rattle.std.proofs.lemmas.Result.{err_from_is_err_and}
 use Rattle.clf_syntax.specs.declared.tree.TeleEntry.{out-TeleEntry}
 use Rattle.clf_syntax.specs.TypeTree.{telescope_of}
