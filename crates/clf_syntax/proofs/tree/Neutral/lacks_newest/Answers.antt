@@ -2,7 +2,7 @@ use Rattle.std.proofs.Common.{◌≡◌, ◌∙◌, ◌+◌, ◌<◌, ◌≤◌,
 use Rattle.clf_syntax.specs.declared.number.TheConstants.{BEYOND}
 use Rattle.clf_syntax.specs.Plain.{plain_neutral}
 use Rattle.clf_syntax.specs.Occurs.{occurs_neutral}
-use Rattle.clf_syntax.proofs.occurs.Neutral.lacks_newest.Goals as goal
+use Rattle.clf_syntax.proofs.tree.Neutral.lacks_newest.Goals as goal
 
 -- the number that the variable's own is kept as
 kept : (v u b : ℕ) → min (0 + v) b ≡ u → min v b ≡ u
