@@ -14,7 +14,7 @@ use Rattle.celf_surface.specs.declared.surface.Span.{Span}
 use Rattle.celf_sugar.specs.declared.plain.PName.{PName}
 use Rattle.celf_sugar.specs.declared.plain.PBinder.{PBinder}
 use Rattle.celf_sugar.specs.PlainTree.{DesugaredObject, lam, pair, unit, monadic, atomic, hole, DesugaredAct, argument, spine_of, DesugaredSteps, no_steps, step, DesugaredTuple, end_of_tuple, entry, DesugaredType, family, function, both, top, monad, DesugaredTelescope, end, binding, of_family, of_constant, DesugaredBody, declare, query, trace, equal, check}
-use Rattle.celf_explicit.specs.Items.{core_of}
+use Rattle.celf_explicit.specs.Explicit.{explicit}
 
 -- ---- cores over these entries, by their places
 --   0 a : type.  1 b : type.  2 p : a -> type.  3 z : a.  4 f : a -o a -o b.  5 g : a -> b.  6 h : a -@ b.  7 k : a -o b.
@@ -91,7 +91,7 @@ module _ (s : Span) where
 
   -- The item has this core, or none.
   abbrev pub Says : DesugaredBody → Option PlainCore → Type 0
-  Says body c = core_of signature (record { span = s; body = body }) ≡ c
+  Says body c = explicit signature (record { span = s; body = body }) ≡ c
 
   pub record WorkedCores : Type 0 where
     -- a bare part has the mode of its place, and a written mode stays
