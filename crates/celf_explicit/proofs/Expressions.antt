@@ -1,6 +1,6 @@
 -- A monadic object is read by its steps, and then its tuple.
-use Rattle.std.specs.Prelude.{◌≡◌, List, map, Option, None, Some, option_map, Result, Ok, Err, IfOk, refl}
-use Rattle.std.proofs.Common.{sym, ◌∙◌, ap}
+use Rattle.std.specs.Prelude.{◌≡◌, List, Option, None, Some, option_map, Result, Ok, Err, IfOk, refl}
+use Rattle.std.proofs.Common.{◌∙◌}
 use Rattle.clf_syntax.specs.declared.tree.Mode.{Mode}
 use Rattle.clf_syntax.specs.Tree.{PlainObject, PlainNeutral}
 use Rattle.clf_syntax.specs.TypeTree.{SimpleType}

@@ -1,15 +1,13 @@
 -- What is left of a written type without its indices is the simple type of its core.
-use Rattle.std.specs.Prelude.{ℕ, ◌≡◌, Bool, true, false, ◌||◌, if◌then◌else◌, List, ◌∷◌, Option, Some, None, option_map, option_and_then, refl}
-use Rattle.std.proofs.Common.{ap, sym, ◌∙◌}
+use Rattle.std.specs.Prelude.{ℕ, ◌≡◌, Bool, true, false, ◌||◌, if◌then◌else◌, List, ◌∷◌, Some, None, option_map}
+use Rattle.std.proofs.Common.{ap, ◌∙◌}
 use Rattle.clf_syntax.specs.TypeTree as core
-use Rattle.clf_syntax.specs.TypeTree.{base, arrow, simple_with, lax, simple_binding}
 use Rattle.clf_syntax.specs.Simple.{erase, erase_telescope}
 use Rattle.clf_sig.specs.Entry.{PlainSignature, entry_at}
 use Rattle.celf_sugar.specs.declared.plain.PName.{PName}
 use Rattle.celf_sugar.specs.PlainTree as plain
 use Rattle.celf_names.specs.Names.{family_named}
 use Rattle.celf_places.specs.Heads.{Local, has_no_implicit, all_written, family_head, arguments_of}
-use Rattle.celf_places.specs.Combined.{combined}
 use Rattle.celf_places.specs.SimpleTypes.{local_of, simple_type, simple_telescope}
 use Rattle.celf_explicit.specs.Types.{at_indices, read_indices, read_type, read_telescope}
 use Rattle.celf_explicit.specs.Laws.{SimpleTypeOfCore}

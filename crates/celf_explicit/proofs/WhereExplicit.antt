@@ -10,7 +10,7 @@ use Rattle.clf_syntax.specs.Tree as core
 use Rattle.clf_syntax.specs.TypeTree as core_type
 use Rattle.clf_syntax.specs.TypeTree.{SimpleType}
 use Rattle.clf_sig.specs.Entry.{constant_of, family_of, PlainSignature, entry_at}
-use Rattle.clf_sig.specs.Core.{PlainCore, declares, queries, traces, equates, checks}
+use Rattle.clf_sig.specs.Core.{declares, queries, traces, checks}
 use Rattle.celf_sugar.specs.declared.plain.PName.{PName}
 use Rattle.celf_sugar.specs.declared.plain.PBinder.{PBinder}
 use Rattle.celf_sugar.specs.Earliest.{sooner, earliest}
@@ -18,7 +18,7 @@ use Rattle.celf_sugar.specs.PlainTree as plain
 use Rattle.celf_names.specs.Names.{family_named, constant_named, is_bound, is_known, begins_with_capital, bound, bound_by_pattern}
 use Rattle.celf_unknown.specs.Unknown.{bound_by_steps, unknown_head, unknown_family, unknown_in_object, unknown_in_spine, unknown_in_act, unknown_in_steps, unknown_in_tuple, unknown_in_type, unknown_in_telescope, unknown_in_class, unknown_names, place, first_unknown}
 use Rattle.celf_places.specs.Places.{Place, marked, function_parts, pair_parts, entries_at, next_part, behind_act}
-use Rattle.celf_places.specs.Heads.{Local, Typed, has_name, local_from, place_of_head, has_no_implicit, all_written, constant_typed, constant_head, head, family_head, arguments_of}
+use Rattle.celf_places.specs.Heads.{Local, Typed, has_name, local_from, place_of_head, has_no_implicit, all_written, constant_typed, head, family_head, arguments_of}
 use Rattle.celf_places.specs.Combined.{combined, with_mode}
 use Rattle.celf_explicit.specs.Objects.{long_at, under_spine, step_entries, pattern_modes, with_pattern, with_steps, expression_of, read_object, read_spine, read_act, read_steps, read_tuple}
 use Rattle.celf_places.specs.SimpleTypes.{local_of, simple_type}

@@ -1,6 +1,6 @@
 -- An item is explicit where nothing is left to be found: it has no `_` as an object, no implicit variable, and no constant or family with
 -- implicit arguments that is written without `$`.
-use Rattle.std.specs.Prelude.{ℕ, Bool, true, false, not, ◌&&◌, if◌then◌else◌, List, [], ◌∷◌, ◌++◌, Option, Some, None}
+use Rattle.std.specs.Prelude.{ℕ, Bool, true, false, not, ◌&&◌, if◌then◌else◌, List, [], ◌++◌, Option, Some, None}
 use Rattle.std.specs.List.{list_all}
 use Rattle.clf_sig.specs.Entry.{PlainSignature, entry_at}
 use Rattle.celf_sugar.specs.declared.plain.PName.{PName}

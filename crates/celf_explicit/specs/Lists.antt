@@ -1,21 +1,21 @@
 -- Inner: the readings of lists, each part in the state that those before it left.
-use Rattle.std.specs.Prelude.{ℕ, ◌≡◌, List, [], ◌∷◌, ◌++◌, map, Option, Some, None, option_map, refl}
+use Rattle.std.specs.Prelude.{◌≡◌, List, [], ◌∷◌, Option, Some, None, option_map, refl}
 use Rattle.std.proofs.Common.{ap}
 use Rattle.clf_syntax.specs.declared.tree.Mode.{Mode}
-use Rattle.clf_syntax.specs.Tree.{PlainObject, PlainNeutral, PlainElimination}
+use Rattle.clf_syntax.specs.Tree.{PlainObject, PlainNeutral}
 use Rattle.clf_syntax.specs.TypeTree as core_type
-use Rattle.clf_syntax.specs.TypeTree.{SimpleType, SimpleTelescope, PlainType, PlainTelescope}
-use Rattle.clf_syntax.specs.PlainSimple.{simple_telescope_of}
+use Rattle.clf_syntax.specs.TypeTree.{SimpleType, PlainType, PlainTelescope}
 use Rattle.clf_sig.specs.Entry.{PlainSignature}
 use Rattle.celf_surface.specs.declared.surface.SMode.{SMode}
 use Rattle.celf_sugar.specs.declared.plain.PName.{PName}
 use Rattle.celf_sugar.specs.declared.plain.PBinder.{PBinder}
-use Rattle.celf_sugar.specs.PlainTree.{DesugaredObject, DesugaredAct, DesugaredSpine, DesugaredEntry, DesugaredType, spine_of, steps_of, tuple_of, telescope_of}
-use Rattle.celf_places.specs.Places.{Place, marked, next_part, behind_act, behind_spine}
+use Rattle.celf_sugar.specs.PlainTree.{DesugaredObject, DesugaredAct, DesugaredSpine, DesugaredEntry, spine_of, steps_of, tuple_of, telescope_of}
+use Rattle.celf_places.specs.Places.{Place, marked, next_part, behind_act}
 use Rattle.celf_places.specs.Heads.{Local, place_of_head, head}
 use Rattle.celf_places.specs.Combined.{combined, with_mode}
 use Rattle.celf_explicit.specs.Objects.{under_spine, step_entries, pattern_modes, with_pattern, with_steps, read_object, read_spine, read_act, read_steps, read_tuple}
-use Rattle.celf_places.specs.SimpleTypes.{local_of, simple_type, simple_telescope}
+use Rattle.celf_places.specs.SimpleTypes.{local_of}
+use Rattle.celf_places.specs.Along.{read_along, left_along}
 use Rattle.celf_explicit.specs.Types.{read_indices, read_type, read_telescope}
 
 -- ---- the parts

@@ -1,18 +1,17 @@
 -- The explicit reading of objects: the core tree of an object, where all of it is written and each of its names has a meaning.
 -- A neutral is read as its eta-long form at the simple type that its place wants, whatever its own type is.
-use Rattle.std.specs.Prelude.{ℕ, List, [], ◌∷◌, Option, Some, None, option_map}
+use Rattle.std.specs.Prelude.{List, [], ◌∷◌, Option, Some, None, option_map}
 use Rattle.clf_syntax.specs.declared.tree.Mode.{Mode}
 use Rattle.clf_syntax.specs.Tree as core
 use Rattle.clf_syntax.specs.TypeTree.{SimpleType}
 use Rattle.eta_laws.specs.Eta.{expansion}
 use Rattle.clf_sig.specs.Entry.{PlainSignature}
-use Rattle.celf_surface.specs.declared.surface.SMode.{SMode}
 use Rattle.celf_sugar.specs.declared.plain.PName.{PName}
 use Rattle.celf_sugar.specs.declared.plain.PBinder.{PBinder}
 use Rattle.celf_sugar.specs.PlainTree.{DesugaredObject, lam, pair, unit, monadic, atomic, hole, DesugaredSpine, end_of_spine, and_then, DesugaredAct, argument, first, second, DesugaredSteps, no_steps, step, DesugaredTuple, end_of_tuple, entry}
-use Rattle.celf_places.specs.Places.{Place, marked, function_parts, pair_parts, entries_at, next_part}
+use Rattle.celf_places.specs.Places.{Place, marked, function_parts, pair_parts, entries_at, next_part, behind_act, behind_spine}
 use Rattle.celf_places.specs.Heads.{Local, Typed, place_of_head, head}
-use Rattle.celf_places.specs.Combined.{combined}
+use Rattle.celf_places.specs.Combined.{combined, with_mode}
 
 -- a neutral at a place: where nothing is known to be wanted, as it is
 abbrev pub long_at : Place → core.PlainNeutral → core.PlainObject

@@ -3,12 +3,12 @@ use Rattle.std.specs.Prelude.{ℕ, List, [], ◌∷◌, Option, Some, None, opti
 use Rattle.clf_syntax.specs.declared.tree.Mode.{Mode}
 use Rattle.clf_syntax.specs.Tree.{PlainObject}
 use Rattle.clf_syntax.specs.TypeTree as core
-use Rattle.clf_syntax.specs.TypeTree.{SimpleType, base, arrow, simple_with, simple_top, lax, SimpleTelescope, simple_end, simple_binding}
+use Rattle.clf_syntax.specs.TypeTree.{SimpleType}
 use Rattle.clf_sig.specs.Entry.{PlainSignature}
 use Rattle.celf_sugar.specs.PlainTree.{DesugaredObject, DesugaredType, family, function, both, top, monad, DesugaredTelescope, end, binding}
-use Rattle.celf_names.specs.Names.{family_named}
-use Rattle.celf_places.specs.Places.{Place, next_part}
+use Rattle.celf_places.specs.Places.{next_part}
 use Rattle.celf_places.specs.Heads.{Local, family_head, arguments_of}
+use Rattle.celf_places.specs.SimpleTypes.{local_of}
 use Rattle.celf_places.specs.Combined.{combined}
 use Rattle.celf_explicit.specs.Objects.{read_object}
 

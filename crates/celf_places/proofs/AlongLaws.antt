@@ -1,5 +1,5 @@
 -- The reading of a list part by part: what has been read goes before what is left, which is read in the state that is left.
-use Rattle.std.specs.Prelude.{ℕ, ◌+◌, ◌≡◌, ◌<◌, List, [], ◌∷◌, ◌++◌, map, length, drop, get_or, Option, None, Some, option_map, refl}
+use Rattle.std.specs.Prelude.{ℕ, ◌+◌, ◌≡◌, ◌<◌, List, [], ◌∷◌, ◌++◌, map, length, drop, get_or, Option, None, Some, refl}
 use Rattle.std.proofs.Common.{ap, sym, ◌∙◌, ◌≤◌, append-nil, append_assoc}
 use Rattle.std.proofs.lemmas.List.{drop_more, drop_all, map-append}
 use Rattle.celf_places.specs.Combined.{combined}

@@ -1,5 +1,5 @@
 -- Inner: the reading of a list whose parts each leave a state for the later ones; and spines, and the simple types of entries, as such ones.
-use Rattle.std.specs.Prelude.{ℕ, ◌≡◌, List, [], ◌∷◌, ◌++◌, Option, Some, None, option_map, refl}
+use Rattle.std.specs.Prelude.{◌≡◌, List, [], ◌∷◌, ◌++◌, Option, Some, None, option_map, refl}
 use Rattle.std.proofs.Common.{ap}
 use Rattle.clf_syntax.specs.declared.tree.Mode.{Mode}
 use Rattle.clf_syntax.specs.TypeTree as core_type

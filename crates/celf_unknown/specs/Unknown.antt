@@ -1,12 +1,11 @@
 -- The names of an item that have no meaning at their places, and the first of them.
-use Rattle.std.specs.Prelude.{ℕ, List, [], ◌∷◌, ◌++◌, Option, Some, None, is_some, if◌then◌else◌}
+use Rattle.std.specs.Prelude.{ℕ, List, [], ◌∷◌, ◌++◌, Option, is_some, if◌then◌else◌}
 use Rattle.std.specs.List.{flat_map}
 use Rattle.celf_sugar.specs.declared.plain.PName.{PName}
-use Rattle.celf_sugar.specs.declared.plain.PBinder.{PBinder}
 use Rattle.clf_sig.specs.Entry.{PlainSignature}
 use Rattle.celf_sugar.specs.Earliest.{earliest}
 use Rattle.celf_sugar.specs.PlainTree.{DesugaredObject, lam, pair, unit, monadic, atomic, hole, DesugaredSpine, end_of_spine, and_then, DesugaredAct, argument, first, second, DesugaredSteps, no_steps, step, DesugaredTuple, end_of_tuple, entry, DesugaredType, family, function, both, top, monad, DesugaredTelescope, end, binding, DesugaredClass, of_family, of_constant, DesugaredBody, declare, query, trace, equal, check, DesugaredItem}
-use Rattle.celf_names.specs.Names.{family_named, is_known}
+use Rattle.celf_names.specs.Names.{family_named, bound, bound_by_pattern, is_known}
 
 -- the names that steps bind
 abbrev pub bound_by_steps : DesugaredSteps → List (List ℕ)
