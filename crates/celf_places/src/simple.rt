@@ -9,13 +9,8 @@ ghost use Rattle.celf_places.specs.Combined.{combined, with_mode};
 ghost use Rattle.celf_places.specs.SimpleTypes as spec;
 ghost use Rattle.celf_places.specs.Along.{read_along, stateless, simple_entry as simple_entry_of, bound_place};
 
-<<<<<<< HEAD
-use crate::options::boxed;
-use celf_names::family_named;
-=======
-use celf_names::family_named;
 use crate::in_box::boxed;
->>>>>>> 52627f75c714f4f4e5b57e406cd72cb8e7573572
+use celf_names::family_named;
 use celf_sugar::{PEntry, PTele, PTy, PTyForm};
 use clf_sig::Signature;
 use clf_syntax::{Mode, Name, Shortage, Simple, SimpleEntry};
