@@ -3,4 +3,4 @@
 
 mod laws;
 
-pub use laws::runs;
+pub use laws::{decided_runs, runs};
