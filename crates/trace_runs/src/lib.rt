@@ -2,5 +2,9 @@
 #![tactic(auto)]
 
 mod laws;
+mod replay;
+mod state;
 
 pub use laws::{decided_runs, runs};
+pub use replay::replay;
+pub use state::after;
