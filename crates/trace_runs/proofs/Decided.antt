@@ -31,7 +31,7 @@ neutrals = neutrals_are_decided hereditary are_puts
 module _ (sig : PlainSignature) (s : PlainState) (ms : List Mode) (r : PlainNeutral) (w : Starts sig s.context s.holding) where
   -- the other types are no monads
   no_monad : (a : PlainType) → ((u : PlainTelescope) → a ≡ monad u → ⊥) → MaySynthesize sig s.context s.holding r a → (path : List ℕ) × (why : Cause) × RefusesStep sig s ms r path why
-  no_monad a no may = ([], not_monad a, at_no_monad may no)
+  no_monad a none may = ([], not_monad a, at_no_monad may none)
 
   at_monad : (u : PlainTelescope) (x : Leftover) → InferredIs sig s.context s.holding r (monad u, x) → MaySynthesize sig s.context s.holding r (monad u)
       → (telescope_modes u ≡ ms) ⊎ ((why : Cause) × RefusesPattern (telescope_modes u) ms why)
@@ -64,7 +64,7 @@ module _ (sig : PlainSignature) (s : PlainState) (ms : List Mode) (r : PlainNeut
 
   refused : (path : List ℕ) (why : Cause) → RefusesStep sig s ms r path why → (u : PlainTelescope) → telescope_modes u ≡ ms → MaySynthesize sig s.context s.holding r (monad u) → ⊥
   refused path why (in_right_side e) u m may = untyped path why e (monad u) may
-  refused path why (at_no_monad {a = a} has no) u m may = no u (one_type a (monad u) has may)
+  refused path why (at_no_monad {a = a} has none) u m may = none u (one_type a (monad u) has may)
   refused path why (at_pattern v has p) u m may = pattern-refused (telescope_modes v) ms why p (ap telescope_modes (the-entries (one_type (monad v) (monad u) has may)) ∙ m)
 
   pub step-refused : (path : List ℕ) (why : Cause) → RefusesStep sig s ms r path why → (after : PlainState) → TakesStep sig ms r s after → ⊥
@@ -72,11 +72,11 @@ module _ (sig : PlainSignature) (s : PlainState) (ms : List Mode) (r : PlainNeut
 
   pub step-refusal-is-one : (path other : List ℕ) (why because : Cause) → RefusesStep sig s ms r path why → RefusesStep sig s ms r other because → (path ≡ other) × (why ≡ because)
   step-refusal-is-one path other why because (in_right_side e) (in_right_side f) = (neutrals sig s.context s.holding r w).one path other why because e f
-  step-refusal-is-one path other why because (in_right_side e) (at_no_monad {a = a} has no) = absurd (untyped path why e a has)
+  step-refusal-is-one path other why because (in_right_side e) (at_no_monad {a = a} has none) = absurd (untyped path why e a has)
   step-refusal-is-one path other why because (in_right_side e) (at_pattern u has p) = absurd (untyped path why e (monad u) has)
-  step-refusal-is-one path other why because (at_no_monad {a = a} has no) (in_right_side f) = absurd (untyped other because f a has)
-  step-refusal-is-one path other why because (at_no_monad {a = a} has no) (at_no_monad {a = b} had non) = (refl, ap not_monad (one_type a b has had))
-  step-refusal-is-one path other why because (at_no_monad {a = a} has no) (at_pattern u had p) = absurd (no u (one_type a (monad u) has had))
+  step-refusal-is-one path other why because (at_no_monad {a = a} has none) (in_right_side f) = absurd (untyped other because f a has)
+  step-refusal-is-one path other why because (at_no_monad {a = a} has none) (at_no_monad {a = b} had non) = (refl, ap not_monad (one_type a b has had))
+  step-refusal-is-one path other why because (at_no_monad {a = a} has none) (at_pattern u had p) = absurd (none u (one_type a (monad u) has had))
   step-refusal-is-one path other why because (at_pattern u has p) (in_right_side f) = absurd (untyped other because f (monad u) has)
   step-refusal-is-one path other why because (at_pattern u has p) (at_no_monad {a = b} had non) = absurd (non u (one_type b (monad u) had has))
   step-refusal-is-one path other why because (at_pattern u has p) (at_pattern v had q) =

@@ -10,8 +10,8 @@ use Rattle.clf_decision.proofs.FirstPlaces.{first-modes, modes-first, same-modes
 use Rattle.clf_decision.proofs.Tests.{other-number}
 use Rattle.trace_runs.specs.Refused.{RefusesPattern, other_width, other_mode}
 
-same_cause : {j k m n : Mode} → Some (j, m) ≡ Some (k, n) → mode_differs j m ≡ mode_differs k n
-same_cause e = cc
+same_cause : (d e : Mode × Mode) → Some d ≡ Some e → mode_differs d.0 d.1 ≡ mode_differs e.0 e.1
+same_cause d e s = let p : d ≡ e = cc in ap (λ (x : Mode × Mode). mode_differs x.0 x.1) p
 
 module _ (wanted found : List Mode) where
   modes_decided : length found ≡ length wanted → (o : Option (Mode × Mode)) → first_other_mode wanted found ≡ o → (wanted ≡ found) ⊎ ((why : Cause) × RefusesPattern wanted found why)
@@ -34,4 +34,4 @@ module _ (wanted found : List Mode) where
   pattern-one why because (other_width n) (other_width k) = refl
   pattern-one why because (other_width n) (other_mode k f) = absurd (n k)
   pattern-one why because (other_mode n f) (other_width k) = absurd (k n)
-  pattern-one why because (other_mode {k = j} {m = m} n f) (other_mode {k = k} {m = l} i e) = same_cause (sym (modes-first wanted found j m f) ∙ modes-first wanted found k l e)
+  pattern-one why because (other_mode {k = j} {m = m} n f) (other_mode {k = k} {m = l} i e) = same_cause (j, m) (k, l) (sym (modes-first wanted found j m f) ∙ modes-first wanted found k l e)

@@ -20,7 +20,7 @@ use Rattle.clf_decision.specs.Laws.{InferredIs}
 use Rattle.clf_decision.specs.Starts.{Starts}
 use Rattle.trace_runs.specs.Laws.{RunGivesExpression, ExpressionBeginsWithRun, MayHaveResult, RunsInTurn}
 use Rattle.trace_runs.specs.Run.{IsRun, PlainState, TakesStep, bound, state_after}
-use Rattle.trace_runs.proofs.Decided.{neutrals, run-is-one, runs-are-decided, runs-keep-starts}
+use Rattle.trace_runs.proofs.Decided.{neutrals, run-is-one, runs-keep-starts}
 use Rattle.trace_runs.proofs.LeastParts.{entered-part}
 use Rattle.trace_runs.proofs.Steps.{step-of, step-keeps-starts}
 
@@ -93,4 +93,4 @@ module _ (sig : PlainSignature) (e : PlainExpression) where
 pub expression_begins_with_run : ExpressionBeginsWithRun
 expression_begins_with_run sig xs before e u w t = begins_with sig e xs before u w t
 
-pub ruleset run_laws = (run_gives_expression, expression_begins_with_run, runs_in_turn, run-is-one, runs-keep-starts, runs-are-decided)
+pub ruleset run_laws = (run_gives_expression, expression_begins_with_run, runs_in_turn, run-is-one, runs-keep-starts)

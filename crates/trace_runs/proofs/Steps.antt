@@ -7,6 +7,7 @@ use Rattle.use_contexts.specs.Context.{modes, telescope_modes}
 use Rattle.use_contexts.specs.Holding.{Holding, Split, WellMarked}
 use Rattle.use_contexts.specs.Rows.{Leftover}
 use Rattle.clf_sig.specs.Entry.{PlainSignature}
+use Rattle.clf_rules.specs.Explained.{MaySynthesize}
 use Rattle.clf_rules.specs.Typing.{Synthesizes}
 use Rattle.clf_rules.proofs.OneType.{type_is_one}
 use Rattle.clf_rules.proofs.UsedParts.{used_of, used-part}
@@ -46,6 +47,6 @@ module _ (sig : PlainSignature) (ms : List Mode) (r : PlainNeutral) (s : PlainSt
 
     pub step-keeps-starts : Starts sig s.context s.holding → Starts sig a.context a.holding
     step-keeps-starts w =
-        let may = (x.taken, first-part (modes s.context) s.holding x.taken x.left w.marked x.split, x.right) in
+        let may : MaySynthesize sig s.context s.holding r (monad x.entries) = (x.taken, first-part (modes s.context) s.holding x.taken x.left w.marked x.split, x.right) in
         subst (λ (b : PlainState). Starts sig b.context b.holding) (sym x.state)
         (rest-starts sig s.context s.holding r x.entries x.left (telescope_modes x.entries) w (second-part (modes s.context) s.holding x.taken x.left w.marked x.split) may refl)

@@ -4,7 +4,6 @@ pub use Rattle.clf_rules.specs.Typing
 pub use Rattle.clf_rules.specs.Explained
 pub use Rattle.use_contexts.specs.Context
 pub use Rattle.use_contexts.specs.Holding
-pub use Rattle.clf_decision.specs.Laws
 pub use Rattle.clf_decision.specs.Starts
 pub mod Run
 pub mod Refused
