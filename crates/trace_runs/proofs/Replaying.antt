@@ -1,21 +1,26 @@
 -- From what the kernel answers for a step to what the replay answers.
-use Rattle.std.proofs.Common.{◌≡◌, ◌∙◌, ◌<◌, ◌≤◌, ◌==◌, ℕ, suc, Bool, true, false, if◌then◌else◌, List, [], ◌∷◌, ◌++◌, length, map, take, drop, get_or, Option, None, Some, Err, refl, sym, ap, subst, arith}
+use Rattle.std.proofs.Common.{◌≡◌, ◌∙◌, ◌+◌, ◌<◌, ◌≤◌, ◌==◌, ℕ, suc, Bool, true, false, if◌then◌else◌, List, [], ◌∷◌, ◌++◌, length, map, take, drop, get_or, Option, None, Some, Result, Err, refl, sym, ap, subst, arith}
+use Rattle.std.proofs.Math.Logic.{◌⊎◌, inl, inr}
 use Rattle.std.proofs.Math.Seq.{drop-cons}
-use Rattle.std.proofs.lemmas.List.{map-append, length-map, take_more, take-append-drop}
+use Rattle.std.proofs.lemmas.List.{map-append, length-map, length-take-le, take_more, take-append-drop}
 use Rattle.clf_syntax.specs.declared.fault.OrWide.{OrWide}
 use Rattle.clf_syntax.specs.declared.fault.OrWide.TheVariants.{Fault, NoMemory, TooFar}
 use Rattle.clf_syntax.specs.declared.fault.Want.{Want}
 use Rattle.clf_syntax.specs.declared.fault.Want.TheVariants.{NoMemory as WantsMemory, TooFar as WantsNumbers}
 use Rattle.clf_syntax.specs.declared.tree.Mode.{Mode}
-use Rattle.clf_syntax.specs.declared.tree.Step.{Step}
-use Rattle.clf_syntax.specs.Plain.{plain_step}
+use Rattle.clf_syntax.specs.declared.tree.Obj.{Obj}
+use Rattle.clf_syntax.specs.declared.tree.Step.{Step, out-Step}
+use Rattle.clf_syntax.specs.declared.tree.Ty.{Ty}
+use Rattle.clf_syntax.specs.declared.tree.Ty.TheVariants.{Fam, Fun, With, Top}
+use Rattle.clf_syntax.specs.Plain.{plain_neutral, plain_obj, plain_step, plain-step-modes, plain-step-rhs}
+use Rattle.clf_syntax.specs.PlainTypes.{plain_ty, plain-Fam, plain-Fun, plain-Top, plain-With}
 use Rattle.clf_syntax.specs.Tree.{PlainNeutral}
-use Rattle.clf_syntax.specs.TypeTree.{PlainType, monad, PlainTelescope}
+use Rattle.clf_syntax.specs.TypeTree.{PlainType, family, function, both, top, monad, PlainTelescope}
 use Rattle.clf_syntax.specs.Wide.{IsWant, IsWide, wanting}
 use Rattle.use_contexts.specs.Context.{modes, telescope_modes}
 use Rattle.use_contexts.specs.Rows.{Leftover}
 use Rattle.clf_sig.specs.Entry.{PlainSignature}
-use Rattle.clf_rules.specs.Explained.{MaySynthesize, telescope_width}
+use Rattle.clf_rules.specs.Explained.{IsNoMonad, MaySynthesize, telescope_width}
 use Rattle.clf_rules.specs.Refusal.{Cause, mode_differs, width}
 use Rattle.clf_rules.specs.Typing.{Synthesizes}
 use Rattle.clf_rules.proofs.Held.{same_number}
@@ -28,6 +33,7 @@ use Rattle.clf_decision.proofs.AgreementOfMonads.{pattern-decided}
 use Rattle.clf_decision.proofs.DecidedOutcomes.{Decided}
 use Rattle.clf_decision.proofs.FirstPlaces.{first-modes}
 use Rattle.clf_decision.proofs.Tests.{other-number}
+use Rattle.clf_kernel.specs.declared.refusal.Inferred.{Inferred}
 use Rattle.clf_kernel.specs.declared.refusal.Refusal.{Refusal}
 use Rattle.clf_kernel.specs.Answers.{plain_cause}
 use Rattle.clf_kernel.specs.Exact.{InfersNeutral}
@@ -43,24 +49,27 @@ pub fits : (ms : List Mode) (u : PlainTelescope) → pattern_left ms u ≡ passe
 fits ms u e = subst (λ (o : Outcome (Unit {0})). Decided o (telescope_modes u ≡ ms)) e (pattern-decided ms u)
 
 module _ (ms : List Mode) (u : PlainTelescope) (path : List ℕ) (why : Cause) where
-  of_width : {n k : ℕ} → refused [] (width n k) ≡ refused path why → (path ≡ []) × (width n k ≡ why)
-  of_width e = (cc, cc)
-
-  of_mode : {k m : Mode} → refused [] (mode_differs k m) ≡ refused path why → (path ≡ []) × (mode_differs k m ≡ why)
-  of_mode e = (cc, cc)
+  same_refusal : (cause : Cause) (o : Outcome (Unit {0})) → o ≡ refused [] cause → o ≡ refused path why → (path ≡ []) × (cause ≡ why)
+  same_refusal cause o d e = (cc, cc)
 
   misfits_by : (b : Bool) → (length ms == telescope_width u) ≡ b → (o : Option (Mode × Mode)) → first_other_mode (telescope_modes u) ms ≡ o
       → (if b then same_modes_left o else refused [] (width (telescope_width u) (length ms))) ≡ refused path why → (path ≡ []) × RefusesPattern (telescope_modes u) ms why
   misfits_by true e None f q = absurd (cc)
   misfits_by true e (Some d) f q =
-      let p = of_mode q in
+      let p = same_refusal (mode_differs d.0 d.1) (refused [] (mode_differs d.0 d.1)) refl q in
       (p.0, subst (RefusesPattern (telescope_modes u) ms) p.1 (other_mode (same_number (length ms) (telescope_width u) e) (first-modes (telescope_modes u) ms d f)))
   misfits_by false e o f q =
-      let p = of_width q in
+      let p = same_refusal (width (telescope_width u) (length ms)) (refused [] (width (telescope_width u) (length ms))) refl q in
       (p.0, subst (RefusesPattern (telescope_modes u) ms) p.1 (other_width (other-number (length ms) (telescope_width u) e)))
 
   pub misfits : pattern_left ms u ≡ refused path why → (path ≡ []) × RefusesPattern (telescope_modes u) ms why
   misfits q = misfits_by (length ms == telescope_width u) refl (first_other_mode (telescope_modes u) ms) refl q
+
+-- ---- answers
+pub refusal-answers : (want : Outcome (Unit {0})) (path : List ℕ) (why : Cause) (r : OrWide Refusal) → IsRefused path why r → want ≡ refused path why → Answers want (Err r)
+refusal-answers want path why (Fault r) p e = e ∙ ap (λ l. refused l why) (sym p.0) ∙ ap (λ k. refused r.path.items k) (sym p.1)
+refusal-answers want path why NoMemory p e = tt
+refusal-answers want path why (TooFar w) p e = p
 
 -- ---- one step
 module _ (sig : PlainSignature) (x : List Mode × PlainNeutral) (s : PlainState) where
@@ -100,6 +109,28 @@ module _ (sig : PlainSignature) (x : List Mode × PlainNeutral) (s : PlainState)
   numbered place NoMemory whole p e = subst (λ q. StepsAt place sig x s (Err q)) (sym p) tt
   numbered place (TooFar w) whole p e = subst (λ q. StepsAt place sig x s (Err q)) (sym p) e
 
+-- ---- one step in memory
+module _ (sig : PlainSignature) (step : Step) (s : PlainState) where
+  pub at-right-side : (r : Result Inferred (OrWide Refusal)) → InfersNeutral sig s.context s.holding (plain_neutral (out-Step step).rhs) r → InfersNeutral sig s.context s.holding (plain_step step).1 r
+  at-right-side r e = subst (λ n. InfersNeutral sig s.context s.holding n r) (sym (plain-step-rhs step)) e
+
+  pub at-type : (a b : PlainType) (l : Leftover) → InferredIs sig s.context s.holding (plain_neutral (out-Step step).rhs) (a, l) → a ≡ b → InferredIs sig s.context s.holding (plain_step step).1 (b, l)
+  at-type a b l found e =
+      subst (λ n. InferredIs sig s.context s.holding n (b, l)) (sym (plain-step-rhs step))
+      (subst (λ (c : PlainType). InferredIs sig s.context s.holding (plain_neutral (out-Step step).rhs) (c, l)) e found)
+
+  pub at-modes : (ms : List Mode) (u : PlainTelescope) (r : Result (Unit {0}) (OrWide Refusal)) → ms ≡ step.modes → Answers (pattern_left ms u) r → Answers (pattern_left (plain_step step).0 u) r
+  at-modes ms u r e p = subst (λ ks. Answers (pattern_left ks u) r) (e ∙ sym (plain-step-modes step)) p
+
+monad_is : (t : PlainType) (a : PlainType) → t ≡ a → ((u : PlainTelescope) → a ≡ monad u → ⊥) → IsNoMonad t
+monad_is t a e f u q = f u (sym e ∙ q)
+
+pub no-monad : (t : Ty) → ((f : ℕ) × (ns : List Obj) × (t ≡ Fam f ns)) ⊎ (((m : Mode) × (a : Ty) × (b : Ty) × (t ≡ Fun m a b)) ⊎ (((a : Ty) × (b : Ty) × (t ≡ With a b)) ⊎ (t ≡ Top))) → IsNoMonad (plain_ty t)
+no-monad t (inl (f, ns, e)) = monad_is (plain_ty t) (family f (map plain_obj ns)) (ap plain_ty e ∙ plain-Fam f ns) (λ u q. absurd (cc))
+no-monad t (inr (inl (m, a, b, e))) = monad_is (plain_ty t) (function m (plain_ty a) (plain_ty b)) (ap plain_ty e ∙ plain-Fun m a b) (λ u q. absurd (cc))
+no-monad t (inr (inr (inl (a, b, e)))) = monad_is (plain_ty t) (both (plain_ty a) (plain_ty b)) (ap plain_ty e ∙ plain-With a b) (λ u q. absurd (cc))
+no-monad t (inr (inr (inr e))) = monad_is (plain_ty t) top (ap plain_ty e ∙ plain-Top) (λ u q. absurd (cc))
+
 -- ---- all steps
 module _ (sig : PlainSignature) (steps : List Step) (s : PlainState) where
   -- the steps before a place
@@ -120,10 +151,7 @@ module _ (sig : PlainSignature) (steps : List Step) (s : PlainState) where
       ∙ sym (map-append plain_step (take i steps) (drop i steps)) ∙ ap (map plain_step) (take-append-drop i steps)
 
   before_length : (i : ℕ) → i ≤ length steps → length (before i) ≡ i
-  before_length i l = length-map (take i steps) plain_step ∙ length_taken i l
-    where
-      length_taken : (i : ℕ) → i ≤ length steps → length (take i steps) ≡ i
-      length_taken i l = grind (arith)
+  before_length i l = length-map (take i steps) plain_step ∙ length-take-le i steps l
 
   pub stops-at : Starts sig s.context s.holding → (i : ℕ) (x : Step) → i < length steps → x ≡ get_or steps i x → (between : PlainState) → IsRun sig (before i) s between
       → (r : OrWide Refusal) → StepsAt i sig (plain_step x) between (Err r) → Replays sig (map plain_step steps) s (Err r)

@@ -8,3 +8,5 @@ pub use Rattle.clf_decision.specs.Starts
 pub mod Run
 pub mod Refused
 pub mod Laws
+pub mod Replay
+pub mod Steps

@@ -2,9 +2,9 @@
 #![tactic(auto)]
 
 mod laws;
-mod replay;
 mod state;
+mod step;
 
 pub use laws::{decided_runs, runs};
-pub use replay::replay;
 pub use state::after;
+pub use step::replay;
