@@ -9,7 +9,7 @@ use Rattle.clf_rules.specs.Refusal.{Cause}
 use Rattle.celf_surface.specs.Surface.{WrittenItem}
 use Rattle.celf_sugar.specs.PlainTree.{DesugaredItem}
 use Rattle.celf_sugar.specs.Sugar.{desugared}
-use Rattle.celf_explicit.specs.Items.{core_of}
+use Rattle.celf_explicit.specs.Explicit.{explicit}
 use Rattle.celf_replies.specs.Reply.{PlainWhy, duplicate, full, unknown_name, kernel, PlainRefusal, PlainReply, refused}
 use Rattle.celf_run.specs.declared.options.Options.{Options}
 use Rattle.celf_run.specs.Source.{Task, written, faulty}
@@ -68,7 +68,7 @@ IsFit (traces t) = Unit {0}
 IsFit (equates n o a) = Unit {0}
 IsFit (checks n a) = Unit {0}
 
-is-fit : (sig : PlainSignature) (item : DesugaredItem) (core : PlainCore) → StandInFront item → core_of sig item ≡ Some core → IsFit core
+is-fit : (sig : PlainSignature) (item : DesugaredItem) (core : PlainCore) → StandInFront item → explicit sig item ≡ Some core → IsFit core
 is-fit sig item (declares n e) stand h = (declared-fits sig item n e stand h).1
 is-fit sig item (queries a) stand h = tt
 is-fit sig item (traces t) stand h = tt
@@ -140,7 +140,7 @@ beyond-unfit options held new (equates n o a) reply b x = b
 beyond-unfit options held new (checks n a) reply b x = b
 
 declined-unfit : (options : Options) (held new : Held) (item : DesugaredItem) (core : PlainCore) (why : PlainWhy) (reply : PlainReply)
-    → Declined held.signature item why → core_of held.signature item ≡ Some core → Fits options held core reply new → ⊥
+    → Declined held.signature item why → explicit held.signature item ≡ Some core → Fits options held core reply new → ⊥
 declined-unfit options held new item core why reply (by_rules {core = other} {path = path} {cause = cause} (is_explicit h) x) k f =
     refused-unfit options held new core path cause reply (subst (λ (c : PlainCore). IsExplained held.signature c path cause) (some-one _ other core h k) x) f
 declined-unfit options held new item core why reply (not_explicit e) k f = not-both _ core e k

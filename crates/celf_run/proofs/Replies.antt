@@ -9,7 +9,7 @@ use Rattle.clf_printer.specs.Metas.{appearing_class}
 use Rattle.clf_printer.specs.Text.{declaration_text}
 use Rattle.celf_surface.specs.Surface.{WrittenItem}
 use Rattle.celf_sugar.specs.Sugar.{desugared}
-use Rattle.celf_explicit.specs.Items.{core_of}
+use Rattle.celf_explicit.specs.Explicit.{explicit}
 use Rattle.celf_meaning.specs.ReadingBack.{ReadsAs}
 use Rattle.celf_reading.proofs.Named.{class-formed-printable}
 use Rattle.celf_reading.proofs.LinesBack.{entry_reads_back, check_lines_read_back}
@@ -27,7 +27,7 @@ numbered-entry : (sig : PlainSignature) (name : List ℕ) (e : PlainEntry) → I
 numbered-entry sig name e n = n e (ap (option_map (λ (d : Declaration). d.1)) (get-behind sig (name, e)))
 
 fits-reads_back : (options : Options) (held new : Held) (item : WrittenItem) (core : PlainCore) (reply : PlainReply) → WellFormedSignature held.signature
-    → core_of held.signature (desugared item) ≡ Some core → Fits options held core reply new → IsNumbered new.signature reply → ReadsBack options held reply new
+    → explicit held.signature (desugared item) ≡ Some core → Fits options held core reply new → IsNumbered new.signature reply → ReadsBack options held reply new
 fits-reads_back options held new item (declares name e) (entry k) w h (accepted may) n =
     let sig = held.signature in
     let small = numbered-entry sig name e n in
