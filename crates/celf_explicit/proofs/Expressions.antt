@@ -1,15 +1,17 @@
 -- A monadic object is read by its steps, and then its tuple.
-use Rattle.std.specs.Prelude.{◌≡◌, List, map, Option, None, Some, option_map, Result, Ok, Err, IfOk, refl}
-use Rattle.std.proofs.Common.{sym, ◌∙◌, ap}
+use Rattle.std.specs.Prelude.{◌≡◌, List, Option, None, Some, option_map, Result, Ok, Err, IfOk, refl}
+use Rattle.std.proofs.Common.{◌∙◌}
 use Rattle.clf_syntax.specs.declared.tree.Mode.{Mode}
 use Rattle.clf_syntax.specs.Tree.{PlainObject, PlainNeutral}
 use Rattle.clf_syntax.specs.TypeTree.{SimpleType}
 use Rattle.clf_sig.specs.Entry.{PlainSignature}
 use Rattle.celf_surface.specs.declared.surface.SMode.{SMode}
 use Rattle.celf_sugar.specs.PlainTree.{DesugaredObject, DesugaredSteps, DesugaredTuple, steps_of, tuple_of}
-use Rattle.celf_explicit.specs.Reading.{Local, combined}
+use Rattle.celf_places.specs.Heads.{Local}
+use Rattle.celf_places.specs.Combined.{combined}
 use Rattle.celf_explicit.specs.Objects.{expression_of, with_steps, read_steps, read_tuple}
-use Rattle.celf_explicit.specs.Along.{PlainStep, read_along, left_along, later_parts, read_marked, read_step, behind_step, steps-along, locals-along, tuple-along}
+use Rattle.celf_explicit.specs.Lists.{PlainStep, later_parts, read_marked, read_step, behind_step, steps-along, locals-along, tuple-along}
+use Rattle.celf_places.specs.Along.{read_along, left_along}
 
 -- what an answer is, if there is one, by an equation
 pub ok_along : {T E P : Type 0} (f : T → P) (r : Result T E) (a b : P) → IfOk r (λ o. f o ≡ a) → a ≡ b → IfOk r (λ o. f o ≡ b)

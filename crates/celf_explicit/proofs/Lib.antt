@@ -1,12 +1,6 @@
-pub mod ScopeLaws
-pub mod ReadingLaws
 pub mod Forms
-pub mod Options
-pub mod Known
-pub mod AlongLaws
-pub mod Made
 pub mod Expressions
 pub mod TypeLists
 pub mod WhereExplicit
-pub mod SimpleTypes
-pub mod LocalsLaws
+pub mod SimpleTypeOfCore
+pub mod PatternLaws

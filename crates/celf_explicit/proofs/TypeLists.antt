@@ -5,12 +5,13 @@ use Rattle.std.proofs.lemmas.List.{get_or-map, length-map}
 use Rattle.clf_syntax.specs.declared.tree.Simple.{Simple}
 use Rattle.clf_sig.specs.Entry.{PlainSignature}
 use Rattle.celf_sugar.specs.declared.plain.PEntry.{PEntry}
-use Rattle.celf_sugar.specs.PlainTree.{DesugaredType, DesugaredEntry}
-use Rattle.celf_sugar.specs.Plain.{desugared_entry, entry-of}
-use Rattle.celf_explicit.specs.Reading.{Local}
-use Rattle.celf_explicit.specs.Types.{local_of}
-use Rattle.celf_explicit.specs.Locals.{plain_place}
-use Rattle.celf_explicit.specs.Along.{bound_place, behind_entry}
+use Rattle.celf_sugar.specs.PlainTree.{DesugaredType}
+use Rattle.celf_sugar.specs.Plain.{desugared_entry}
+use Rattle.celf_places.specs.Heads.{Local}
+use Rattle.celf_places.specs.SimpleTypes.{local_of}
+use Rattle.celf_places.specs.Locals.{plain_place}
+use Rattle.celf_places.specs.Along.{bound_place}
+use Rattle.celf_explicit.specs.Lists.{behind_entry}
 
 local-parts : (sig : PlainSignature) (n : Option (List ℕ)) (a : DesugaredType) → (n, (local_of sig n a).1) ≡ local_of sig n a
 local-parts sig None a = refl

@@ -1,4 +1,4 @@
--- An item has a core exactly where each of its names has a meaning and it is explicit.
+-- An item has a core exactly where each of its names has a meaning and it is explicit; so where it has a core, each of them has one.
 use Rattle.std.specs.Prelude.{ℕ, ◌+◌, ◌≡◌, Bool, true, false, not, ◌||◌, ◌&&◌, if◌then◌else◌, List, [], ◌∷◌, ◌++◌, Option, Some, None, is_some, is_none, option_map, option_and_then, refl, nat_lt}
 use Rattle.std.specs.Option.{option_or}
 use Rattle.std.specs.List.{list_any, list_all, flat_map}
@@ -10,21 +10,22 @@ use Rattle.clf_syntax.specs.Tree as core
 use Rattle.clf_syntax.specs.TypeTree as core_type
 use Rattle.clf_syntax.specs.TypeTree.{SimpleType}
 use Rattle.clf_sig.specs.Entry.{constant_of, family_of, PlainSignature, entry_at}
-use Rattle.clf_sig.specs.Core.{PlainCore, declares, queries, traces, equates, checks}
+use Rattle.clf_sig.specs.Core.{declares, queries, traces, checks}
 use Rattle.celf_sugar.specs.declared.plain.PName.{PName}
 use Rattle.celf_sugar.specs.declared.plain.PBinder.{PBinder}
 use Rattle.celf_sugar.specs.Earliest.{sooner, earliest}
 use Rattle.celf_sugar.specs.PlainTree as plain
-use Rattle.celf_explicit.specs.Names.{family_named, constant_named, is_bound, is_known, begins_with_capital}
-use Rattle.celf_explicit.specs.Unknown.{bound, bound_by_pattern, bound_by_steps, unknown_head, unknown_family, unknown_in_object, unknown_in_spine, unknown_in_act, unknown_in_steps, unknown_in_tuple, unknown_in_type, unknown_in_telescope, unknown_in_class, unknown_names, place}
-use Rattle.celf_explicit.specs.Reading.{Place, Local, Typed, combined, marked, has_name, local_from, place_of_head}
-use Rattle.celf_explicit.specs.Places.{function_parts, pair_parts, entries_at, next_part}
-use Rattle.celf_explicit.specs.Heads.{has_no_implicit, all_written, constant_typed, constant_head, head, family_head, arguments_of}
-use Rattle.celf_explicit.specs.Objects.{long_at, under_spine, behind_act, step_entries, pattern_modes, with_pattern, with_steps, expression_of, with_mode, read_object, read_spine, read_act, read_steps, read_tuple}
-use Rattle.celf_explicit.specs.Types.{local_of, read_indices, at_indices, read_type, read_telescope, kind_of, simple_type}
-use Rattle.celf_explicit.specs.Items.{read_class, entry_of, read_against, equates_both, both_objects, core_of_body}
-use Rattle.celf_explicit.specs.Explicitness.{needs_nothing, is_explicit_name, family_needs_nothing, is_explicit_family, is_explicit_object, is_explicit_spine, is_explicit_act, are_explicit_steps, is_explicit_tuple, is_explicit_type, is_explicit_telescope, is_explicit_class, is_explicit_body}
-use Rattle.celf_explicit.specs.Cores.{CoreWhereExplicit}
+use Rattle.celf_names.specs.Names.{family_named, constant_named, is_bound, is_known, begins_with_capital, bound, bound_by_pattern}
+use Rattle.celf_unknown.specs.Unknown.{bound_by_steps, unknown_head, unknown_family, unknown_in_object, unknown_in_spine, unknown_in_act, unknown_in_steps, unknown_in_tuple, unknown_in_type, unknown_in_telescope, unknown_in_class, unknown_names, place, first_unknown}
+use Rattle.celf_places.specs.Places.{Place, marked, function_parts, pair_parts, entries_at, next_part, behind_act}
+use Rattle.celf_places.specs.Heads.{Local, Typed, has_name, local_from, place_of_head, has_no_implicit, all_written, constant_typed, head, family_head, arguments_of}
+use Rattle.celf_places.specs.Combined.{combined, with_mode}
+use Rattle.celf_explicit.specs.Objects.{long_at, under_spine, step_entries, pattern_modes, with_pattern, with_steps, expression_of, read_object, read_spine, read_act, read_steps, read_tuple}
+use Rattle.celf_places.specs.SimpleTypes.{local_of, simple_type}
+use Rattle.celf_explicit.specs.Types.{read_indices, at_indices, read_type, read_telescope, kind_of}
+use Rattle.celf_explicit.specs.Explicit.{read_class, entry_of, read_against, equates_both, both_objects, core_of_body}
+use Rattle.celf_explicit.specs.Explicitness.{needs_nothing, is_explicit_name, family_needs_nothing, is_explicit_family, is_explicit_object, is_explicit_spine, is_explicit_act, are_explicit_steps, is_explicit_tuple, is_explicit_type, is_explicit_telescope, is_explicit_class, is_explicit_body, is_explicit}
+use Rattle.celf_explicit.specs.Laws.{CoreWhereExplicit, KnownWhereRead}
 
 abbrev is_nil : {X : Type 0} → List X → Bool
 is_nil [] = true
@@ -289,3 +290,11 @@ none-earliest f (x ∷ xs) = sym (none-sooner f x (earliest f xs))
 
 pub core_where_explicit : CoreWhereExplicit
 core_where_explicit sig item = body-some sig item.body ∙ ap (λ b. b && is_explicit_body sig item.body) (none-earliest place (unknown_names sig item.body))
+
+none-of : {X : Type 0} (o : Option X) (b : Bool) → (is_none o && b) ≡ true → o ≡ None
+none-of None b e = refl
+none-of (Some x) b e = absurd (cc)
+
+pub known_where_read : KnownWhereRead
+known_where_read sig item core e =
+    none-of (first_unknown sig item) (is_explicit sig item) (sym (core_where_explicit sig item) ∙ ap is_some e)

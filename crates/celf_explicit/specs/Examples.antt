@@ -8,13 +8,12 @@ use Rattle.clf_syntax.specs.Tree as core
 use Rattle.clf_syntax.specs.TypeTree as core_type
 use Rattle.clf_sig.specs.Entry.{PlainEntry, family_of, constant_of, PlainSignature}
 use Rattle.clf_sig.specs.Core.{PlainCore, declares, queries, traces, equates, checks}
-use Rattle.celf_surface.specs.declared.surface.SMode.{SMode}
 use Rattle.celf_surface.specs.declared.surface.SMode.TheVariants.{Bare, Persistent as WrittenPersistent}
 use Rattle.celf_surface.specs.declared.surface.Span.{Span}
 use Rattle.celf_sugar.specs.declared.plain.PName.{PName}
 use Rattle.celf_sugar.specs.declared.plain.PBinder.{PBinder}
-use Rattle.celf_sugar.specs.PlainTree.{DesugaredObject, lam, pair, unit, monadic, atomic, hole, DesugaredAct, argument, spine_of, DesugaredSteps, no_steps, step, DesugaredTuple, end_of_tuple, entry, DesugaredType, family, function, both, top, monad, DesugaredTelescope, end, binding, of_family, of_constant, DesugaredBody, declare, query, trace, equal, check}
-use Rattle.celf_explicit.specs.Items.{core_of}
+use Rattle.celf_sugar.specs.PlainTree.{DesugaredObject, lam, pair, unit, monadic, atomic, hole, argument, spine_of, no_steps, step, end_of_tuple, entry, DesugaredType, family, function, both, top, monad, DesugaredTelescope, end, binding, of_family, of_constant, DesugaredBody, declare, query, trace, equal, check}
+use Rattle.celf_explicit.specs.Explicit.{explicit}
 
 -- ---- cores over these entries, by their places
 --   0 a : type.  1 b : type.  2 p : a -> type.  3 z : a.  4 f : a -o a -o b.  5 g : a -> b.  6 h : a -@ b.  7 k : a -o b.
@@ -91,7 +90,7 @@ module _ (s : Span) where
 
   -- The item has this core, or none.
   abbrev pub Says : DesugaredBody → Option PlainCore → Type 0
-  Says body c = core_of signature (record { span = s; body = body }) ≡ c
+  Says body c = explicit signature (record { span = s; body = body }) ≡ c
 
   pub record WorkedCores : Type 0 where
     -- a bare part has the mode of its place, and a written mode stays

@@ -1,13 +1,13 @@
 -- An item is explicit where nothing is left to be found: it has no `_` as an object, no implicit variable, and no constant or family with
 -- implicit arguments that is written without `$`.
-use Rattle.std.specs.Prelude.{ℕ, Bool, true, false, not, ◌&&◌, if◌then◌else◌, List, [], ◌∷◌, ◌++◌, Option, Some, None}
+use Rattle.std.specs.Prelude.{ℕ, Bool, true, false, not, ◌&&◌, if◌then◌else◌, List, [], ◌++◌, Option, Some, None}
 use Rattle.std.specs.List.{list_all}
 use Rattle.clf_sig.specs.Entry.{PlainSignature, entry_at}
 use Rattle.celf_sugar.specs.declared.plain.PName.{PName}
 use Rattle.celf_sugar.specs.PlainTree.{DesugaredObject, lam, pair, unit, monadic, atomic, hole, DesugaredSpine, end_of_spine, and_then, DesugaredAct, argument, first, second, DesugaredSteps, no_steps, step, DesugaredTuple, end_of_tuple, entry, DesugaredType, family, function, both, top, monad, DesugaredTelescope, end, binding, DesugaredClass, of_family, of_constant, DesugaredBody, declare, query, trace, equal, check, DesugaredItem}
-use Rattle.celf_explicit.specs.Names.{family_named, constant_named, is_bound, begins_with_capital}
-use Rattle.celf_explicit.specs.Unknown.{bound, bound_by_pattern, bound_by_steps}
-use Rattle.celf_explicit.specs.Heads.{has_no_implicit}
+use Rattle.celf_names.specs.Names.{family_named, constant_named, is_bound, begins_with_capital, bound, bound_by_pattern}
+use Rattle.celf_unknown.specs.Unknown.{bound_by_steps}
+use Rattle.celf_places.specs.Heads.{has_no_implicit}
 
 -- A name that is no local: that of a constant without implicit arguments, or of none; but not that of an implicit variable.
 abbrev pub needs_nothing : PlainSignature → List ℕ → Option ℕ → Bool

@@ -1,18 +1,17 @@
 -- The explicit reading of objects: the core tree of an object, where all of it is written and each of its names has a meaning.
 -- A neutral is read as its eta-long form at the simple type that its place wants, whatever its own type is.
-use Rattle.std.specs.Prelude.{ℕ, List, [], ◌∷◌, Option, Some, None, option_map}
+use Rattle.std.specs.Prelude.{List, [], ◌∷◌, Option, Some, None, option_map}
 use Rattle.clf_syntax.specs.declared.tree.Mode.{Mode}
 use Rattle.clf_syntax.specs.Tree as core
 use Rattle.clf_syntax.specs.TypeTree.{SimpleType}
 use Rattle.eta_laws.specs.Eta.{expansion}
 use Rattle.clf_sig.specs.Entry.{PlainSignature}
-use Rattle.celf_surface.specs.declared.surface.SMode.{SMode}
 use Rattle.celf_sugar.specs.declared.plain.PName.{PName}
 use Rattle.celf_sugar.specs.declared.plain.PBinder.{PBinder}
 use Rattle.celf_sugar.specs.PlainTree.{DesugaredObject, lam, pair, unit, monadic, atomic, hole, DesugaredSpine, end_of_spine, and_then, DesugaredAct, argument, first, second, DesugaredSteps, no_steps, step, DesugaredTuple, end_of_tuple, entry}
-use Rattle.celf_explicit.specs.Reading.{Place, Local, Typed, combined, marked, place_of_head}
-use Rattle.celf_explicit.specs.Places.{function_parts, pair_parts, entries_at, next_part}
-use Rattle.celf_explicit.specs.Heads.{head}
+use Rattle.celf_places.specs.Places.{Place, marked, function_parts, pair_parts, entries_at, next_part, behind_act, behind_spine}
+use Rattle.celf_places.specs.Heads.{Local, Typed, place_of_head, head}
+use Rattle.celf_places.specs.Combined.{combined, with_mode}
 
 -- a neutral at a place: where nothing is known to be wanted, as it is
 abbrev pub long_at : Place → core.PlainNeutral → core.PlainObject
@@ -22,16 +21,6 @@ long_at (Some t) n = expansion t n
 -- a head under the eliminations of a spine
 abbrev pub under_spine : Typed → List core.PlainElimination → core.PlainNeutral
 under_spine h es = core.spine_on es (core.head_alone h.0)
-
--- the simple type of what goes on by an argument or a projection, and by a whole spine
-abbrev pub behind_act : Place → DesugaredAct → Place
-behind_act t (argument m o) = (function_parts t).codomain
-behind_act t first = (pair_parts t).left
-behind_act t second = (pair_parts t).right
-
-abbrev pub behind_spine : Place → DesugaredSpine → Place
-behind_spine t end_of_spine = t
-behind_spine t (and_then a es) = behind_spine (behind_act t a) es
 
 -- the entries of the monad that the right side of a step has
 abbrev pub step_entries : PlainSignature → List Local → PName → DesugaredSpine → List (Mode × SimpleType)
@@ -54,10 +43,6 @@ with_steps sig ls (step p h es ss) = with_steps sig (with_pattern ls (step_entri
 -- steps, and then a tuple
 abbrev pub expression_of : List (List Mode × core.PlainNeutral) → List (Mode × core.PlainObject) → core.PlainObject
 expression_of ss es = core.monadic (core.steps_on ss (core.done (core.tuple_of es)))
-
--- what has a mode or the modes of a pattern
-abbrev pub with_mode : {M X : Type 0} → M → X → M × X
-with_mode m x = (m, x)
 
 -- The object that is written, over these locals, the newest first, at a place. A bare part has the mode of its place.
 -- None where something would have to be found, or a name has no meaning.

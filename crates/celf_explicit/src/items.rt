@@ -1,28 +1,24 @@
 //! The core of an item, where all of it is written.
 ghost use Rattle.std.specs.Prelude.{◌≡◌, [], map, IfOk, option_copied, option_map};
 ghost use Rattle.clf_syntax.specs.Plain.{plain_obj};
-ghost use Rattle.clf_syntax.specs.PlainTypes.{plain_ty, plain_tele, plain_tele_entry, plain_kind};
+ghost use Rattle.clf_syntax.specs.PlainTypes.{plain_ty, plain_tele, plain_tele_entry};
 ghost use Rattle.clf_sig.specs.Core.{plain_core, declares, queries, traces, checks};
 ghost use Rattle.clf_sig.specs.Entry.{constant_of, family_of};
 ghost use Rattle.clf_sig.specs.Signature.{plain_class, plain_signature};
 ghost use Rattle.celf_sugar.specs.Plain.{body_of, class_of, desugared_item, desugared_object, desugared_type};
 ghost use Rattle.celf_sugar.specs.PlainTree.{equal, check};
-ghost use Rattle.celf_explicit.specs.Reading.{combined};
-ghost use Rattle.celf_explicit.specs.Locals.{plain_place};
+ghost use Rattle.celf_places.specs.Combined.{combined};
+ghost use Rattle.celf_places.specs.Locals.{plain_place};
 ghost use Rattle.celf_explicit.specs.Objects.{read_object as read_object_of};
 ghost use Rattle.celf_explicit.specs.Types.{kind_of, read_type as read_type_of};
 ghost use Rattle.celf_explicit.specs.Parts.{entry_type};
-ghost use Rattle.celf_explicit.specs.Items as spec;
-ghost use Rattle.celf_explicit.specs.Cores.{IsReadAs};
+ghost use Rattle.celf_explicit.specs.Explicit as spec;
 
-use crate::item::{UnknownName, unknown};
-use crate::locals::Locals;
 use crate::objects::read_object;
-use crate::simple::simple_of;
-use crate::trees::boxed;
 use crate::types::{read_telescope, read_type};
-use crate::unknown::first_unknown;
+use celf_places::{Locals, boxed, simple_of};
 use celf_sugar::{PClass, PObj, PTy, Plain, PlainBody};
+use celf_unknown::{UnknownName, first_unknown, unknown_fault};
 use clf_sig::{Class, Core, Entry, Signature};
 use clf_syntax::{Kind, Name, Obj, OrWide, Shortage, Simple, Tele, TeleEntry, Ty};
 use sqlite_items::{Boxed, Items};
@@ -30,15 +26,15 @@ use std::alloc::{AllocError, Global};
 
 /// The core of an item over a signature; none exactly where it is not explicit. The fault is the first name of the item that has no meaning
 /// at its place.
-pub fn core_of(
+pub fn explicit(
     alloc: Global,
     sig: &Signature,
     plain: &Plain,
 ) -> Result<Option<Core>, OrWide<UnknownName>>
-    ensures { IsReadAs (plain_signature sig.now) (desugared_item plain.now) result }
+    ensures { spec.IsReading (plain_signature sig.now) (desugared_item plain.now) result }
 {
     match first_unknown(alloc, sig, plain)? {
-        Some(name) => Err(unknown(alloc, name)),
+        Some(name) => Err(unknown_fault(alloc, name)),
         None => match core_of_body(alloc, sig, &plain.body) {
             Ok(core) => Ok(core),
             Err(short) => Err(OrWide::from(short.want(alloc))),

@@ -6,17 +6,20 @@ ghost use Rattle.eta_laws.specs.Eta.{expansion};
 ghost use Rattle.clf_sig.specs.Signature.{plain_signature};
 ghost use Rattle.celf_sugar.specs.PlainTree.{spine_of};
 ghost use Rattle.celf_sugar.specs.Plain.{desugared_object, desugared_expression, desugared_elim, desugared_step, desugared_marked};
-ghost use Rattle.celf_explicit.specs.Locals.{plain_place, plain_locals};
-ghost use Rattle.celf_explicit.specs.Reading.{combined, place_of_head};
+ghost use Rattle.celf_places.specs.Locals.{plain_place, plain_locals};
+ghost use Rattle.celf_places.specs.Combined.{combined};
+ghost use Rattle.celf_places.specs.Places.{behind_act as behind_act_of};
+ghost use Rattle.celf_places.specs.Heads.{place_of_head};
 ghost use Rattle.celf_explicit.specs.Objects as spec;
 ghost use Rattle.celf_explicit.specs.Parts.{GrownFrom};
-ghost use Rattle.celf_explicit.specs.Along.{read_along, later_parts, read_marked as read_marked_of, read_step as read_step_of, behind_step};
+ghost use Rattle.celf_places.specs.Along.{read_along};
+ghost use Rattle.celf_explicit.specs.Lists.{later_parts, read_marked as read_marked_of, read_step as read_step_of, behind_step};
 
-use crate::heads::head_of;
-use crate::locals::{Found, Locals};
-use crate::parts::{behind_act, behind_spine, entries_at, function_parts, next_part, pair_parts};
-use crate::place::marked;
-use crate::trees::{applied, argument, boxed, lambda, monadic, pair, step, tuple_entry};
+use crate::trees::{applied, argument, lambda, monadic, pair, step, tuple_entry};
+use celf_places::{
+    Found, Locals, behind_act, behind_spine, boxed, entries_at, function_parts, head_of, marked,
+    next_part, pair_parts,
+};
 use celf_sugar::{PBinder, PElim, PExpr, PMarked, PObj, PObjForm, PStep};
 use clf_sig::Signature;
 use clf_simple::eta;
@@ -26,7 +29,7 @@ use std::alloc::Global;
 
 /// The core of an object at a place, under these locals; none where something would have to be found, or where a name in it has no meaning.
 #[cycle(read)]
-#[tactic(auto, using(crate::proofs::Forms::object_laws, crate::proofs::Forms::core_object_laws, crate::specs::Along::object_list_laws))]
+#[tactic(auto, using(celf_names::proofs::Forms::object_laws, crate::proofs::Forms::core_object_laws, crate::specs::Lists::object_list_laws))]
 pub fn read_object<'a>(
     obj: &'a PObj,
     alloc: Global,
@@ -76,7 +79,7 @@ pub fn read_object<'a>(
 
 /// What is done to a head, if there is one, with the head.
 #[cycle(read)]
-#[tactic(auto, using(crate::specs::Along::object_list_laws))]
+#[tactic(auto, using(crate::specs::Lists::object_list_laws))]
 fn read_neutral<'a>(
     spine: &'a [PElim],
     alloc: Global,
@@ -145,7 +148,7 @@ fn read_spine<'a>(
     place: Option<&'a Simple>,
     locals: &mut Locals<'a>,
 ) -> Result<Option<Items<Elim>>, Shortage>
-    ensures read { IfOk result (λ es. option_map (map plain_elim) es ≡ read_along (spec.read_act (plain_signature sig.now) (plain_locals locals.old)) spec.behind_act (plain_place (option_copied place.entry)) (map desugared_elim spine.now)) }
+    ensures read { IfOk result (λ es. option_map (map plain_elim) es ≡ read_along (spec.read_act (plain_signature sig.now) (plain_locals locals.old)) behind_act_of (plain_place (option_copied place.entry)) (map desugared_elim spine.now)) }
     ensures kept { OnOk result (locals.new ≡ locals.old) }
 {
     let mut elims = Items::new(alloc);
@@ -185,7 +188,7 @@ fn read_act<'a>(
 
 /// A monadic object, of whose tuple these entries are wanted. The binders of its steps stay among the locals.
 #[cycle(read)]
-#[tactic(auto, using(crate::proofs::Forms::expression_laws, crate::specs::Along::expression_list_laws))]
+#[tactic(auto, using(celf_names::proofs::Forms::expression_laws, crate::specs::Lists::expression_list_laws))]
 fn read_expression<'a>(
     expr: &'a PExpr,
     alloc: Global,

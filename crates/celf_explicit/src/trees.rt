@@ -1,10 +1,10 @@
 //! Core trees made of parts that were read.
-ghost use Rattle.std.specs.Prelude.{◌≡◌, [], map, IfOk, Ok, option_map};
+ghost use Rattle.std.specs.Prelude.{◌≡◌, map, IfOk, option_map};
 ghost use Rattle.clf_syntax.specs.Plain.{plain_obj, plain_elim, plain_neutral, plain_step, plain_entry};
 ghost use Rattle.clf_syntax.specs.PlainTypes.{plain_ty, plain_tele, plain_tele_entry};
 ghost use Rattle.clf_syntax.specs.Tree as core;
 ghost use Rattle.clf_syntax.specs.TypeTree as core_type;
-ghost use Rattle.celf_explicit.specs.Reading.{combined};
+ghost use Rattle.celf_places.specs.Combined.{combined, with_mode};
 ghost use Rattle.celf_explicit.specs.Objects as spec;
 
 use clf_syntax::{
@@ -12,19 +12,6 @@ use clf_syntax::{
 };
 use sqlite_items::{Boxed, Items};
 use std::alloc::Global;
-
-/// What has been read, in a box. In its box a tree is dropped by a call: dropped in place, each of its forms would be a case of the function that reads on.
-pub fn boxed<T: Drop>(
-    alloc: Global,
-    read: Result<Option<T>, Shortage>,
-) -> Result<Option<Boxed<T>>, Shortage>
-    ensures { IfOk result (λ b. read ≡ Ok b) }
-{
-    match read? {
-        Some(tree) => Ok(Some(Boxed::new(alloc, tree)?)),
-        None => Ok(None),
-    }
-}
 
 #[tactic(auto, using(clf_syntax::specs::Plain::plain_laws))]
 pub fn lambda(mode: Mode, body: Option<Boxed<Obj>>) -> Option<Obj>
@@ -67,7 +54,7 @@ pub fn argument(mode: Mode, obj: Option<Obj>) -> Option<Elim>
 
 #[tactic(auto, using(clf_syntax::specs::Plain::plain_laws))]
 pub fn tuple_entry(mode: Mode, obj: Option<Obj>) -> Option<TupleEntry>
-    ensures { option_map plain_entry result ≡ option_map (spec.with_mode mode) (option_map plain_obj obj) }
+    ensures { option_map plain_entry result ≡ option_map (with_mode mode) (option_map plain_obj obj) }
 {
     let obj = obj?;
     Some(TupleEntry { mode, obj })
@@ -75,7 +62,7 @@ pub fn tuple_entry(mode: Mode, obj: Option<Obj>) -> Option<TupleEntry>
 
 #[tactic(auto, using(clf_syntax::specs::Plain::plain_laws))]
 pub fn step(modes: Modes, rhs: Option<Neutral>) -> Option<Step>
-    ensures { option_map plain_step result ≡ option_map (spec.with_mode modes) (option_map plain_neutral rhs) }
+    ensures { option_map plain_step result ≡ option_map (with_mode modes) (option_map plain_neutral rhs) }
 {
     let rhs = rhs?;
     Some(Step { modes, rhs })
@@ -142,13 +129,13 @@ pub fn monad(tele: Option<Tele>) -> Option<Ty>
 
 #[tactic(auto, using(clf_syntax::specs::PlainTypes::plain_type_laws))]
 pub fn telescope_entry(mode: Mode, ty: Option<Ty>) -> Option<TeleEntry>
-    ensures { option_map plain_tele_entry result ≡ option_map (spec.with_mode mode) (option_map plain_ty ty) }
+    ensures { option_map plain_tele_entry result ≡ option_map (with_mode mode) (option_map plain_ty ty) }
 {
     let ty = ty?;
     Some(TeleEntry { mode, ty })
 }
 
-#[tactic(auto, using(crate::proofs::Made::telescope_made))]
+#[tactic(auto, using(crate::proofs::Forms::telescope_made))]
 pub fn telescope(entries: Option<Items<TeleEntry>>) -> Option<Tele>
     ensures { option_map plain_tele result ≡ option_map core_type.telescope_of (option_map (map plain_tele_entry) entries) }
 {

@@ -5,16 +5,14 @@ ghost use Rattle.clf_syntax.specs.PlainTypes.{plain_ty, plain_tele, plain_tele_e
 ghost use Rattle.clf_syntax.specs.PlainSimple.{plain_simple, plain_simple_entry};
 ghost use Rattle.clf_sig.specs.Signature.{plain_signature};
 ghost use Rattle.celf_sugar.specs.Plain.{desugared_object, desugared_type, desugared_telescope, desugared_entry};
-ghost use Rattle.celf_explicit.specs.Locals.{plain_place, plain_locals};
+ghost use Rattle.celf_places.specs.Locals.{plain_place, plain_locals};
 ghost use Rattle.celf_explicit.specs.Types as spec;
-ghost use Rattle.celf_explicit.specs.Along.{read_along, later_parts, read_index as read_index_of, read_entry as read_entry_of, behind_entry, bound_place};
+ghost use Rattle.celf_places.specs.Along.{read_along, bound_place};
+ghost use Rattle.celf_explicit.specs.Lists.{read_entry as read_entry_of, behind_entry};
 
-use crate::heads::{arguments_of, family_of};
-use crate::locals::Locals;
 use crate::objects::read_object;
-use crate::parts::next_part;
-use crate::simple::{bound_simple, bound_simples};
-use crate::trees::{both, boxed, family, function, monad, telescope, telescope_entry};
+use crate::trees::{both, family, function, monad, telescope, telescope_entry};
+use celf_places::{Locals, arguments_of, bound_simple, bound_simples, boxed, family_of, next_part};
 use celf_sugar::{PEntry, PObj, PTele, PTy, PTyForm};
 use clf_sig::Signature;
 use clf_syntax::{Name, Obj, Shortage, Simple, SimpleEntry, Tele, TeleEntry, Ty};
@@ -23,7 +21,7 @@ use std::alloc::Global;
 
 /// The core of a type under these locals; none where something would have to be found, or where a name in it has no meaning.
 #[cycle(types)]
-#[tactic(auto, using(crate::proofs::Forms::type_laws, crate::proofs::Forms::core_type_laws))]
+#[tactic(auto, using(celf_names::proofs::Forms::type_laws, crate::proofs::Forms::core_type_laws))]
 pub fn read_type<'a>(
     ty: &'a PTy,
     alloc: Global,
@@ -105,7 +103,7 @@ fn read_inner<'a>(
 
 /// The core of a telescope under these locals.
 #[cycle(types)]
-#[tactic(auto, using(crate::proofs::Forms::telescope_laws, crate::specs::Along::type_list_laws))]
+#[tactic(auto, using(celf_names::proofs::Forms::telescope_laws, crate::specs::Lists::type_list_laws))]
 pub fn read_telescope<'a>(
     tele: &'a PTele,
     alloc: Global,
@@ -196,7 +194,7 @@ fn at_indices<'a>(
 }
 
 /// Indices, each at what is wanted of it. The locals are copied, since they need not last as long as the others.
-#[tactic(auto, using(crate::specs::Along::index_list_laws))]
+#[tactic(auto, using(crate::specs::Lists::index_list_laws))]
 fn read_indices<'a>(
     indices: &'a [PObj],
     alloc: Global,

@@ -14,7 +14,7 @@ use Rattle.typing_laws.specs.SimpleTyping.{constants_of, families_of}
 use Rattle.clf_rules.specs.Clean.{CleanType}
 use Rattle.celf_explicit.specs.Objects.{read_object}
 use Rattle.celf_explicit.specs.Types.{kind_of}
-use Rattle.celf_explicit.specs.Items.{read_class, entry_of, core_of_body}
+use Rattle.celf_explicit.specs.Explicit.{read_class, entry_of, core_of_body}
 use Rattle.celf_spelling.specs.Printed.{printed_object, printed_class, printed_entry, printed_check}
 use Rattle.celf_spelling.specs.Printable.{IsPrintableObject, IsPrintableType, IsPrintableClass}
 use Rattle.celf_meaning.proofs.Made.{mapped, combined_of}

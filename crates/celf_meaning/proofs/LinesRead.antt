@@ -15,7 +15,7 @@ use Rattle.typing_laws.proofs.Erased.{typed_is_simply_typed}
 use Rattle.typing_laws.proofs.FormedTypes.{well_formed_is_simply_formed}
 use Rattle.celf_sugar.specs.PlainTree.{DesugaredBody}
 use Rattle.celf_sugar.specs.Sugar.{desugared}
-use Rattle.celf_explicit.specs.Items.{core_of_body}
+use Rattle.celf_explicit.specs.Explicit.{core_of_body}
 use Rattle.celf_spelling.specs.Printed.{printed_entry, printed_check}
 use Rattle.celf_spelling.specs.Spelling.{SpellsItem}
 use Rattle.celf_spelling.proofs.Spelled.{entries_are_spelled, checks_are_spelled}

@@ -1,6 +1,6 @@
 -- Options with a value, put together.
 use Rattle.std.proofs.Common.{◌≡◌, ap, ◌∙◌, Option, Some, option_map, option_and_then}
-use Rattle.celf_explicit.specs.Reading.{combined}
+use Rattle.celf_places.specs.Combined.{combined}
 
 pub mapped : {A B : Type 0} (f : A → B) {o : Option A} {x : A} → o ≡ Some x → option_map f o ≡ Some (f x)
 mapped f e = ap (option_map f) e

@@ -10,10 +10,10 @@ use Rattle.clf_syntax.specs.Occurs.{is_variable}
 use Rattle.clf_syntax.specs.Word.{is_variable_word}
 use Rattle.clf_sig.specs.Entry.{PlainClass, family_of, constant_of, PlainEntry, PlainSignature, place_of, entry_at, class_at, kind_in, type_in, family_kind, constant_type, simple_class, simple_types}
 use Rattle.clf_printer.specs.Text.{variable_text, used_variable_text, has_dollar}
-use Rattle.celf_explicit.specs.Names.{family_named, constant_named}
-use Rattle.celf_explicit.proofs.Options.{option_map-some, option_and_then-some}
+use Rattle.celf_names.specs.Names.{family_named, constant_named}
+use Rattle.celf_places.proofs.Options.{option_map-some, option_and_then-some}
 use Rattle.typing_laws.specs.SimpleTyping.{constants_of}
-use Rattle.celf_explicit.specs.Heads.{is_zero, has_no_implicit, all_written, constant_typed, constant_head, head, family_head}
+use Rattle.celf_places.specs.Heads.{is_zero, has_no_implicit, all_written, constant_typed, constant_head, head, family_head}
 use Rattle.celf_spelling.specs.Printed.{spelled, place_name, head_name}
 use Rattle.celf_spelling.specs.Printable.{IsPrintablePlace, IsPrintableHead}
 use Rattle.celf_meaning.proofs.Made.{mapped, chained}
@@ -50,7 +50,7 @@ module _ (sig : PlainSignature) (distinct : FindsItself sig) where
       let class = option_and_then-some kind_in (class_at sig f) k h in
       rw (distinct f e at, class.1) (only class.0 class.2)
     where
-      only : (c : PlainClass) → kind_in c ≡ Some k → Rattle.celf_explicit.specs.Names.family_only f (Some c) ≡ Some f
+      only : (c : PlainClass) → kind_in c ≡ Some k → Rattle.celf_names.specs.Names.family_only f (Some c) ≡ Some f
       only (family_of args) q = refl
       only (constant_of a) q = absurd (cc)
 

@@ -13,12 +13,12 @@ use Rattle.clf_printer.specs.Depth.{scope_depth, neutral_depth, expression_depth
 use Rattle.clf_sig.specs.Entry.{PlainSignature}
 use Rattle.celf_sugar.specs.PlainTree.{DesugaredAct, argument, spine_of}
 use Rattle.celf_sugar.specs.PlainTree as plain
-use Rattle.celf_explicit.specs.Reading.{Place, Local, combined, marked, place_of_head}
-use Rattle.celf_explicit.proofs.Options.{combined-some}
+use Rattle.celf_places.specs.Places.{Place, marked, entries_of, entries_at, behind_act, behind_spine}
+use Rattle.celf_places.specs.Heads.{Local, place_of_head, head}
+use Rattle.celf_places.specs.Combined.{combined, with_mode}
+use Rattle.celf_places.proofs.Options.{combined-some}
 use Rattle.typing_laws.specs.SimpleTyping.{constants_of}
-use Rattle.celf_explicit.specs.Places.{entries_of, entries_at}
-use Rattle.celf_explicit.specs.Heads.{head}
-use Rattle.celf_explicit.specs.Objects.{long_at, under_spine, behind_act, behind_spine, step_entries, pattern_modes, with_pattern, with_steps, expression_of, with_mode, read_object, read_spine, read_act, read_steps, read_tuple}
+use Rattle.celf_explicit.specs.Objects.{long_at, under_spine, step_entries, pattern_modes, with_pattern, with_steps, expression_of, read_object, read_spine, read_act, read_steps, read_tuple}
 use Rattle.celf_spelling.specs.Printed.{mark_for, printed_binders, printed_head, printed_object, printed_acts, printed_steps, printed_result, printed_tuple}
 use Rattle.celf_spelling.specs.Printable.{HasNames, NeutralHasNames, ExpressionHasNames, TupleHasNames}
 use Rattle.celf_meaning.proofs.Made.{mapped, combined_of, the_same}

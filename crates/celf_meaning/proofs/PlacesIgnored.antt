@@ -8,12 +8,13 @@ use Rattle.clf_sig.specs.Entry.{PlainSignature, family_of, constant_of}
 use Rattle.clf_sig.specs.Core.{declares, queries, traces, checks}
 use Rattle.celf_sugar.specs.declared.plain.PName.{PName}
 use Rattle.celf_sugar.specs.PlainTree.{DesugaredObject, lam, pair, unit, monadic, atomic, hole, DesugaredSpine, end_of_spine, and_then, DesugaredAct, argument, first, second, DesugaredSteps, no_steps, step, DesugaredTuple, end_of_tuple, entry, DesugaredType, family, function, both, top, monad, DesugaredTelescope, end, binding, DesugaredClass, of_family, of_constant, DesugaredBody, declare, query, trace, equal, check}
-use Rattle.celf_explicit.specs.Reading.{Place, Local, combined, marked, place_of_head}
-use Rattle.celf_explicit.specs.Places.{function_parts, pair_parts, entries_at, next_part}
-use Rattle.celf_explicit.specs.Heads.{head, family_head, arguments_of}
-use Rattle.celf_explicit.specs.Objects.{long_at, under_spine, behind_act, behind_spine, step_entries, pattern_modes, with_pattern, with_steps, expression_of, with_mode, read_object, read_spine, read_act, read_steps, read_tuple}
-use Rattle.celf_explicit.specs.Types.{simple_type, simple_telescope, local_of, read_indices, at_indices, read_type, read_telescope, kind_of}
-use Rattle.celf_explicit.specs.Items.{read_class, entry_of, read_against, equates_both, both_objects, core_of_body}
+use Rattle.celf_places.specs.Places.{Place, marked, function_parts, pair_parts, entries_at, next_part, behind_act, behind_spine}
+use Rattle.celf_places.specs.Heads.{Local, place_of_head, head, family_head, arguments_of}
+use Rattle.celf_places.specs.Combined.{combined, with_mode}
+use Rattle.celf_explicit.specs.Objects.{long_at, under_spine, step_entries, pattern_modes, with_pattern, with_steps, expression_of, read_object, read_spine, read_act, read_steps, read_tuple}
+use Rattle.celf_places.specs.SimpleTypes.{simple_type, simple_telescope, local_of}
+use Rattle.celf_explicit.specs.Types.{read_indices, at_indices, read_type, read_telescope, kind_of}
+use Rattle.celf_explicit.specs.Explicit.{read_class, entry_of, read_against, equates_both, both_objects, core_of_body}
 use Rattle.celf_spelling.specs.Placeless.{placeless_name, placeless_object, placeless_spine, placeless_act, placeless_steps, placeless_tuple, placeless_type, placeless_telescope, placeless_class, placeless_body}
 
 both_same : {A B C : Type 0} (f : A → B → C) {o u : Option A} {p v : Option B} → o ≡ u → p ≡ v → combined f o p ≡ combined f u v

@@ -6,10 +6,10 @@ use Rattle.clf_syntax.specs.TypeTree.{SimpleType, SimpleTelescope, simple_end, s
 use Rattle.clf_syntax.specs.Simple.{Assignment, extended, extended_by, simple_modes}
 use Rattle.clf_syntax.specs.Word.{is_variable_word}
 use Rattle.clf_printer.specs.Text.{variable_text, new_variable_text}
-use Rattle.celf_explicit.specs.Reading.{Local, Typed, has_name, local_from}
+use Rattle.celf_places.specs.Heads.{Local, Typed, has_name, local_from}
 use Rattle.celf_lexer.proofs.Signs.{same_bytes-refl}
 use Rattle.celf_spelling.specs.Printed.{printed_binders}
-use Rattle.celf_explicit.specs.Places.{entries_of}
+use Rattle.celf_places.specs.Places.{entries_of}
 use Rattle.celf_explicit.specs.Objects.{with_pattern}
 use Rattle.celf_spelling.proofs.Variables.{variable-differs, variable-other}
 

@@ -12,11 +12,12 @@ use Rattle.clf_sig.specs.Entry.{PlainSignature, family_kind}
 use Rattle.clf_printer.specs.Text.{is_persistent}
 use Rattle.use_contexts.specs.Holding.{is_persistent as may_be_in_types}
 use Rattle.celf_sugar.specs.PlainTree.{DesugaredType}
-use Rattle.celf_explicit.proofs.Options.{option_map-some}
+use Rattle.celf_places.proofs.Options.{option_map-some}
 use Rattle.typing_laws.specs.SimpleTyping.{families_of}
 use Rattle.clf_rules.specs.Clean.{CleanType, CleanTelescope}
-use Rattle.celf_explicit.specs.Heads.{argument_entry, argument_entries}
-use Rattle.celf_explicit.specs.Types.{simple_type, simple_telescope, local_of, read_indices, at_indices, read_type, read_telescope, kind_of}
+use Rattle.celf_places.specs.Heads.{argument_entry, argument_entries}
+use Rattle.celf_places.specs.SimpleTypes.{simple_type, simple_telescope, local_of}
+use Rattle.celf_explicit.specs.Types.{read_indices, at_indices, read_type, read_telescope, kind_of}
 use Rattle.celf_spelling.specs.Printed.{binder_name, printed_object, printed_type, printed_telescope, printed_kind}
 use Rattle.celf_spelling.specs.Printable.{ArePrintableIndices, IsPrintableType, IsPrintableTelescope, IsPrintableKind}
 use Rattle.celf_meaning.proofs.Made.{mapped, chained, combined_of}

@@ -9,7 +9,7 @@ use Rattle.clf_printer.specs.Text.{object_text, type_text, declaration_text}
 use Rattle.clf_rules.specs.Typing.{HasType}
 use Rattle.clf_rules.specs.WellFormed.{WellFormedType, WellFormedEntry, WellFormedSignature}
 use Rattle.celf_sugar.specs.PlainTree.{DesugaredBody}
-use Rattle.celf_explicit.specs.Items.{core_of_body}
+use Rattle.celf_explicit.specs.Explicit.{core_of_body}
 use Rattle.celf_spelling.specs.Printed.{printed_entry, printed_check}
 use Rattle.celf_spelling.specs.Placeless.{placeless_body}
 use Rattle.celf_spelling.specs.Printable.{IsPrintableObject, IsPrintableType, IsPrintableClass}

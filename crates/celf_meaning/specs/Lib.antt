@@ -1,4 +1,4 @@
-pub use Rattle.celf_explicit.specs.Items
+pub use Rattle.celf_explicit.specs.Explicit
 pub use Rattle.celf_spelling.specs.Printed
 pub use Rattle.celf_spelling.specs.Placeless
 pub use Rattle.clf_rules.specs.WellFormed

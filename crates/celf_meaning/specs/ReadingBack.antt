@@ -9,7 +9,7 @@ use Rattle.celf_sugar.specs.Sugar.{desugared}
 use Rattle.celf_sugar.specs.Faults.{first_fault}
 use Rattle.clf_sig.specs.Entry.{PlainSignature}
 use Rattle.clf_sig.specs.Core.{PlainCore}
-use Rattle.celf_explicit.specs.Items.{core_of}
+use Rattle.celf_explicit.specs.Explicit.{explicit}
 use Rattle.celf_spelling.specs.Spelling.{opening, before}
 
 -- With so much room for nested parts the text is one item, in one way, and nothing but blanks and comments follows it. The item has
@@ -23,7 +23,7 @@ pub record IsItemWithCore (sig : PlainSignature) (text : List ℕ) (core : Plain
   pub at_end : end.kind ≡ End
   pub only : (other : WrittenItem) (u : State) → IsItem (before text room) other u → other ≡ item
   pub no_fault : first_fault item ≡ None
-  pub says : core_of sig (desugared item) ≡ Some core
+  pub says : explicit sig (desugared item) ≡ Some core
 
 -- The text is read as the core wherever there is room for all parts that its tokens open.
 abbrev pub ReadsAs : PlainSignature → List ℕ → PlainCore → Type 0

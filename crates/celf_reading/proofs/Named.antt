@@ -12,7 +12,7 @@ use Rattle.clf_sig.specs.Entry.{Declaration, PlainClass, family_of, constant_of,
 use Rattle.clf_rules.specs.Typing.{HasType, Synthesizes, ExpressionHasType, TupleHasType}
 use Rattle.clf_rules.specs.WellFormed.{IndicesHaveTypes, WellFormedType, WellFormedTelescope, WellFormedKind, WellFormedClass, AllMayFollow, WellFormedSignature}
 use Rattle.clf_printer.specs.Depth.{indices_depth, type_depth, telescope_depth, kind_depth, class_depth}
-use Rattle.celf_explicit.proofs.Options.{option_map-some, option_and_then-some}
+use Rattle.celf_places.proofs.Options.{option_map-some, option_and_then-some}
 use Rattle.celf_spelling.specs.Printable.{IsPrintablePlace, HasNames, NeutralHasNames, ExpressionHasNames, TupleHasNames, ArePrintableIndices, IsPrintableType, IsPrintableTelescope, IsPrintableKind, IsPrintableClass}
 
 declared-name : (front es : PlainSignature) (k : ℕ) (e : Declaration) → AllMayFollow front es → slice_get es k ≡ Some e → IsTrue (is_declarable e.0)

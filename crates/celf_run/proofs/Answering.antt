@@ -32,14 +32,14 @@ use Rattle.celf_sugar.specs.PlainTree as plain
 use Rattle.celf_sugar.specs.Sugar.{body, desugared}
 use Rattle.celf_sugar.specs.Faults.{first_fault}
 use Rattle.celf_sugar.specs.Answers.{IsFirst}
-use Rattle.celf_explicit.specs.Unknown.{first_unknown}
-use Rattle.celf_explicit.proofs.Options.{option_map-some}
+use Rattle.celf_unknown.specs.Unknown.{first_unknown}
+use Rattle.celf_places.proofs.Options.{option_map-some}
 use Rattle.celf_replies.specs.declared.reply.Reply.{Reply}
 use Rattle.celf_replies.specs.Reply.{PlainWhy, duplicate, full, unknown_name, PlainReply, plain_reply, entry, checked, equal as equal_reply, different as different_reply, refused}
 use Rattle.celf_run.specs.declared.options.Options.{Options}
 use Rattle.clf_sig.specs.Core.{PlainCore, declares, queries, traces, equates, checks}
-use Rattle.celf_explicit.specs.Explicit.{standing}
-use Rattle.celf_explicit.specs.Items.{core_of}
+use Rattle.celf_unknown.specs.Fault.{standing}
+use Rattle.celf_explicit.specs.Explicit.{explicit}
 use Rattle.celf_run.specs.Source.{written}
 use Rattle.celf_run.specs.Allowed.{Held, holding, declared_name, NameBarred, is_duplicate, is_full, NamePasses, Barred, by_unknown, Passes, HasCore, is_explicit, IsTyped, IsUntyped, IsIllFormed, IsExplained, in_class, in_type, in_object, in_common_type, in_first, in_second, IsBeyondReach, Declined, by_rules, not_answered, Fits, accepted, typed, same, differing, PlainAllowed, barred, declined, answered, Allowed, sugar_fault, plainly, sugar_refusal}
 use Rattle.celf_run.specs.Answering.{NameVerdict, MayBeDeclared, MayBeAdded, AnswersCore, fits, explained, beyond, refused_by_rules, refused_as_beyond, FormsClosed, JudgesClosed, IsReplyToFault, ExplainsCore, Compares}
@@ -103,7 +103,7 @@ passes-new sig item name passes d = go (place_of name sig) refl
 
 -- ---- cores
 
-pub may-be-added : (sig : PlainSignature) (item : DesugaredItem) (core : PlainCore) → MayBeDeclared item → NamePasses sig item → core_of sig item ≡ Some core → MayBeAdded sig core
+pub may-be-added : (sig : PlainSignature) (item : DesugaredItem) (core : PlainCore) → MayBeDeclared item → NamePasses sig item → explicit sig item ≡ Some core → MayBeAdded sig core
 may-be-added sig item (declares n e) may passes h =
     let read = declared-fits sig item n e may.implicit h in
     let new = passes-new sig item n passes read.0 in
@@ -184,13 +184,13 @@ compared-told options sig at n o a (Err want) t u told = tt
 
 -- What a core comes to answers its item.
 pub core-allowed : (options : Options) (old new : PlainSignature) (item : DesugaredItem) (core : PlainCore) (reply : PlainReply) → NamePasses old item → first_unknown old item ≡ None
-    → core_of old item ≡ Some core → AnswersCore options (holding old) item.span.start core reply (holding new) → PlainAllowed options (holding old) item reply (holding new)
+    → explicit old item ≡ Some core → AnswersCore options (holding old) item.span.start core reply (holding new) → PlainAllowed options (holding old) item reply (holding new)
 core-allowed options old new item core reply passes known h (fits f) = answered (record { name = passes; known = known }) (is_explicit h) f
 core-allowed options old new item core reply passes known h (explained x) = declined (record { name = passes; known = known }) (by_rules (is_explicit h) x)
 core-allowed options old new item core reply passes known h (beyond x) = declined (record { name = passes; known = known }) (not_answered (is_explicit h) x)
 
 pub core-answers : (options : Options) (old new : PlainSignature) (item : DesugaredItem) (core : PlainCore) (r : Result Reply Want) → NamePasses old item → first_unknown old item ≡ None
-    → core_of old item ≡ Some core → IfOk r (λ reply. AnswersCore options (holding old) item.span.start core (plain_reply reply) (holding new))
+    → explicit old item ≡ Some core → IfOk r (λ reply. AnswersCore options (holding old) item.span.start core (plain_reply reply) (holding new))
     → IfOk r (λ reply. PlainAllowed options (holding old) item (plain_reply reply) (holding new))
 core-answers options old new item core (Ok reply) passes known h a = core-allowed options old new item core (plain_reply reply) passes known h a
 core-answers options old new item core (Err e) passes known h a = tt

@@ -1,5 +1,5 @@
 -- What is known of the core of an item that comes of a text.
-use Rattle.std.proofs.Common.{ℕ, ◌≡◌, ◌+◌, ◌≤◌, ◌<◌, ◌^◌, Bool, true, false, nat_le, nat_lt, if◌then◌else◌, refl, sym, ap, ◌∙◌, subst, Option, Some, None, List, [], ◌∷◌, ◌++◌, length, map, arith, Contains}
+use Rattle.std.proofs.Common.{ℕ, ◌≡◌, ◌+◌, ◌-◌, ◌≤◌, ◌<◌, ◌^◌, Bool, true, false, nat_le, nat_lt, if◌then◌else◌, refl, sym, ap, ◌∙◌, subst, Option, Some, None, List, [], ◌∷◌, ◌++◌, length, map, arith, Contains}
 use Rattle.std.proofs.lemmas.Bool.{leb-true}
 use Rattle.std.proofs.Math.Nat.{min-le_left, min-le_right}
 use Rattle.clf_syntax.specs.declared.tree.Mode.TheVariants.{Persistent, Affine, Linear}
@@ -20,12 +20,11 @@ use Rattle.celf_sugar.specs.Earliest.{sooner, earliest}
 use Rattle.celf_sugar.specs.Faults.{leading, too_many, fault_start, first_of, first_fault, kind_places_of, not_async_of, redexes_of, out_of_range_of, bad_implicits_of}
 use Rattle.celf_sugar.specs.Sugar.{reading, class, implicit, body, desugared}
 use Rattle.celf_sugar.proofs.LeadingLaws.{class-leads}
-use Rattle.celf_explicit.specs.Reading.{Local}
-use Rattle.celf_explicit.specs.Heads.{family_head}
-use Rattle.celf_explicit.specs.Types.{at_indices, read_indices, local_of, read_type, read_telescope, kind_of}
-use Rattle.celf_explicit.specs.Heads.{arguments_of}
-use Rattle.celf_explicit.specs.Items.{read_class, entry_of, read_against, both_objects, equates_both, core_of, core_of_body}
-use Rattle.celf_explicit.proofs.Options.{option_map-some, option_and_then-some, combined-some}
+use Rattle.celf_places.specs.Heads.{Local, family_head, arguments_of}
+use Rattle.celf_explicit.specs.Types.{at_indices, read_indices, read_type, read_telescope, kind_of}
+use Rattle.celf_places.specs.SimpleTypes.{local_of}
+use Rattle.celf_explicit.specs.Explicit.{read_class, entry_of, read_against, both_objects, equates_both, explicit, core_of_body}
+use Rattle.celf_places.proofs.Options.{option_map-some, option_and_then-some, combined-some}
 use Rattle.celf_run.specs.Allowed.{declared_name}
 use Rattle.celf_run.specs.Answering.{StandInFront}
 
@@ -170,7 +169,7 @@ declared-read sig (check o t) name e h =
     let made = combined-some checks (read_against sig t o) (read_type sig [] t) (declares name e) h in absurd (cc made.4)
 
 -- A declared entry has no more implicit arguments than it can have.
-pub declared-fits : (sig : PlainSignature) (item : DesugaredItem) (name : List ℕ) (e : PlainEntry) → StandInFront item → core_of sig item ≡ Some (declares name e)
+pub declared-fits : (sig : PlainSignature) (item : DesugaredItem) (name : List ℕ) (e : PlainEntry) → StandInFront item → explicit sig item ≡ Some (declares name e)
     → (declared_name item.body ≡ Some name) × (e.implicit ≤ may_be_implicit e.class)
 declared-fits sig item name e stand h =
     let read = declared-read sig item.body name e h in
@@ -178,5 +177,5 @@ declared-fits sig item name e stand h =
     (ap declared_name read.says, omega (arith, count, read.leads))
 
 -- The entry of an item of a text has fewer than 2 ^ 32 implicit arguments.
-pub declared-small : (sig : PlainSignature) (item : written.WrittenItem) (name : List ℕ) (e : PlainEntry) → core_of sig (desugared item) ≡ Some (declares name e) → e.implicit < 2 ^ 32
+pub declared-small : (sig : PlainSignature) (item : written.WrittenItem) (name : List ℕ) (e : PlainEntry) → explicit sig (desugared item) ≡ Some (declares name e) → e.implicit < 2 ^ 32
 declared-small sig item name e h = let read = declared-read sig (desugared item).body name e h in count-small item.body name e.implicit read.class read.says

@@ -19,8 +19,8 @@ use Rattle.celf_sugar.specs.declared.fault.SugarFault.{SugarFault}
 use Rattle.celf_sugar.specs.PlainTree.{DesugaredItem}
 use Rattle.celf_sugar.specs.Sugar.{desugared}
 use Rattle.celf_sugar.specs.Faults.{first_fault}
-use Rattle.celf_explicit.specs.Unknown.{first_unknown}
-use Rattle.celf_explicit.specs.Items.{core_of}
+use Rattle.celf_unknown.specs.Unknown.{first_unknown}
+use Rattle.celf_explicit.specs.Explicit.{explicit}
 use Rattle.celf_parser.specs.Place.{HasDeclarableName}
 use Rattle.celf_replies.specs.Reply.{PlainWhy, duplicate, full, unknown_name, kernel, not_yet, PlainReply, entry, checked, equal as equal_reply, different as different_reply, refused}
 use Rattle.celf_run.specs.declared.options.Options.{Options}
@@ -128,7 +128,7 @@ core-reply options sig at (equates n o a) w may = equation-reply options sig at 
 core-reply options sig at (checks n a) w may = check-reply options sig at n a w (type-told sig a w)
 
 known-reply : (options : Options) (sig : PlainSignature) (item : DesugaredItem) → WellFormedSignature sig → MayBeDeclared item → NamePasses sig item → first_unknown sig item ≡ None
-    → (c : Option PlainCore) → core_of sig item ≡ c → HasReply options sig item
+    → (c : Option PlainCore) → explicit sig item ≡ c → HasReply options sig item
 known-reply options sig item w may passes known (Some core) h =
     let r = core-reply options sig item.span.start core w (may-be-added sig item core may passes h) in
     (r.0, holding r.1, core-allowed options sig r.1 item core r.0 passes known h r.2)
@@ -137,7 +137,7 @@ known-reply options sig item w may passes known None h =
 
 named-reply : (options : Options) (sig : PlainSignature) (item : DesugaredItem) → WellFormedSignature sig → MayBeDeclared item → NamePasses sig item
     → (u : Option PName) → first_unknown sig item ≡ u → HasReply options sig item
-named-reply options sig item w may passes None e = known-reply options sig item w may passes e (core_of sig item) refl
+named-reply options sig item w may passes None e = known-reply options sig item w may passes e (explicit sig item) refl
 named-reply options sig item w may passes (Some name) e =
     (refused (record { at = name.span.start; why = unknown_name name.name }), holding sig, barred (by_unknown passes e))
 

@@ -9,7 +9,7 @@ use Rattle.clf_rules.specs.Refusal.{Cause}
 use Rattle.celf_surface.specs.Surface.{WrittenItem}
 use Rattle.celf_sugar.specs.PlainTree.{DesugaredItem}
 use Rattle.celf_sugar.specs.Sugar.{desugared}
-use Rattle.celf_explicit.specs.Items.{core_of}
+use Rattle.celf_explicit.specs.Explicit.{explicit}
 use Rattle.celf_replies.specs.Reply.{PlainWhy, duplicate, full, unknown_name, kernel, PlainRefusal, PlainReply, refused}
 use Rattle.celf_run.specs.declared.options.Options.{Options}
 use Rattle.celf_run.specs.Source.{Task, written, faulty}
@@ -68,7 +68,7 @@ IsFit (traces t) = Unit {0}
 IsFit (equates n o a) = Unit {0}
 IsFit (checks n a) = Unit {0}
 
-is-fit : (sig : PlainSignature) (item : DesugaredItem) (core : PlainCore) → StandInFront item → core_of sig item ≡ Some core → IsFit core
+is-fit : (sig : PlainSignature) (item : DesugaredItem) (core : PlainCore) → StandInFront item → explicit sig item ≡ Some core → IsFit core
 is-fit sig item (declares n e) stand h = (declared-fits sig item n e stand h).1
 is-fit sig item (queries a) stand h = tt
 is-fit sig item (traces t) stand h = tt
@@ -77,7 +77,7 @@ is-fit sig item (checks n a) stand h = tt
 
 explained-one : (sig : PlainSignature) (core : PlainCore) (path other : List ℕ) (cause because : Cause) → WellFormedSignature sig → IsFit core
     → IsExplained sig core path cause → IsExplained sig core other because → kernel path cause ≡ kernel other because
-explained-one sig (declares n e) path other cause because w fit (in_class {path = p} no x) (in_class {path = q} never y) =
+explained-one sig (declares n e) path other cause because w fit (in_class {path = p} never x) (in_class {path = q} nor y) =
     let one = (entry-decided sig e w fit).one p q cause because x y in same-kernel (0 ∷ p) (0 ∷ q) cause because (ap (λ (l : List ℕ). 0 ∷ l) one.0) one.1
 explained-one sig (checks n a) path other cause because w fit (in_type {path = p} x) (in_type {path = q} y) = type-one sig a 0 p q cause because w x y
 explained-one sig (checks n a) path other cause because w fit (in_type x) (in_object y) = absurd (x.formed_not y.formed)
@@ -120,7 +120,7 @@ declined-one sig item why because w stand (not_answered c b) (not_answered d b')
 
 refused-unfit : (options : Options) (held new : Held) (core : PlainCore) (path : List ℕ) (cause : Cause) (reply : PlainReply) → IsExplained held.signature core path cause
     → Fits options held core reply new → ⊥
-refused-unfit options held new (declares n e) path cause reply (in_class no x) (accepted stand) = no may.2
+refused-unfit options held new (declares n e) path cause reply (in_class never x) (accepted may) = never may.2
 refused-unfit options held new (checks n a) path cause reply (in_type x) (typed t) = x.formed_not t.formed
 refused-unfit options held new (checks n a) path cause reply (in_object x) (typed t) = x.has_not t.has
 refused-unfit options held new (equates n o a) path cause reply (in_common_type x) (same t u j) = x.formed_not t.formed
@@ -140,7 +140,7 @@ beyond-unfit options held new (equates n o a) reply b x = b
 beyond-unfit options held new (checks n a) reply b x = b
 
 declined-unfit : (options : Options) (held new : Held) (item : DesugaredItem) (core : PlainCore) (why : PlainWhy) (reply : PlainReply)
-    → Declined held.signature item why → core_of held.signature item ≡ Some core → Fits options held core reply new → ⊥
+    → Declined held.signature item why → explicit held.signature item ≡ Some core → Fits options held core reply new → ⊥
 declined-unfit options held new item core why reply (by_rules {core = other} {path = path} {cause = cause} (is_explicit h) x) k f =
     refused-unfit options held new core path cause reply (subst (λ (c : PlainCore). IsExplained held.signature c path cause) (some-one _ other core h k) x) f
 declined-unfit options held new item core why reply (not_explicit e) k f = not-both _ core e k

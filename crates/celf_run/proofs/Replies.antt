@@ -1,5 +1,5 @@
 -- The lines of the replies that a task may have read back.
-use Rattle.std.proofs.Common.{ℕ, ◌≡◌, ◌<◌, ◌^◌, sym, ap, subst, Some, List, [], ◌∷◌, ◌++◌, length, slice_get, codes}
+use Rattle.std.proofs.Common.{ℕ, ◌≡◌, ◌<◌, ◌^◌, refl, sym, ap, subst, Some, List, [], ◌∷◌, ◌++◌, length, slice_get, codes}
 use Rattle.std.specs.Option.{option_map}
 use Rattle.clf_sig.specs.Entry.{Declaration, PlainEntry, PlainSignature}
 use Rattle.clf_sig.specs.Core.{PlainCore, declares, queries, traces, equates, checks}
@@ -9,11 +9,11 @@ use Rattle.clf_printer.specs.Metas.{appearing_class}
 use Rattle.clf_printer.specs.Text.{declaration_text}
 use Rattle.celf_surface.specs.Surface.{WrittenItem}
 use Rattle.celf_sugar.specs.Sugar.{desugared}
-use Rattle.celf_explicit.specs.Items.{core_of}
+use Rattle.celf_explicit.specs.Explicit.{explicit}
 use Rattle.celf_meaning.specs.ReadingBack.{ReadsAs}
 use Rattle.celf_reading.proofs.Named.{class-formed-printable}
 use Rattle.celf_reading.proofs.LinesBack.{entry_reads_back, check_lines_read_back}
-use Rattle.celf_replies.specs.Reply.{PlainReply, entry, checked, refused}
+use Rattle.celf_replies.specs.Reply.{PlainReply, entry, checked, equal, different, refused}
 use Rattle.celf_replies.specs.Text.{IsNumbered}
 use Rattle.celf_run.specs.declared.options.Options.{Options}
 use Rattle.celf_run.specs.Source.{Task}
@@ -27,7 +27,7 @@ numbered-entry : (sig : PlainSignature) (name : List ℕ) (e : PlainEntry) → I
 numbered-entry sig name e n = n e (ap (option_map (λ (d : Declaration). d.1)) (get-behind sig (name, e)))
 
 fits-reads_back : (options : Options) (held new : Held) (item : WrittenItem) (core : PlainCore) (reply : PlainReply) → WellFormedSignature held.signature
-    → core_of held.signature (desugared item) ≡ Some core → Fits options held core reply new → IsNumbered new.signature reply → ReadsBack options held reply new
+    → explicit held.signature (desugared item) ≡ Some core → Fits options held core reply new → IsNumbered new.signature reply → ReadsBack options held reply new
 fits-reads_back options held new item (declares name e) (entry k) w h (accepted may) n =
     let sig = held.signature in
     let small = numbered-entry sig name e n in
@@ -38,10 +38,14 @@ fits-reads_back options held new item (equates o p a) reply w h (same t u j) n =
 fits-reads_back options held new item (equates o p a) reply w h (differing t u j) n = tt
 fits-reads_back options held new item (declares name e) (checked o a) w h x n = elim x [ ]
 fits-reads_back options held new item (declares name e) (refused r) w h x n = elim x [ ]
+fits-reads_back options held new item (declares name e) equal w h x n = elim x [ ]
+fits-reads_back options held new item (declares name e) different w h x n = elim x [ ]
 fits-reads_back options held new item (queries a) reply w h x n = elim x [ ]
 fits-reads_back options held new item (traces t) reply w h x n = elim x [ ]
 fits-reads_back options held new item (checks o a) (entry k) w h x n = elim x [ ]
 fits-reads_back options held new item (checks o a) (refused r) w h x n = elim x [ ]
+fits-reads_back options held new item (checks o a) equal w h x n = elim x [ ]
+fits-reads_back options held new item (checks o a) different w h x n = elim x [ ]
 
 plain-reads_back : (options : Options) (held new : Held) (item : WrittenItem) (reply : PlainReply) → WellFormedSignature held.signature
     → PlainAllowed options held (desugared item) reply new → IsNumbered new.signature reply → ReadsBack options held reply new

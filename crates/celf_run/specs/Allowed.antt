@@ -15,11 +15,11 @@ use Rattle.celf_sugar.specs.declared.fault.SugarFault.TheVariants.{KindPlace, No
 use Rattle.celf_sugar.specs.Faults.{first_fault, fault_start}
 use Rattle.celf_sugar.specs.Sugar.{desugared}
 use Rattle.celf_sugar.specs.PlainTree.{DesugaredBody, declare, query, trace, equal, check, DesugaredItem}
-use Rattle.celf_explicit.specs.Unknown.{first_unknown}
+use Rattle.celf_unknown.specs.Unknown.{first_unknown}
 use Rattle.celf_replies.specs.Reply.{PlainWhy, kind_place, not_async, redex, out_of_range, bad_implicit, duplicate, full, unknown_name, kernel, not_yet, PlainRefusal, PlainReply, entry, checked, equal as equal_reply, different as different_reply, refused}
 use Rattle.celf_run.specs.declared.options.Options.{Options}
 use Rattle.clf_sig.specs.Core.{PlainCore, declares, queries, traces, equates, checks}
-use Rattle.celf_explicit.specs.Items.{core_of}
+use Rattle.celf_explicit.specs.Explicit.{explicit}
 use Rattle.celf_run.specs.Source.{Task, written, faulty}
 
 -- what a run holds between two tasks
@@ -61,7 +61,7 @@ pub record Passes (sig : PlainSignature) (item : DesugaredItem) : Type 0 where
 
 -- The item has this core.
 pub data HasCore (sig : PlainSignature) (item : DesugaredItem) : PlainCore → Type 0 where
-  is_explicit : {core : PlainCore} → core_of sig item ≡ Some core → HasCore sig item core
+  is_explicit : {core : PlainCore} → explicit sig item ≡ Some core → HasCore sig item core
 
 -- The rules form the type and give it to the object.
 pub record IsTyped (sig : PlainSignature) (n : PlainObject) (a : PlainType) : Type 0 where
@@ -102,7 +102,7 @@ IsBeyondReach (checks n a) = ⊥
 -- Why an item that passes is declined: by the rules, or since it is out of reach so far, as every item is that is not explicit.
 pub data Declined (sig : PlainSignature) (item : DesugaredItem) : PlainWhy → Type 0 where
   by_rules : {core : PlainCore} {path : List ℕ} {cause : Cause} → HasCore sig item core → IsExplained sig core path cause → Declined sig item (kernel path cause)
-  not_explicit : core_of sig item ≡ None → Declined sig item not_yet
+  not_explicit : explicit sig item ≡ None → Declined sig item not_yet
   not_answered : {core : PlainCore} → HasCore sig item core → IsBeyondReach core → Declined sig item not_yet
 
 -- The reply fits the core, and this is held behind it.

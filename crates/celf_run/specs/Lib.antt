@@ -17,7 +17,7 @@ pub use Rattle.celf_parser.specs.Place
 pub use Rattle.celf_sugar.specs.Sugar
 pub use Rattle.celf_sugar.specs.Faults
 pub use Rattle.trace_equal.specs.Exchange
-pub use Rattle.celf_explicit.specs.Items
+pub use Rattle.celf_explicit.specs.Explicit
 pub use Rattle.celf_meaning.specs.ReadingBack
 pub use Rattle.celf_replies.specs.Reply
 pub use Rattle.celf_replies.specs.Text

@@ -15,10 +15,11 @@ use crate::fault::sugar_refusal;
 use crate::judged::answer_core;
 use crate::name::barred_name;
 use crate::options::Options;
-use celf_explicit::{UnknownName, core_of};
+use celf_explicit::explicit;
 use celf_replies::{Reply, Why};
 use celf_sugar::{Plain, desugar};
 use celf_surface::Item;
+use celf_unknown::UnknownName;
 use clf_sig::Signature;
 use clf_syntax::{OrWide, Want};
 use std::alloc::Global;
@@ -88,7 +89,7 @@ fn answer_named(
     ensures wide { IfErr result IsWant }
 {
     let at = plain.span.start;
-    match core_of(alloc, sig, plain) {
+    match explicit(alloc, sig, plain) {
         Ok(Some(core)) => answer_core(alloc, sig, options, at, core),
         Ok(None) => Ok(Reply::Refused {
             at,

@@ -4,15 +4,17 @@ use Rattle.clf_syntax.specs.Plain.{plain_obj, plain_elim, plain_step, plain_entr
 use Rattle.clf_syntax.specs.PlainSimple.{plain_simple_entry}
 use Rattle.clf_sig.specs.Signature.{plain_signature}
 use Rattle.celf_sugar.specs.Plain.{desugared_elim, desugared_step, desugared_marked, desugared_expression, expression-of}
-use Rattle.celf_explicit.specs.Locals.{plain_place, plain_locals}
+use Rattle.celf_places.specs.Locals.{plain_place, plain_locals}
 use Rattle.celf_sugar.specs.PlainTree.{steps_of, tuple_of}
 use Rattle.celf_sugar.specs.declared.plain.PExpr.{out-PExpr}
 use Rattle.celf_sugar.specs.declared.plain.PStep.{PStep}
 use Rattle.celf_sugar.specs.declared.plain.PMarked.{PMarked}
-use Rattle.celf_explicit.specs.Objects.{behind_act, read_act, expression_of}
-use Rattle.celf_explicit.specs.Along.{read_along, left_along, later_parts, read_marked, read_step, behind_step}
-use Rattle.celf_explicit.proofs.AlongLaws.{none_along, one_along, all_along, left_next, left_end}
-use Rattle.celf_explicit.proofs.LocalsLaws.{grown_along}
+use Rattle.celf_places.specs.Places.{behind_act}
+use Rattle.celf_explicit.specs.Objects.{read_act, expression_of}
+use Rattle.celf_places.specs.Along.{read_along, left_along}
+use Rattle.celf_explicit.specs.Lists.{later_parts, read_marked, read_step, behind_step}
+use Rattle.celf_places.proofs.AlongLaws.{none_along, one_along, all_along, left_next, left_end}
+use Rattle.celf_explicit.proofs.PatternLaws.{grown_along}
 use Rattle.celf_explicit.proofs.Expressions.{no_steps_read, expression_read, ok_along}
 use Rattle.celf_explicit.proofs.objects.+read.Goals as goal
 

@@ -5,10 +5,12 @@ use Rattle.clf_syntax.specs.Plain.{plain_elim, plain_step, plain_entry}
 use Rattle.clf_syntax.specs.PlainSimple.{plain_simple_entry}
 use Rattle.clf_sig.specs.Signature.{plain_signature}
 use Rattle.celf_sugar.specs.Plain.{desugared_elim, desugared_step, desugared_marked}
-use Rattle.celf_explicit.specs.Locals.{plain_place, plain_locals}
-use Rattle.celf_explicit.specs.Objects.{behind_act, read_act}
+use Rattle.celf_places.specs.Locals.{plain_place, plain_locals}
+use Rattle.celf_places.specs.Places.{behind_act}
+use Rattle.celf_explicit.specs.Objects.{read_act}
 use Rattle.celf_explicit.specs.Parts.{GrownFrom}
-use Rattle.celf_explicit.specs.Along.{with_some, read_along, left_along, later_parts, read_marked, read_step, behind_step}
+use Rattle.celf_places.specs.Along.{with_some, read_along, left_along}
+use Rattle.celf_explicit.specs.Lists.{later_parts, read_marked, read_step, behind_step}
 use Rattle.celf_explicit.proofs.objects.+read.Given as goal
 
 abbrev pub invariant-read_spine-loop-act : goal.invariant-read_spine-loop-act

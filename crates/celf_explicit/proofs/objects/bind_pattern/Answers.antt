@@ -1,10 +1,10 @@
-use Rattle.std.proofs.Common.{map, ap, ◌∙◌, ◌∷◌, ◌++◌, [], arith}
+use Rattle.std.proofs.Common.{map, ap, ◌∙◌, ◌∷◌, ◌++◌, []}
 use Rattle.std.specs.Prelude.{option_copied}
 use Rattle.clf_syntax.specs.PlainSimple.{plain_simple_entry}
-use Rattle.celf_explicit.specs.Reading.{marked}
-use Rattle.celf_explicit.specs.Locals.{plain_place, plain_locals}
+use Rattle.celf_places.specs.Places.{marked}
+use Rattle.celf_places.specs.Locals.{plain_locals}
 use Rattle.celf_explicit.specs.Objects.{pattern_modes, with_pattern}
-use Rattle.celf_explicit.proofs.LocalsLaws.{modes_next, locals_next, grown_more}
+use Rattle.celf_explicit.proofs.PatternLaws.{modes_next, locals_next, grown_more}
 use Rattle.celf_explicit.proofs.objects.bind_pattern.Goals as goal
 
 pub loop-binder-preserved : goal.loop-binder-preserved

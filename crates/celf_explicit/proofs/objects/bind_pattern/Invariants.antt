@@ -1,7 +1,7 @@
 -- The modes and the binders so far go before those that are left.
 use Rattle.std.proofs.Common.{◌≡◌, ◌++◌, map, drop}
 use Rattle.clf_syntax.specs.PlainSimple.{plain_simple_entry}
-use Rattle.celf_explicit.specs.Locals.{plain_locals}
+use Rattle.celf_places.specs.Locals.{plain_locals}
 use Rattle.celf_explicit.specs.Objects.{pattern_modes, with_pattern}
 use Rattle.celf_explicit.specs.Parts.{GrownFrom}
 use Rattle.celf_explicit.proofs.objects.bind_pattern.Given as goal

@@ -4,9 +4,10 @@ use Rattle.clf_syntax.specs.PlainTypes.{plain_tele_entry}
 use Rattle.clf_sig.specs.Signature.{plain_signature}
 use Rattle.celf_sugar.specs.PlainTree.{DesugaredEntry}
 use Rattle.celf_sugar.specs.Plain.{desugared_entry, entry-of}
-use Rattle.celf_explicit.specs.Locals.{plain_place, plain_locals}
-use Rattle.celf_explicit.specs.Along.{read_along, read_entry, behind_entry}
-use Rattle.celf_explicit.proofs.AlongLaws.{one_along}
+use Rattle.celf_places.specs.Locals.{plain_place, plain_locals}
+use Rattle.celf_places.specs.Along.{read_along}
+use Rattle.celf_explicit.specs.Lists.{read_entry, behind_entry}
+use Rattle.celf_places.proofs.AlongLaws.{one_along}
 use Rattle.celf_explicit.proofs.TypeLists.{local_here}
 use Rattle.celf_explicit.proofs.types.+types.Goals as goal
 

@@ -4,8 +4,9 @@ use Rattle.clf_syntax.specs.Plain.{plain_obj}
 use Rattle.clf_syntax.specs.PlainSimple.{plain_simple_entry}
 use Rattle.clf_sig.specs.Signature.{plain_signature}
 use Rattle.celf_sugar.specs.Plain.{desugared_object}
-use Rattle.celf_explicit.specs.Locals.{plain_locals}
-use Rattle.celf_explicit.specs.Along.{with_some, read_along, later_parts, read_index}
+use Rattle.celf_places.specs.Locals.{plain_locals}
+use Rattle.celf_places.specs.Along.{with_some, read_along}
+use Rattle.celf_explicit.specs.Lists.{later_parts, read_index}
 use Rattle.celf_explicit.proofs.types.read_indices.Given as goal
 
 abbrev pub invariant-loop-index : goal.invariant-loop-index

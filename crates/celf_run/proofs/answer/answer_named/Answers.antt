@@ -1,7 +1,7 @@
 use Rattle.std.proofs.Common.{◌≡◌, ◌∙◌, sym, ap, subst, option_map, Err}
 use Rattle.clf_syntax.specs.declared.fault.OrWide.{OrWide}
-use Rattle.celf_explicit.specs.declared.item.UnknownName.{UnknownName}
-use Rattle.celf_explicit.specs.Cores.{IsReadAs}
+use Rattle.celf_unknown.specs.declared.fault.UnknownName.{UnknownName}
+use Rattle.celf_explicit.specs.Explicit.{IsReading}
 use Rattle.clf_sig.specs.Signature.{plain_signature}
 use Rattle.clf_sig.specs.Core.{plain_core}
 use Rattle.celf_sugar.specs.Plain.{desugared_item}
@@ -32,7 +32,7 @@ pub returns-in-Err-Fault-clause-allowed : goal.returns-in-Err-Fault-clause-allow
 returns-in-Err-Fault-clause-allowed c =
     let sig = plain_signature c.args.sig.now in
     let item = desugared_item c.args.plain.now in
-    let told = subst (λ (f : OrWide UnknownName). IsReadAs sig item (Err f)) c.in-Err-Fault.field-0-is c.in-Err-Fault.ensures in
+    let told = subst (λ (f : OrWide UnknownName). IsReading sig item (Err f)) c.in-Err-Fault.field-0-is c.in-Err-Fault.ensures in
     let allowed : PlainAllowed c.args.options.now (holding sig) item (refused (unknown_refusal c.in-Err-Fault.unknown.span.start c.in-Err-Fault.unknown.name)) (holding sig) =
     barred (unknown-barred sig item _ _ c.requires.passes told) in
     let said : plain_reply c.unknown_name.result ≡ refused (unknown_refusal c.in-Err-Fault.unknown.span.start c.in-Err-Fault.unknown.name) =

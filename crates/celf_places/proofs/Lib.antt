@@ -1,0 +1,4 @@
+pub mod Options
+pub mod AlongLaws
+pub mod LocalsLaws
+pub mod Forms

@@ -1,0 +1,13 @@
+pub use Rattle.clf_syntax.specs.Word
+pub use Rattle.clf_syntax.specs.Tree
+pub use Rattle.clf_syntax.specs.TypeTree
+pub use Rattle.clf_sig.specs.Entry
+pub use Rattle.celf_sugar.specs.Plain
+pub use Rattle.celf_names.specs.Names
+pub mod Combined
+pub mod Places
+pub mod Heads
+pub mod SimpleTypes
+pub mod Locals
+pub mod Parts
+pub mod Along

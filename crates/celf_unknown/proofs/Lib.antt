@@ -1,0 +1,2 @@
+pub mod UnknownLaws
+pub mod Forms
