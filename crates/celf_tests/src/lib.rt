@@ -14,6 +14,8 @@ mod signature;
 #[cfg(test)]
 mod source;
 #[cfg(test)]
+mod substitution;
+#[cfg(test)]
 mod traces;
 #[cfg(test)]
 mod trees;
