@@ -10,6 +10,8 @@ mod printer;
 #[cfg(test)]
 mod run;
 #[cfg(test)]
+mod runs;
+#[cfg(test)]
 mod signature;
 #[cfg(test)]
 mod source;
