@@ -1,7 +1,7 @@
 //! The core of an item, where all of it is written.
 ghost use Rattle.std.specs.Prelude.{◌≡◌, [], map, IfOk, option_copied, option_map};
 ghost use Rattle.clf_syntax.specs.Plain.{plain_obj};
-ghost use Rattle.clf_syntax.specs.PlainTypes.{plain_ty, plain_tele, plain_tele_entry, plain_kind};
+ghost use Rattle.clf_syntax.specs.PlainTypes.{plain_ty, plain_tele, plain_tele_entry};
 ghost use Rattle.clf_sig.specs.Core.{plain_core, declares, queries, traces, checks};
 ghost use Rattle.clf_sig.specs.Entry.{constant_of, family_of};
 ghost use Rattle.clf_sig.specs.Signature.{plain_class, plain_signature};

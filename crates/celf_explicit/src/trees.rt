@@ -1,5 +1,5 @@
 //! Core trees made of parts that were read.
-ghost use Rattle.std.specs.Prelude.{◌≡◌, [], map, IfOk, Ok, option_map};
+ghost use Rattle.std.specs.Prelude.{◌≡◌, map, IfOk, option_map};
 ghost use Rattle.clf_syntax.specs.Plain.{plain_obj, plain_elim, plain_neutral, plain_step, plain_entry};
 ghost use Rattle.clf_syntax.specs.PlainTypes.{plain_ty, plain_tele, plain_tele_entry};
 ghost use Rattle.clf_syntax.specs.Tree as core;

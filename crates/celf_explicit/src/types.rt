@@ -8,7 +8,7 @@ ghost use Rattle.celf_sugar.specs.Plain.{desugared_object, desugared_type, desug
 ghost use Rattle.celf_places.specs.Locals.{plain_place, plain_locals};
 ghost use Rattle.celf_explicit.specs.Types as spec;
 ghost use Rattle.celf_places.specs.Along.{read_along, bound_place};
-ghost use Rattle.celf_explicit.specs.Lists.{later_parts, read_index as read_index_of, read_entry as read_entry_of, behind_entry};
+ghost use Rattle.celf_explicit.specs.Lists.{read_entry as read_entry_of, behind_entry};
 
 use crate::objects::read_object;
 use crate::trees::{both, family, function, monad, telescope, telescope_entry};

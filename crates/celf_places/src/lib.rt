@@ -2,14 +2,14 @@
 #![tactic(auto)]
 
 mod heads;
+mod in_box;
 mod locals;
-mod options;
 mod parts;
 mod simple;
 
 pub use heads::{arguments_of, family_of, head_of};
+pub use in_box::boxed;
 pub use locals::{Found, Locals};
-pub use options::boxed;
 pub use parts::{
     FunctionParts, NextPart, PairParts, behind_act, behind_spine, entries_at, function_parts,
     marked, next_part, pair_parts,

@@ -9,8 +9,8 @@ ghost use Rattle.celf_places.specs.Combined.{combined, with_mode};
 ghost use Rattle.celf_places.specs.SimpleTypes as spec;
 ghost use Rattle.celf_places.specs.Along.{read_along, stateless, simple_entry as simple_entry_of, bound_place};
 
+use crate::in_box::boxed;
 use celf_names::family_named;
-use crate::options::boxed;
 use celf_sugar::{PEntry, PTele, PTy, PTyForm};
 use clf_sig::Signature;
 use clf_syntax::{Mode, Name, Shortage, Simple, SimpleEntry};

@@ -131,7 +131,9 @@ fn behind(reply: &Reply, end: u32) -> Turn
 {
     match reply {
         Reply::Refused { .. } => Turn::Ended(Status::Refused),
-        Reply::Entry(_) | Reply::Checked { .. } | Reply::Equal | Reply::Different => Turn::Next(end),
+        Reply::Entry(_) | Reply::Checked { .. } | Reply::Equal | Reply::Different => Turn::Next(
+            end,
+        ),
     }
 }
 
