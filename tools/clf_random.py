@@ -40,18 +40,35 @@ CONSTANTS = {
 }
 
 
+def with_coercions(signature, name, kind):
+    """Adds constants that lead from the family `a` to a family, and back."""
+    indices = tuple(eta(erased(ty), at(len(kind) - 1 - number)) for number, ty in enumerate(kind))
+    into = lolli(A, shifted(family(name, *indices), 1))
+    out = lolli(family(name, *indices), A)
+    for argument in reversed(kind):
+        into, out = pi(argument, into), pi(argument, out)
+    signature["in-" + name], signature["out-" + name] = ("constant", into), ("constant", out)
+
+
 def base_signature():
     signature = {name: ("kind", kind) for name, kind in FAMILIES.items()}
     signature.update((name, ("constant", ty)) for name, ty in CONSTANTS.items())
     for name, kind in FAMILIES.items():
-        if name == "a":
-            continue
-        indices = tuple(eta(erased(kind[number]), at(len(kind) - 1 - number)) for number in range(len(kind)))
-        into = lolli(A, shifted(family(name, *indices), 1))
-        out = lolli(family(name, *indices), A)
-        for argument in reversed(kind):
-            into, out = pi(argument, into), pi(argument, out)
-        signature["in-" + name], signature["out-" + name] = ("constant", into), ("constant", out)
+        if name != "a":
+            with_coercions(signature, name, kind)
+    return signature
+
+
+def random_signature(chance, names):
+    """The signature above, a family `r` with random arguments, and constants of random types."""
+    signature = base_signature()
+    context = []
+    for _ in range(chance.choice([1, 2, 2, 3])):
+        context.append((PERSISTENT, Typed(chance, signature).type(context, 1)))
+    signature["r"] = ("kind", tuple(ty for _, ty in context))
+    with_coercions(signature, "r", signature["r"][1])
+    for name in names:
+        signature[name] = ("constant", Typed(chance, signature).type([], 2))
     return signature
 
 
@@ -72,7 +89,8 @@ class Typed:
         return self.object(context, set(), set(), ty, depth)[0]
 
     def atomic_type(self, context):
-        name = self.chance.choice(["a", "a", "a", "nat", "v", "v", "e", "q", "m"])
+        families = [name for name, (sort, _) in self.signature.items() if sort == "kind"]
+        name = self.chance.choice(families + ["a", "a", "v"])
         _, kind = self.signature[name]
         return self.family(context, name, kind)
 
