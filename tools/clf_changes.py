@@ -4,15 +4,15 @@ from clf_trees import AFFINE, BARE, LINEAR, PERSISTENT, UNIT, at, free_variables
 MARKS = [BARE, PERSISTENT, AFFINE]
 
 
-def places(tree, scope=0, path=(), is_right_side=False):
-    """Each part of a tree: its path, the part, how many variables are bound there, and whether it has to stay a neutral."""
+def places(tree, scope=(), path=(), is_right_side=False):
+    """Each part of a tree: its path, the part, which of the variables there can be named, and whether it has to stay a neutral."""
     yield path, tree, scope, is_right_side
     form = tree[0]
     if form == "lam":
-        yield from places(tree[2], scope + 1, path + (2,))
+        yield from places(tree[2], (True,) + scope, path + (2,))
     elif form == "function":
         yield from places(tree[2], scope, path + (2,))
-        yield from places(tree[3], scope + 1, path + (3,))
+        yield from places(tree[3], (tree[1] == PERSISTENT,) + scope, path + (3,))
     elif form in ("pair", "both"):
         yield from places(tree[1], scope, path + (1,))
         yield from places(tree[2], scope, path + (2,))
@@ -20,8 +20,9 @@ def places(tree, scope=0, path=(), is_right_side=False):
         for number, index in enumerate(tree[2]):
             yield from places(index, scope, path + (2, number))
     elif form == "monad":
-        for number, (_, ty) in enumerate(tree[1]):
-            yield from places(ty, scope + number, path + (1, number, 1))
+        for number, (mode, ty) in enumerate(tree[1]):
+            yield from places(ty, scope, path + (1, number, 1))
+            scope = (mode == PERSISTENT,) + scope
     elif form == "at":
         for number, act in enumerate(tree[2]):
             if act[0] == "arg":
@@ -29,7 +30,7 @@ def places(tree, scope=0, path=(), is_right_side=False):
     elif form == "monadic":
         for number, (modes, right) in enumerate(tree[1]):
             yield from places(right, scope, path + (1, number, 1), True)
-            scope += len(modes)
+            scope = (True,) * len(modes) + scope
         for number, (_, entry) in enumerate(tree[2]):
             yield from places(entry, scope, path + (2, number, 1))
 
@@ -75,19 +76,23 @@ class Changes:
             return self.changed_expression(part, scope)
         return at(self.head(scope))
 
+    def variable(self, scope):
+        """A variable that can be named, or nothing."""
+        named = [i for i, can_be_named in enumerate(scope) if can_be_named]
+        return self.chance.choice(named) if named else None
+
     def head(self, scope):
-        if scope and self.chance.random() < 0.7:
-            return self.chance.randrange(scope)
-        return self.chance.choice(self.constants)
+        variable = self.variable(scope)
+        return variable if variable is not None and self.chance.random() < 0.7 else self.chance.choice(self.constants)
 
     def other(self, part):
         return self.chance.choice([UNIT, ("pair", part, part), ("lam", BARE, shifted(part, 1)), ("monadic", (), ((BARE, part),)), at("base")])
 
     def unbound(self, body, scope):
         """The body without its binder, if another variable can stand for it."""
-        if scope == 0 and 0 in free_variables(body):
+        instead = self.variable(scope)
+        if instead is None and 0 in free_variables(body):
             return None
-        instead = self.chance.randrange(scope) if scope else 0
         return renamed(body, lambda i: instead if i == 0 else i - 1)
 
     def changed_neutral(self, part, scope):
@@ -125,12 +130,12 @@ class Changes:
             return ("monadic", (), result + ((BARE, at(self.head(scope))),))
         number = self.chance.randrange(len(steps))
         modes, right = steps[number]
-        inner = scope + sum(len(modes) for modes, _ in steps[:number])
+        inner = (True,) * sum(len(modes) for modes, _ in steps[:number]) + scope
         later = ("monadic", steps[number + 1:], result)
         if pick < 0.6:
             # one binder more, or one less
             if modes and self.chance.random() < 0.5:
-                newest = self.unbound(later, inner + len(modes) - 1)
+                newest = self.unbound(later, (True,) * (len(modes) - 1) + inner)
                 return newest and ("monadic", steps[:number] + ((modes[:-1], right),) + newest[1], newest[2])
             _, more, end = shifted(later, 1)
             return ("monadic", steps[:number] + ((modes + (BARE,), right),) + more, end)

@@ -343,9 +343,10 @@ class Sugar:
         return BARE if mode == LINEAR or (mode == wanted and self.chance.random() < 0.6) else mode
 
     def object(self, local, place, obj):
-        """A written object that reads as this core at the place."""
-        if obj == UNIT and place == TOP_TYPE and local and self.chance.random() < 0.2:
-            return at(self.chance.randrange(len(local)))
+        """A written object that reads as this core at the place. `local` has nothing for a variable that cannot be named."""
+        named = [i for i, found in enumerate(local) if found]
+        if obj == UNIT and place == TOP_TYPE and named and self.chance.random() < 0.2:
+            return at(self.chance.choice(named))
         if place and obj[0] != "at" and self.chance.random() < 0.5:
             short = contracted(place, obj)
             if short is not None:
@@ -402,16 +403,20 @@ class Sugar:
             kind = self.signature[ty[1]][1]
             return ("family", ty[1], tuple(self.object(local, erased(kind[number]), index) for number, index in enumerate(ty[2])))
         if form == "function":
-            return ("function", ty[1], self.type(local, ty[2]), self.type((erased(ty[2]),) + local, ty[3]))
+            return ("function", ty[1], self.type(local, ty[2]), self.type(self.bound(ty[1], ty[2]) + local, ty[3]))
         if form == "both":
             return ("both", self.type(local, ty[1]), self.type(local, ty[2]))
         if form == "monad":
             entries = []
             for mode, entry in ty[1]:
                 entries.append((mode, self.type(local, entry)))
-                local = (erased(entry),) + local
+                local = self.bound(mode, entry) + local
             return ("monad", tuple(entries))
         return ty
+
+    def bound(self, mode, ty):
+        """The variable of a function or an entry of a type, which can be named where it is persistent."""
+        return (erased(ty) if mode == PERSISTENT else None,)
 
 
 def contracted(simple, obj):
