@@ -101,14 +101,17 @@ class Changes:
         arguments = [number for number, act in enumerate(spine) if act[0] == "arg"]
         if head == "z" or (head == "s" and len(spine) == 1 and pick < 0.6):
             return at("s", ("arg", BARE, part)) if head == "z" else spine[0][2]
-        if len(arguments) > 1 and pick < 0.2:
+        inner = spine[self.chance.choice(arguments)][2] if arguments else part
+        if pick < 0.3 and inner[0] == "at" and inner != part:
+            return self.chance.choice([inner, at("base")])
+        if len(arguments) > 1 and pick < 0.4:
             number, other = self.chance.sample(arguments, 2)
             return ("at", head, spine[:number] + (("arg", spine[number][1], spine[other][2]),) + spine[number + 1:])
-        if pick < 0.45 or (not spine and pick < 0.75):
+        if pick < 0.6 or (not spine and pick < 0.8):
             return ("at", self.head(scope), spine)
-        if pick < 0.6:
+        if pick < 0.7:
             return ("at", head, spine[:-1])
-        if pick < 0.75:
+        if pick < 0.8:
             act = self.chance.choice([("arg", BARE, at(self.head(scope))), ("first",), ("second",)])
             return ("at", head, spine + (act,))
         if not spine:
