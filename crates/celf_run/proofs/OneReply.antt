@@ -77,7 +77,7 @@ is-fit sig item (checks n a) stand h = tt
 
 explained-one : (sig : PlainSignature) (core : PlainCore) (path other : List ℕ) (cause because : Cause) → WellFormedSignature sig → IsFit core
     → IsExplained sig core path cause → IsExplained sig core other because → kernel path cause ≡ kernel other because
-explained-one sig (declares n e) path other cause because w fit (in_class {path = p} no x) (in_class {path = q} never y) =
+explained-one sig (declares n e) path other cause because w fit (in_class {path = p} never x) (in_class {path = q} nor y) =
     let one = (entry-decided sig e w fit).one p q cause because x y in same-kernel (0 ∷ p) (0 ∷ q) cause because (ap (λ (l : List ℕ). 0 ∷ l) one.0) one.1
 explained-one sig (checks n a) path other cause because w fit (in_type {path = p} x) (in_type {path = q} y) = type-one sig a 0 p q cause because w x y
 explained-one sig (checks n a) path other cause because w fit (in_type x) (in_object y) = absurd (x.formed_not y.formed)
@@ -120,7 +120,7 @@ declined-one sig item why because w stand (not_answered c b) (not_answered d b')
 
 refused-unfit : (options : Options) (held new : Held) (core : PlainCore) (path : List ℕ) (cause : Cause) (reply : PlainReply) → IsExplained held.signature core path cause
     → Fits options held core reply new → ⊥
-refused-unfit options held new (declares n e) path cause reply (in_class no x) (accepted stand) = no may.2
+refused-unfit options held new (declares n e) path cause reply (in_class never x) (accepted may) = never may.2
 refused-unfit options held new (checks n a) path cause reply (in_type x) (typed t) = x.formed_not t.formed
 refused-unfit options held new (checks n a) path cause reply (in_object x) (typed t) = x.has_not t.has
 refused-unfit options held new (equates n o a) path cause reply (in_common_type x) (same t u j) = x.formed_not t.formed

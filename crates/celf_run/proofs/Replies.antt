@@ -1,5 +1,5 @@
 -- The lines of the replies that a task may have read back.
-use Rattle.std.proofs.Common.{ℕ, ◌≡◌, ◌<◌, ◌^◌, sym, ap, subst, Some, List, [], ◌∷◌, ◌++◌, length, slice_get, codes}
+use Rattle.std.proofs.Common.{ℕ, ◌≡◌, ◌<◌, ◌^◌, refl, sym, ap, subst, Some, List, [], ◌∷◌, ◌++◌, length, slice_get, codes}
 use Rattle.std.specs.Option.{option_map}
 use Rattle.clf_sig.specs.Entry.{Declaration, PlainEntry, PlainSignature}
 use Rattle.clf_sig.specs.Core.{PlainCore, declares, queries, traces, equates, checks}
@@ -13,7 +13,7 @@ use Rattle.celf_explicit.specs.Explicit.{explicit}
 use Rattle.celf_meaning.specs.ReadingBack.{ReadsAs}
 use Rattle.celf_reading.proofs.Named.{class-formed-printable}
 use Rattle.celf_reading.proofs.LinesBack.{entry_reads_back, check_lines_read_back}
-use Rattle.celf_replies.specs.Reply.{PlainReply, entry, checked, refused}
+use Rattle.celf_replies.specs.Reply.{PlainReply, entry, checked, equal, different, refused}
 use Rattle.celf_replies.specs.Text.{IsNumbered}
 use Rattle.celf_run.specs.declared.options.Options.{Options}
 use Rattle.celf_run.specs.Source.{Task}
@@ -38,10 +38,14 @@ fits-reads_back options held new item (equates o p a) reply w h (same t u j) n =
 fits-reads_back options held new item (equates o p a) reply w h (differing t u j) n = tt
 fits-reads_back options held new item (declares name e) (checked o a) w h x n = elim x [ ]
 fits-reads_back options held new item (declares name e) (refused r) w h x n = elim x [ ]
+fits-reads_back options held new item (declares name e) equal w h x n = elim x [ ]
+fits-reads_back options held new item (declares name e) different w h x n = elim x [ ]
 fits-reads_back options held new item (queries a) reply w h x n = elim x [ ]
 fits-reads_back options held new item (traces t) reply w h x n = elim x [ ]
 fits-reads_back options held new item (checks o a) (entry k) w h x n = elim x [ ]
 fits-reads_back options held new item (checks o a) (refused r) w h x n = elim x [ ]
+fits-reads_back options held new item (checks o a) equal w h x n = elim x [ ]
+fits-reads_back options held new item (checks o a) different w h x n = elim x [ ]
 
 plain-reads_back : (options : Options) (held new : Held) (item : WrittenItem) (reply : PlainReply) → WellFormedSignature held.signature
     → PlainAllowed options held (desugared item) reply new → IsNumbered new.signature reply → ReadsBack options held reply new

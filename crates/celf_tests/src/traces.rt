@@ -304,10 +304,19 @@ fn the_first_index_that_differs(rt: HostRuntime) -> Result<(), Fail> {
     found.push(object(alloc, "c1")?)?;
     let mut wanted = Items::new(alloc);
     wanted.push(object(alloc, "{ c1 =L c0 =L x0 . x1 . }")?)?;
-    assert_eq!(rt; first_difference(alloc, found.as_slice(), wanted.as_slice())?, Some(1));
+    assert_eq!(rt;
+        first_difference(alloc, found.as_slice(), wanted.as_slice())?,
+        Some(1)
+    );
     wanted.push(object(alloc, "c1")?)?;
-    assert_eq!(rt; first_difference(alloc, found.as_slice(), wanted.as_slice())?, None);
+    assert_eq!(rt;
+        first_difference(alloc, found.as_slice(), wanted.as_slice())?,
+        None
+    );
     wanted.push(object(alloc, "c2")?)?;
-    assert_eq!(rt; first_difference(alloc, found.as_slice(), wanted.as_slice())?, Some(2));
+    assert_eq!(rt;
+        first_difference(alloc, found.as_slice(), wanted.as_slice())?,
+        Some(2)
+    );
     Ok(())
 }

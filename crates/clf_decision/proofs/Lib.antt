@@ -1,3 +1,4 @@
+pub mod Outcomes
 pub mod Tests
 pub mod Marked
 pub mod AgreesWith

@@ -4,23 +4,14 @@ use Rattle.std.proofs.Math.Seq.{take-suc}
 use Rattle.std.proofs.lemmas.List.{map-append, reverse-append, length-reverse, length-map, length-take-le}
 use Rattle.clf_syntax.specs.declared.tree.Mode.{Mode}
 use Rattle.use_contexts.specs.Rows.{Leftover}
-use Rattle.clf_decision.specs.Outcome.{Outcome, passed, refused, at_part, and_then}
+use Rattle.clf_decision.specs.Outcome.{Outcome, passed, at_part, and_then}
 use Rattle.clf_decision.specs.Checking.{with_slack}
+use Rattle.clf_decision.proofs.Outcomes.{then_then, then_same, then_itself}
 use Rattle.clf_kernel.specs.declared.refusal.Stop.{Stop}
 use Rattle.clf_kernel.specs.declared.trail.Opened.{Opened}
 use Rattle.clf_kernel.specs.Stops.{Stops}
 use Rattle.clf_kernel.specs.Trail.{closed_mode, closed_modes, closed_step, closed_steps, opened_width, opened_by, plain_opened}
 use Rattle.clf_kernel.proofs.Stops.{then_stops}
-use Rattle.clf_kernel.proofs.Spines.{then_then}
-
--- what comes after a part, as another does
-pub then_same : {A B : Type 0} (w : Outcome A) (f k : A → Outcome B) → ((a : A) → f a ≡ k a) → and_then w f ≡ and_then w k
-then_same (passed a) f k e = e a
-then_same (refused path cause) f k e = refl
-
-pub then_itself : {A : Type 0} (w : Outcome A) (f : A → Outcome A) → ((a : A) → f a ≡ passed a) → and_then w f ≡ w
-then_itself (passed a) f e = e a
-then_itself (refused path cause) f e = refl
 
 -- ---- the variables of one step
 -- The newest of the first i + 1 variables ends first.

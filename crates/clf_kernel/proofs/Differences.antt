@@ -1,6 +1,7 @@
 -- The first index at which what is found differs from what is wanted.
-use Rattle.std.proofs.Common.{◌≡◌, ◌≤◌, ◌<◌, ℕ, zero, suc, Bool, true, false, if◌then◌else◌, List, [], ◌∷◌, length, map, get_or, slice_get, Option, Some, None, refl, sym, ap, ◌∙◌, arith}
+use Rattle.std.proofs.Common.{◌≡◌, ◌≤◌, ◌<◌, ℕ, zero, suc, Bool, true, false, if◌then◌else◌, List, [], ◌∷◌, length, map, get_or, slice_get, Some, None, refl, sym, ap, ◌∙◌, arith}
 use Rattle.std.proofs.Math.Logic.{◌⊎◌, inl, inr}
+use Rattle.std.proofs.lemmas.Bool.{cond-true, cond-false}
 use Rattle.std.proofs.lemmas.List.{length-map}
 use Rattle.clf_syntax.specs.declared.tree.Obj.{Obj}
 use Rattle.clf_syntax.specs.Tree.{PlainObject}
@@ -26,18 +27,10 @@ unjoined_test o u n = by (is_joined o u) (same_is_joined o u).0
     by false f = refl
     by true f = absurd (n (f refl))
 
-passed_over : (b : Bool) (r s : Option (PlainObject × PlainObject)) → b ≡ true → (if b then r else s) ≡ r
-passed_over true r s e = refl
-passed_over false r s e = cc
-
-found_here : (b : Bool) (r s : Option (PlainObject × PlainObject)) → b ≡ false → (if b then r else s) ≡ s
-found_here false r s e = refl
-found_here true r s e = cc
-
 pub none_differs : (os us : List PlainObject) → JoinedEach os us → first_unjoined os us ≡ None
 none_differs [] us j = refl
 none_differs (o ∷ os) [] j = absurd j
-none_differs (o ∷ os) (u ∷ us) j = passed_over (is_joined o u) (first_unjoined os us) (Some (o, u)) (joined_test o u j.0) ∙ none_differs os us j.1
+none_differs (o ∷ os) (u ∷ us) j = cond-true (is_joined o u) (first_unjoined os us) (Some (o, u)) (joined_test o u j.0) ∙ none_differs os us j.1
 
 pub one_differs : (i : ℕ) (os us : List PlainObject) (o u : PlainObject) → DiffersAt i os us → slice_get os i ≡ Some o → slice_get us i ≡ Some u → first_unjoined os us ≡ Some (o, u)
 one_differs i [] us o u d e f = cc
@@ -45,8 +38,8 @@ one_differs i (x ∷ os) [] o u d e f = cc
 one_differs zero (x ∷ os) (y ∷ us) o u d e f =
     let p : x ≡ o = cc in
     let q : y ≡ u = cc in
-    found_here (is_joined x y) (first_unjoined os us) (Some (x, y)) (unjoined_test x y d) ∙ ap (λ z. Some (z, y)) p ∙ ap (λ z. Some (o, z)) q
-one_differs (suc i) (x ∷ os) (y ∷ us) o u d e f = passed_over (is_joined x y) (first_unjoined os us) (Some (x, y)) (joined_test x y d.0) ∙ one_differs i os us o u d.1 e f
+    cond-false (is_joined x y) (first_unjoined os us) (Some (x, y)) (unjoined_test x y d) ∙ ap (λ z. Some (z, y)) p ∙ ap (λ z. Some (o, z)) q
+one_differs (suc i) (x ∷ os) (y ∷ us) o u d e f = cond-true (is_joined x y) (first_unjoined os us) (Some (x, y)) (joined_test x y d.0) ∙ one_differs i os us o u d.1 e f
 
 -- Where one list has no object at the place, there is nothing to compare.
 pub one_ends : (i : ℕ) (os us : List PlainObject) → DiffersAt i os us → (length os ≤ i) ⊎ (length us ≤ i) → first_unjoined os us ≡ None
@@ -54,8 +47,8 @@ one_ends i [] us d e = refl
 one_ends i (x ∷ os) [] d e = refl
 one_ends zero (x ∷ os) (y ∷ us) d (inl l) = absurd (omega arith)
 one_ends zero (x ∷ os) (y ∷ us) d (inr l) = absurd (omega arith)
-one_ends (suc i) (x ∷ os) (y ∷ us) d (inl l) = passed_over (is_joined x y) (first_unjoined os us) (Some (x, y)) (joined_test x y d.0) ∙ one_ends i os us d.1 (inl (omega arith))
-one_ends (suc i) (x ∷ os) (y ∷ us) d (inr l) = passed_over (is_joined x y) (first_unjoined os us) (Some (x, y)) (joined_test x y d.0) ∙ one_ends i os us d.1 (inr (omega arith))
+one_ends (suc i) (x ∷ os) (y ∷ us) d (inl l) = cond-true (is_joined x y) (first_unjoined os us) (Some (x, y)) (joined_test x y d.0) ∙ one_ends i os us d.1 (inl (omega arith))
+one_ends (suc i) (x ∷ os) (y ∷ us) d (inr l) = cond-true (is_joined x y) (first_unjoined os us) (Some (x, y)) (joined_test x y d.0) ∙ one_ends i os us d.1 (inr (omega arith))
 
 -- ---- the lists of the program
 there : (xs : List Obj) (i : ℕ) (x : Obj) → i < length xs → x ≡ get_or xs i x → slice_get (map plain_obj xs) i ≡ Some (plain_obj x)

@@ -1,12 +1,10 @@
 -- One step along the entries of a telescope, the arguments of a kind and the indices of a family.
-use Rattle.std.proofs.Common.{◌≡◌, ℕ, suc, ◌+◌, ◌<◌, List, [], ◌∷◌, length, map, drop, reverse, get_or, refl, sym, ap, subst, ◌∙◌, add-one}
+use Rattle.std.proofs.Common.{◌≡◌, ℕ, suc, ◌+◌, ◌<◌, List, [], ◌∷◌, length, map, drop, reverse, get_or, sym, ap, subst, ◌∙◌, add-one}
 use Rattle.std.proofs.Math.Seq.{drop-cons}
-use Rattle.clf_syntax.specs.declared.tree.Mode.{Mode}
 use Rattle.clf_syntax.specs.declared.tree.Mode.TheVariants.{Persistent}
 use Rattle.clf_syntax.specs.declared.tree.Obj.{Obj}
 use Rattle.clf_syntax.specs.declared.tree.Ty.{Ty}
 use Rattle.clf_syntax.specs.declared.tree.TeleEntry.{TeleEntry, out-TeleEntry}
-use Rattle.clf_syntax.specs.Tree.{PlainObject}
 use Rattle.clf_syntax.specs.TypeTree.{PlainType, binding, telescope_of, PlainKind}
 use Rattle.clf_syntax.specs.Plain.{plain_obj}
 use Rattle.clf_syntax.specs.PlainTypes.{plain_ty, plain_tele_entry, plain-tele-entry}

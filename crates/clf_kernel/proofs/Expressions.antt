@@ -1,30 +1,29 @@
 -- Expressions and tuples, whole: what their steps and entries come to.
-use Rattle.std.proofs.Common.{◌≡◌, ◌<◌, ℕ, zero, suc, ◌+◌, true, false, Bool, if◌then◌else◌, List, [], ◌∷◌, ◌++◌, length, map, take, drop, get_or, ◌-◌, Result, Ok, Err, IfOk, refl, sym, ap, subst, ◌∙◌, arith}
+use Rattle.std.proofs.Common.{◌≡◌, ◌<◌, ℕ, suc, ◌+◌, true, false, if◌then◌else◌, List, [], ◌∷◌, length, map, take, drop, get_or, ◌-◌, Result, Ok, Err, IfOk, refl, sym, ap, subst, ◌∙◌, arith}
 use Rattle.std.proofs.Math.Seq.{drop-cons, take-length}
-use Rattle.std.proofs.lemmas.List.{append_assoc, append-nil, length-map, length-drop}
+use Rattle.std.proofs.lemmas.Bool.{cond-true, cond-false}
+use Rattle.std.proofs.lemmas.List.{length-map, length-drop}
 use Rattle.clf_syntax.specs.declared.tree.Mode.{Mode}
 use Rattle.clf_syntax.specs.declared.tree.Expr.{Expr, out-Expr}
 use Rattle.clf_syntax.specs.declared.tree.Step.{Step}
 use Rattle.clf_syntax.specs.declared.tree.Tele.{Tele, out-Tele}
 use Rattle.clf_syntax.specs.declared.tree.TeleEntry.{TeleEntry, out-TeleEntry}
 use Rattle.clf_syntax.specs.declared.tree.TupleEntry.{TupleEntry}
-use Rattle.clf_syntax.specs.Tree.{PlainObject, PlainNeutral, PlainExpression, PlainTuple, step, done, empty, steps_on, tuple_of}
-use Rattle.clf_syntax.specs.TypeTree.{PlainType, monad, PlainTelescope, end, binding, telescope_of}
+use Rattle.clf_syntax.specs.Tree.{PlainObject, PlainNeutral, PlainExpression, PlainTuple, done, empty, steps_on, tuple_of}
+use Rattle.clf_syntax.specs.TypeTree.{PlainType, PlainTelescope, end, binding, telescope_of}
 use Rattle.clf_syntax.specs.Plain.{plain_expr, plain_step, plain_entry, plain-expr}
 use Rattle.clf_syntax.specs.PlainTypes.{plain_ty, plain_tele, plain_tele_entry, plain-tele, plain-tele-entry}
 use Rattle.clf_syntax.specs.Renaming.{ren_telescope, up}
 use Rattle.clf_syntax.proofs.TypeRenaming.{identity_telescope}
-use Rattle.use_contexts.specs.declared.context.Ctx.{Ctx}
 use Rattle.use_contexts.specs.Context.{Context, telescope_modes, with_entries}
 use Rattle.use_contexts.specs.Holding.{Holding, all_held}
-use Rattle.use_contexts.specs.Marks.{marks}
 use Rattle.use_contexts.specs.Rows.{Leftover}
 use Rattle.clf_sig.specs.Entry.{PlainSignature}
 use Rattle.clf_syntax.specs.Modes.{same_mode}
 use Rattle.typing_laws.proofs.Carried.{square_telescope}
 use Rattle.clf_rules.specs.Refusal.{mode_differs, width}
 use Rattle.clf_decision.specs.Outcome.{Outcome, passed, refused, at_part, and_then}
-use Rattle.clf_decision.specs.Checking.{Puts, pattern_left, step_left, checked, inferred, checked_expression, checked_tuple}
+use Rattle.clf_decision.specs.Checking.{Puts, step_left, checked, inferred, checked_expression, checked_tuple}
 use Rattle.clf_decision.proofs.DecidedOutcomes.{Decided}
 use Rattle.clf_decision.proofs.AgreementOfMonads.{pattern-decided}
 use Rattle.clf_kernel.specs.declared.refusal.Stop.{Stop}
@@ -32,17 +31,10 @@ use Rattle.clf_kernel.specs.declared.trail.Opened.{Opened}
 use Rattle.clf_kernel.specs.declared.trail.Entered.{Entered}
 use Rattle.clf_kernel.specs.Spine.{argument_used}
 use Rattle.clf_kernel.specs.Stops.{Stops}
-use Rattle.clf_kernel.specs.Trail.{IsGrown, IsEnteredStep, EntersStep, OpensStep, closed_step, closed_steps, opened_by, opened_width}
+use Rattle.clf_kernel.specs.Trail.{EntersStep, OpensStep, closed_step, closed_steps, opened_by, opened_width}
 use Rattle.clf_kernel.specs.TupleEntries.{entry_behind}
 use Rattle.clf_kernel.proofs.Opening.{opens}
 use Rattle.clf_kernel.proofs.TupleSteps.{tuple_rest, entry_more, entry_stops, too_short}
-
--- ---- contexts that grow
-pub not_grown : (g : Ctx) → IsGrown g g
-not_grown g = ([], sym (append-nil g.entries))
-
-pub grown_again : (f g h : Ctx) → IsGrown f g → IsGrown g h → IsGrown f h
-grown_again f g h a b = (a.0 ++ b.0, b.1 ∙ ap (λ es. es ++ b.0) a.1 ∙ append_assoc f.entries a.0 b.0)
 
 -- ---- lists that are not empty
 pub some_entries : {X : Type 0} (xs : List X) → (xs ≡ [] → ⊥) → 0 < length xs
@@ -51,14 +43,6 @@ some_entries (x ∷ xs) n = omega arith
 
 pub first_entry : (ts : List TeleEntry) (x : TeleEntry) → 0 < length ts → x ≡ get_or ts 0 x → ts ≡ x ∷ drop 1 ts
 first_entry ts x l e = drop-cons ts 0 x l ∙ ap (λ y. y ∷ drop 1 ts) (sym e)
-
-if_true : {A : Type 0} (b : Bool) (x y : A) → b ≡ true → (if b then x else y) ≡ x
-if_true true x y e = refl
-if_true false x y e = cc
-
-if_false : {A : Type 0} (b : Bool) (x y : A) → b ≡ false → (if b then x else y) ≡ y
-if_false false x y e = refl
-if_false true x y e = cc
 
 -- a slice without its first element
 pub tail_slice : {X : Type 0} (l : List X) → take (length l - 1) (drop 1 l) ≡ drop 1 l
@@ -141,12 +125,12 @@ module _ (puts : Puts) (sig : PlainSignature) where
 
   module _ (g : Context) (place : ℕ) (e : Mode × PlainObject) (ts later : List TeleEntry) (x : TeleEntry) (y : Leftover) (a : ts ≡ x ∷ later) where
     pub behind_other : same_mode e.0 (out-TeleEntry x).mode ≡ false → entry_behind puts sig g place e (telescope_of (map plain_tele_entry ts), y) ≡ refused (place ∷ []) (mode_differs (out-TeleEntry x).mode e.0)
-    behind_other b = behind_first g place e ts later x y a ∙ if_false (same_mode e.0 (out-TeleEntry x).mode) _ (refused (place ∷ []) (mode_differs (out-TeleEntry x).mode e.0)) b
+    behind_other b = behind_first g place e ts later x y a ∙ cond-false (same_mode e.0 (out-TeleEntry x).mode) _ (refused (place ∷ []) (mode_differs (out-TeleEntry x).mode e.0)) b
 
     pub behind_same : same_mode e.0 (out-TeleEntry x).mode ≡ true → entry_behind puts sig g place e (telescope_of (map plain_tele_entry ts), y)
         ≡ and_then (argument_used e.0 g place y (λ row. checked puts sig g row e.1 (plain_ty (out-TeleEntry x).ty))) (λ z. passed (puts.into_telescope e.1 (plain_ty (out-TeleEntry x).ty) (telescope_of (map plain_tele_entry later)), z))
     behind_same b = behind_first g place e ts later x y a
-        ∙ if_true (same_mode e.0 (out-TeleEntry x).mode) (and_then (argument_used e.0 g place y (λ row. checked puts sig g row e.1 (plain_ty (out-TeleEntry x).ty))) (λ z. passed (puts.into_telescope e.1 (plain_ty (out-TeleEntry x).ty) (telescope_of (map plain_tele_entry later)), z)))
+        ∙ cond-true (same_mode e.0 (out-TeleEntry x).mode) (and_then (argument_used e.0 g place y (λ row. checked puts sig g row e.1 (plain_ty (out-TeleEntry x).ty))) (λ z. passed (puts.into_telescope e.1 (plain_ty (out-TeleEntry x).ty) (telescope_of (map plain_tele_entry later)), z)))
         (refused (place ∷ []) (mode_differs (out-TeleEntry x).mode e.0)) b
 
   module _ (g : Context) (steps : ℕ) where

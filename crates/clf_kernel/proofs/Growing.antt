@@ -6,8 +6,28 @@ use Rattle.clf_syntax.specs.declared.tree.TeleEntry.{TeleEntry}
 use Rattle.clf_syntax.specs.PlainTypes.{plain_tele_entry}
 use Rattle.use_contexts.specs.declared.context.Ctx.{Ctx}
 use Rattle.use_contexts.specs.Marks.{context}
-use Rattle.clf_kernel.specs.Stops.{IsEntered}
-use Rattle.clf_kernel.specs.Trail.{IsGrown}
+use Rattle.clf_kernel.specs.declared.judge.Judge.{Judge}
+use Rattle.clf_kernel.specs.Judge.{IsEntered, IsGrown, with_newer, signature_of}
+
+-- the judge with a context of these entries
+abbrev pub with_all : Judge → List TeleEntry → Judge
+with_all j es = record j { ctx = record { entries = es } }
+
+abbrev pub entries_of : Judge → List TeleEntry
+entries_of j = j.ctx.entries
+
+pub not_grown : (j : Judge) → IsGrown j j
+not_grown j = ([], ap (with_all j) (sym (append-nil (entries_of j))))
+
+pub grown_again : (f g h : Judge) → IsGrown f g → IsGrown g h → IsGrown f h
+grown_again f g h a b = (a.0 ++ b.0, b.1 ∙ ap (λ j. with_newer j b.0) a.1 ∙ ap (with_all f) (append_assoc (entries_of f) a.0 b.0))
+
+-- one entry more is more entries, and the signature stays
+pub grown_by_one : (outer inner : Judge) → IsEntered outer inner → IsGrown outer inner
+grown_by_one outer inner e = (e.0 ∷ [], e.1)
+
+pub same_signature : (outer inner : Judge) → IsGrown outer inner → signature_of inner ≡ signature_of outer
+same_signature outer inner g = ap signature_of g.1
 
 last_of : {X : Type 0} (xs : List X) → (xs ≡ []) ⊎ ((ys : List X) × (y : X) × (xs ≡ ys ++ y ∷ []))
 last_of [] = inl refl
@@ -18,29 +38,31 @@ last_of {X = X} (x ∷ xs) = by (last_of xs)
     by (inr s) = inr (x ∷ s.0, s.1, ap (λ l. x ∷ l) s.2)
 
 -- Where there are more than the older entries, the newest one is none of these.
-pub grown_entered : (outer inner : Ctx) → IsGrown outer inner → length outer.entries < length inner.entries → (mid : Ctx) × IsGrown outer mid × IsEntered mid inner
+pub grown_entered : (outer inner : Judge) → IsGrown outer inner → length (entries_of outer) < length (entries_of inner) → (mid : Judge) × IsGrown outer mid × IsEntered mid inner
 grown_entered outer inner g l = by (last_of g.0)
   where
-    by : (g.0 ≡ []) ⊎ ((ys : List TeleEntry) × (y : TeleEntry) × (g.0 ≡ ys ++ y ∷ [])) → (mid : Ctx) × IsGrown outer mid × IsEntered mid inner
-    by (inl n) = let k : length inner.entries ≡ length outer.entries = ap length (g.1 ∙ ap (λ m. outer.entries ++ m) n ∙ append-nil outer.entries) in absurd (omega (arith, k, l))
-    by (inr s) = (record { entries = outer.entries ++ s.0 }, (s.0, refl), (s.1, g.1 ∙ ap (λ m. outer.entries ++ m) s.2 ∙ sym (append_assoc outer.entries s.0 (s.1 ∷ []))))
+    by : (g.0 ≡ []) ⊎ ((ys : List TeleEntry) × (y : TeleEntry) × (g.0 ≡ ys ++ y ∷ [])) → (mid : Judge) × IsGrown outer mid × IsEntered mid inner
+    by (inl n) = let k : length (entries_of inner) ≡ length (entries_of outer) = ap length (ap entries_of g.1 ∙ ap (λ m. entries_of outer ++ m) n ∙ append-nil (entries_of outer)) in absurd (omega (arith, k, l))
+    by (inr s) = (with_newer outer s.0, (s.0, refl), (s.1, g.1 ∙ ap (with_newer outer) s.2 ∙ ap (with_all outer) (sym (append_assoc (entries_of outer) s.0 (s.1 ∷ [])))))
 
 -- Where there are no more than the older entries, these are all.
 none_more : {X : Type 0} (old outer more : List X) → old ≡ outer ++ more → length old ≤ length outer → old ≡ outer
 none_more old outer [] e l = e ∙ append-nil outer
 none_more old outer (x ∷ more) e l = let k : length old ≡ length outer + length (x ∷ more) = ap length e ∙ length-append outer (x ∷ more) in absurd (omega (arith, k, l))
 
-pub grown_none : (outer inner : Ctx) → IsGrown outer inner → length inner.entries ≤ length outer.entries → inner ≡ outer
-grown_none outer inner g l = ap (λ es. record { entries = es }) (none_more inner.entries outer.entries g.0 g.1 l)
+pub grown_none : (outer inner : Judge) → IsGrown outer inner → length (entries_of inner) ≤ length (entries_of outer) → inner ≡ outer
+grown_none outer inner g l = let e = ap entries_of g.1 in g.1 ∙ ap (with_all outer) (sym e ∙ none_more (entries_of inner) (entries_of outer) g.0 e l)
 
 -- as many variables as entries
 pub entries_length : (g : Ctx) → length (context g) ≡ length g.entries
 entries_length g = length-reverse (map plain_tele_entry g.entries) ∙ length-map g.entries plain_tele_entry
 
 -- What has entries has a newest one.
-pub newest_entered : (inner : Ctx) → 0 < length inner.entries → (mid : Ctx) × IsEntered mid inner × (length mid.entries < length inner.entries)
-newest_entered inner l = by (last_of inner.entries)
+pub newest_entered : (inner : Judge) → 0 < length (entries_of inner) → (mid : Judge) × IsEntered mid inner × (length (entries_of mid) < length (entries_of inner))
+newest_entered inner l = by (last_of (entries_of inner))
   where
-    by : (inner.entries ≡ []) ⊎ ((ys : List TeleEntry) × (y : TeleEntry) × (inner.entries ≡ ys ++ y ∷ [])) → (mid : Ctx) × IsEntered mid inner × (length mid.entries < length inner.entries)
-    by (inl n) = let k : length inner.entries ≡ 0 = ap length n in absurd (omega (arith, k, l))
-    by (inr s) = let k : length inner.entries ≡ length s.0 + 1 = ap length s.2 ∙ length-append s.0 (s.1 ∷ []) in (record { entries = s.0 }, (s.1, s.2), omega (arith, k))
+    by : (entries_of inner ≡ []) ⊎ ((ys : List TeleEntry) × (y : TeleEntry) × (entries_of inner ≡ ys ++ y ∷ [])) → (mid : Judge) × IsEntered mid inner × (length (entries_of mid) < length (entries_of inner))
+    by (inl n) = let k : length (entries_of inner) ≡ 0 = ap length n in absurd (omega (arith, k, l))
+    by (inr s) =
+        let k : length (entries_of inner) ≡ length s.0 + 1 = ap length s.2 ∙ length-append s.0 (s.1 ∷ []) in
+        (with_all inner s.0, (s.1, ap (with_all inner) s.2), omega (arith, k))

@@ -1,28 +1,26 @@
 -- The steps of an expression, one after the other.
-use Rattle.std.proofs.Common.{◌≡◌, ℕ, zero, suc, ◌+◌, ◌<◌, Bool, List, [], ◌∷◌, ◌++◌, length, map, drop, get_or, Ok, Err, refl, sym, ap, subst, ◌∙◌, add-one, arith}
+use Rattle.std.proofs.Common.{◌≡◌, ℕ, suc, ◌+◌, ◌<◌, Bool, List, [], ◌∷◌, ◌++◌, length, map, drop, get_or, refl, sym, ap, subst, ◌∙◌, arith}
 use Rattle.std.proofs.Math.Seq.{drop-cons}
 use Rattle.clf_syntax.specs.declared.tree.Mode.{Mode}
 use Rattle.clf_syntax.specs.declared.tree.Step.{Step}
 use Rattle.clf_syntax.specs.Tree.{PlainExpression, step, done, PlainTuple, PlainNeutral, steps_on}
-use Rattle.clf_syntax.specs.TypeTree.{PlainType, monad, PlainTelescope, end, binding}
+use Rattle.clf_syntax.specs.TypeTree.{monad, PlainTelescope, end, binding}
 use Rattle.clf_syntax.specs.Plain.{plain_step}
 use Rattle.clf_syntax.specs.Renaming.{ren_telescope, up}
 use Rattle.clf_syntax.proofs.TypeRenaming.{identity_telescope}
 use Rattle.use_contexts.specs.Context.{Context, telescope_modes, with_entries}
 use Rattle.use_contexts.specs.Holding.{Holding, all_held}
-use Rattle.use_contexts.specs.Marks.{marks}
 use Rattle.use_contexts.specs.Rows.{Leftover}
 use Rattle.clf_sig.specs.Entry.{PlainSignature}
 use Rattle.typing_laws.proofs.Carried.{square_telescope}
-use Rattle.clf_decision.specs.Outcome.{Outcome, passed, refused, at_part, and_then}
+use Rattle.clf_decision.specs.Outcome.{Outcome, passed, at_part, and_then}
 use Rattle.clf_decision.specs.Checking.{Puts, with_slack, pattern_left, closed_scope, closed_scopes, rest_left, step_left, inferred, checked_expression}
+use Rattle.clf_decision.proofs.Outcomes.{then_same}
 use Rattle.clf_kernel.specs.declared.refusal.Stop.{Stop}
 use Rattle.clf_kernel.specs.declared.trail.Opened.{Opened}
-use Rattle.clf_kernel.specs.declared.trail.Entered.{Entered}
 use Rattle.clf_kernel.specs.Stops.{Stops}
-use Rattle.clf_kernel.specs.Trail.{closed_mode, closed_modes, closed_step, closed_steps, opened_width, opened_by, plain_opened, IsEnteredStep, OpensStep}
-use Rattle.clf_kernel.proofs.Stops.{then_stops}
-use Rattle.clf_kernel.proofs.Closings.{then_same, steps_stop, opened_more, length-opened_by}
+use Rattle.clf_kernel.specs.Trail.{closed_mode, closed_modes, closed_step, closed_steps, opened_width, opened_by}
+use Rattle.clf_kernel.proofs.Closings.{steps_stop, opened_more, length-opened_by}
 
 -- ---- the ends of scopes, without the context
 pub scopes_modes : (u : PlainTelescope) (g : Context) (a : Leftover) → closed_scopes u g a ≡ closed_modes (telescope_modes u) (length g) a
@@ -45,9 +43,6 @@ module _ (puts : Puts) (sig : PlainSignature) (place : ℕ) (ms : List Mode) (r 
       ∙ ap (λ w. and_then (at_part place w) (λ same. rest_left place u g x.1 (rest u (all_held ms x.0)))) p
       ∙ rest_step place u g x.1 (rest u (all_held ms x.0))
       ∙ ap (λ ns. closed_step place ns (length g) x.1 (rest u (all_held ms x.0))) m
-
-  pub right_stops : (s : Stop) → Stops (at_part place (inferred puts sig g h r)) s → (e : PlainExpression) (t : PlainTelescope) → Stops (checked_expression puts sig g h place (step ms r e) t) s
-  right_stops s p e t = then_stops (at_part place (inferred puts sig g h r)) (λ f. step_left place ms g f (λ v row. checked_expression puts sig (with_entries v g) row (suc place) e (ren_telescope (up (length ms)) t))) s p
 
 -- ---- all steps
 risen : (a b : ℕ) (s : PlainTelescope) → ren_telescope (up a) (ren_telescope (up b) s) ≡ ren_telescope (up (a + b)) s

@@ -1,5 +1,5 @@
 -- A neutral's type, elimination by elimination from the head on.
-use Rattle.std.proofs.Common.{◌≡◌, ℕ, suc, ◌+◌, ◌<◌, List, [], ◌∷◌, length, map, drop, get_or, refl, sym, ap, subst, ◌∙◌, add-one}
+use Rattle.std.proofs.Common.{◌≡◌, ℕ, suc, ◌+◌, ◌<◌, List, [], ◌∷◌, length, map, drop, get_or, sym, ap, subst, ◌∙◌, add-one}
 use Rattle.std.proofs.Math.Seq.{drop-cons}
 use Rattle.clf_syntax.specs.declared.tree.Elim.{Elim}
 use Rattle.clf_syntax.specs.declared.tree.Neutral.{Neutral}
@@ -10,22 +10,15 @@ use Rattle.use_contexts.specs.Context.{Context}
 use Rattle.use_contexts.specs.Holding.{Holding}
 use Rattle.clf_sig.specs.Entry.{PlainSignature}
 use Rattle.clf_rules.specs.Refusal.{eliminations}
-use Rattle.clf_decision.specs.Outcome.{Outcome, passed, refused, and_then}
+use Rattle.clf_decision.specs.Outcome.{passed, and_then}
 use Rattle.use_contexts.specs.Rows.{Leftover}
 use Rattle.clf_decision.specs.Checking.{head_left, inferred}
 use Rattle.clf_decision.specs.Hereditary.{hereditary}
+use Rattle.clf_decision.proofs.Outcomes.{then_passed, then_then}
 use Rattle.clf_kernel.specs.declared.refusal.Stop.{Stop}
 use Rattle.clf_kernel.specs.Spine.{elimination_left, spine_left}
 use Rattle.clf_kernel.specs.Stops.{Stops}
 use Rattle.clf_kernel.proofs.Stops.{then_stops}
-
-pub then_passed : {A : Type 0} (w : Outcome A) → and_then w passed ≡ w
-then_passed (passed a) = refl
-then_passed (refused path cause) = refl
-
-pub then_then : {A B C : Type 0} (w : Outcome A) (f : A → Outcome B) (k : B → Outcome C) → and_then (and_then w f) k ≡ and_then w (λ x. and_then (f x) k)
-then_then (passed a) f k = refl
-then_then (refused path cause) f k = refl
 
 module _ (sig : PlainSignature) (g : Context) (h : Holding) where
   spine_inferred : (es : List PlainElimination) (r : PlainNeutral) → inferred hereditary sig g h (spine_on es r) ≡ and_then (inferred hereditary sig g h r) (spine_left hereditary sig g (eliminations r) es)

@@ -2,6 +2,7 @@
 use Rattle.std.proofs.Common.{◌≡◌, ℕ, suc, List, [], ◌∷◌, length, reverse, Err, refl, sym, ap, subst, ◌∙◌}
 use Rattle.clf_syntax.specs.declared.fault.OrWide.{OrWide}
 use Rattle.clf_syntax.specs.declared.fault.OrWide.TheVariants.{Fault, NoMemory as NoRoom, TooFar as Far}
+use Rattle.clf_syntax.specs.Wide.{IsWide}
 use Rattle.use_contexts.specs.Context.{Context, modes}
 use Rattle.use_contexts.specs.Holding.{Holding, WellMarked}
 use Rattle.clf_kernel.specs.declared.refusal.Refusal.{Refusal}
@@ -9,7 +10,7 @@ use Rattle.clf_kernel.specs.declared.refusal.Stop.{Stop}
 use Rattle.clf_kernel.specs.declared.refusal.Stop.TheVariants.{Refused, NoMemory, TooFar}
 use Rattle.clf_rules.specs.Refusal.{Cause}
 use Rattle.clf_decision.specs.Outcome.{Outcome, refused, at_part, and_then}
-use Rattle.clf_kernel.specs.Answers.{plain_cause, IsWide}
+use Rattle.clf_kernel.specs.Answers.{plain_cause}
 use Rattle.clf_kernel.specs.Stops.{Stops, Ends, IsShort, IsPartOf, IsFault, Answers}
 
 pub refusal_stops : (A : Type 0) (path : List ℕ) (cause : Cause) (s : Stop) → Ends path cause s → Stops {A = A} (refused path cause) s

@@ -1,5 +1,5 @@
 -- The entries of a tuple, one after the other.
-use Rattle.std.proofs.Common.{◌≡◌, ℕ, zero, suc, ◌+◌, ◌-◌, ◌<◌, Bool, true, false, ◌||◌, if◌then◌else◌, List, [], ◌∷◌, length, map, drop, get_or, refl, sym, ap, subst, ◌∙◌, add-one, arith}
+use Rattle.std.proofs.Common.{◌≡◌, ℕ, suc, ◌+◌, ◌-◌, ◌<◌, Bool, true, false, ◌||◌, if◌then◌else◌, List, [], ◌∷◌, length, map, drop, get_or, refl, sym, ap, subst, ◌∙◌, add-one, arith}
 use Rattle.std.proofs.Math.Seq.{drop-cons}
 use Rattle.std.proofs.Math.Bool.{or_assoc}
 use Rattle.std.proofs.lemmas.List.{length-map, length-drop}
@@ -18,14 +18,11 @@ use Rattle.clf_sig.specs.Entry.{PlainSignature}
 use Rattle.clf_rules.specs.Refusal.{mode_differs, width}
 use Rattle.clf_rules.specs.Explained.{tuple_width, telescope_width}
 use Rattle.clf_decision.specs.Outcome.{Outcome, passed, refused, at_part, and_then}
-use Rattle.clf_decision.specs.Checking.{Puts, with_slack, entry_left, checked, checked_tuple}
+use Rattle.clf_decision.specs.Checking.{Puts, with_slack, checked, checked_tuple}
 use Rattle.clf_kernel.specs.declared.refusal.Stop.{Stop}
 use Rattle.clf_kernel.specs.Stops.{Stops}
-use Rattle.clf_kernel.specs.Spine.{argument_used}
 use Rattle.clf_kernel.specs.TupleEntries.{entry_behind}
 use Rattle.clf_kernel.proofs.Stops.{then_stops}
-use Rattle.clf_kernel.proofs.Spines.{then_then}
-use Rattle.clf_kernel.proofs.Closings.{then_same}
 
 no_more : (a : Bool) → a || false ≡ a
 no_more true = refl

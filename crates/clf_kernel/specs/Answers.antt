@@ -1,10 +1,7 @@
 -- What the calls of the kernel answer, in plain form.
-use Rattle.std.specs.Prelude.{◌≤◌, length}
 use Rattle.clf_syntax.specs.TypeTree.{PlainType}
 use Rattle.clf_syntax.specs.Plain.{plain_obj}
 use Rattle.clf_syntax.specs.PlainTypes.{plain_ty}
-use Rattle.clf_syntax.specs.declared.tree.Tele.{out-Tele}
-use Rattle.clf_syntax.specs.declared.fault.Wide.{Wide}
 use Rattle.use_contexts.specs.declared.join.Left.{Left}
 use Rattle.use_contexts.specs.Marks.{marks}
 use Rattle.clf_kernel.specs.declared.refusal.Cause.{Cause as DeclaredCause}
@@ -45,7 +42,3 @@ plain_left l = (marks l.row, l.slack)
 
 abbrev pub plain_inferred : Inferred → PlainType × Leftover
 plain_inferred i = (plain_ty i.ty, plain_left i.left)
-
--- The list that it keeps has an entry for each number of 32 bits but one.
-abbrev pub IsWide : Wide → Type 0
-IsWide w = 4294967295 ≤ length (out-Tele w.counted).entries

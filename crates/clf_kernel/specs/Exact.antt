@@ -2,15 +2,16 @@
 --
 -- A leftover is determined by the parts that it stands for, but for slack where its row has no linear entry: there slack has nothing to
 -- take, and a call may answer it or not.
-use Rattle.std.specs.Prelude.{◌≡◌, Result, Ok, Err, Some, None}
+use Rattle.std.specs.Prelude.{Result, Ok, Err, Some, None}
 use Rattle.clf_syntax.specs.declared.fault.OrWide.{OrWide}
 use Rattle.clf_syntax.specs.declared.fault.OrWide.TheVariants.{Fault, NoMemory, TooFar}
 use Rattle.clf_syntax.specs.Tree.{PlainObject, monadic, PlainNeutral, PlainExpression}
 use Rattle.clf_syntax.specs.TypeTree.{PlainType, monad, PlainTelescope, PlainKind}
+use Rattle.clf_syntax.specs.Wide.{IsWide}
 use Rattle.use_contexts.specs.declared.join.Left.{Left}
 use Rattle.use_contexts.specs.Context.{Context, modes}
 use Rattle.use_contexts.specs.Holding.{Holding}
-use Rattle.use_contexts.specs.Rows.{IsSubholding, Agrees, Leftover}
+use Rattle.use_contexts.specs.Rows.{IsSubholding, Agrees}
 use Rattle.clf_sig.specs.Entry.{PlainSignature, PlainEntry}
 use Rattle.clf_kernel.specs.declared.refusal.Refusal.{Refusal}
 use Rattle.clf_kernel.specs.declared.refusal.Inferred.{Inferred}
@@ -18,7 +19,7 @@ use Rattle.clf_rules.specs.Typing.{HasType, Synthesizes, ExpressionHasType}
 use Rattle.clf_decision.specs.Laws.{InferredIs}
 use Rattle.clf_rules.specs.WellFormed.{WellFormedType, WellFormedKind, WellFormedEntry}
 use Rattle.clf_rules.specs.Explained.{ExplainedAt, ExplainedInNeutral, ExplainedInType, ExplainedInKind, ExplainedInClass}
-use Rattle.clf_kernel.specs.Answers.{plain_left, plain_inferred, plain_cause, IsWide}
+use Rattle.clf_kernel.specs.Answers.{plain_left, plain_inferred, plain_cause}
 
 -- What is left stands for exactly the parts of the holding under which the object has the type. A refusal comes exactly where there is no
 -- such part, and its cause is that of the part at its path.

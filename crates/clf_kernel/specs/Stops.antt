@@ -1,15 +1,14 @@
 -- Inner: what the functions inside of the kernel answer. No call of the crate names these definitions.
-use Rattle.std.specs.Prelude.{ℕ, ◌≡◌, List, [], ◌∷◌, ◌++◌, reverse, Result, Ok, Err}
+use Rattle.std.specs.Prelude.{ℕ, ◌≡◌, List, ◌∷◌, reverse, Result, Ok, Err}
 use Rattle.clf_syntax.specs.declared.fault.OrWide.{OrWide}
 use Rattle.clf_syntax.specs.declared.fault.OrWide.TheVariants.{Fault, NoMemory, TooFar}
-use Rattle.clf_syntax.specs.declared.tree.TeleEntry.{TeleEntry}
-use Rattle.use_contexts.specs.declared.context.Ctx.{Ctx}
+use Rattle.clf_syntax.specs.Wide.{IsWide}
 use Rattle.clf_kernel.specs.declared.refusal.Refusal.{Refusal}
 use Rattle.clf_kernel.specs.declared.refusal.Stop.{Stop}
 use Rattle.clf_kernel.specs.declared.refusal.Stop.TheVariants.{Refused, NoMemory as StopNoMemory, TooFar as StopTooFar}
 use Rattle.clf_rules.specs.Refusal.{Cause}
 use Rattle.clf_decision.specs.Outcome.{Outcome, passed, refused}
-use Rattle.clf_kernel.specs.Answers.{plain_cause, IsWide}
+use Rattle.clf_kernel.specs.Answers.{plain_cause}
 
 -- A check that stops does not pass: it is refused, where the path has the number of the innermost part first, or ends for want of
 -- memory or of numbers.
@@ -46,10 +45,6 @@ IsFault (Refused outward cause) (Fault r) = (r.path.items ≡ reverse outward.it
 IsFault StopNoMemory NoMemory = Unit {0}
 IsFault (StopTooFar w) (TooFar v) = v ≡ w
 IsFault _ _ = ⊥
-
--- The inner context has one entry more, the newest.
-abbrev pub IsEntered : Ctx → Ctx → Type 0
-IsEntered outer inner = (e : TeleEntry) × (inner.entries ≡ outer.entries ++ e ∷ [])
 
 -- A call answers an outcome: what passed in its plain form, or the refusal with its path and its cause.
 abbrev pub Answers : {X A : Type 0} → (X → A) → Outcome A → Result X (OrWide Refusal) → Type 0

@@ -1,11 +1,9 @@
 -- Inner: the steps of an expression as the check goes through them: forward along the steps, and back at the end of their scopes.
-use Rattle.std.specs.Prelude.{ℕ, suc, ◌+◌, ◌≡◌, Bool, List, [], ◌∷◌, ◌++◌, length, map, reverse, if◌then◌else◌, Result, Ok, Err}
+use Rattle.std.specs.Prelude.{ℕ, suc, ◌+◌, ◌≡◌, Bool, List, [], ◌∷◌, length, map, reverse, if◌then◌else◌, Result, Ok, Err}
 use Rattle.clf_syntax.specs.declared.tree.Mode.{Mode}
-use Rattle.clf_syntax.specs.declared.tree.TeleEntry.{TeleEntry}
 use Rattle.clf_syntax.specs.Tree.{PlainExpression, PlainNeutral, PlainTuple, done, steps_on}
 use Rattle.clf_syntax.specs.TypeTree.{PlainType, monad, PlainTelescope}
 use Rattle.clf_syntax.specs.Renaming.{ren_telescope, up}
-use Rattle.use_contexts.specs.declared.context.Ctx.{Ctx}
 use Rattle.use_contexts.specs.Context.{Context, with_entries}
 use Rattle.use_contexts.specs.Holding.{Holding, all_held}
 use Rattle.use_contexts.specs.Marks.{marks}
@@ -50,10 +48,6 @@ closed_step place ms n slack o = and_then o (λ y. and_then (at_part place (clos
 abbrev pub closed_steps : ℕ → List (List Mode × Bool) → Outcome Leftover → Outcome Leftover
 closed_steps n [] o = o
 closed_steps n (d ∷ ds) o = closed_steps n ds (closed_step (length ds) d.0 (opened_width ds + n) d.1 o)
-
--- The inner context has more entries, the newest ones.
-abbrev pub IsGrown : Ctx → Ctx → Type 0
-IsGrown outer inner = (more : List TeleEntry) × (inner.entries ≡ outer.entries ++ more)
 
 -- A step is entered: its right side has a monad with the modes of the pattern, whose entries are the newest of the context and held.
 pub record IsEnteredStep (ms : List Mode) (g : Context) (found : PlainType × Leftover) (inner : Context) (row : Holding) (o : Opened) : Type 0 where

@@ -4,56 +4,84 @@ ghost use Rattle.clf_syntax.specs.PlainTypes.{plain_ty, plain_tele};
 ghost use Rattle.clf_syntax.specs.Renaming.{ren_type, ren_telescope, up};
 ghost use Rattle.clf_sig.specs.Entry.{constant_type as type_of_constant};
 ghost use Rattle.clf_sig.specs.Signature.{plain_signature};
-ghost use Rattle.use_contexts.specs.Marks.{context, marks};
+ghost use Rattle.use_contexts.specs.Marks.{marks};
 ghost use Rattle.clf_rules.specs.Refusal.{level as level_of};
 ghost use Rattle.clf_decision.specs.Outcome.{passed};
 ghost use Rattle.clf_decision.specs.Checking.{head_left, constant_left, variable_left};
 ghost use Rattle.clf_kernel.specs.Answers.{plain_inferred};
+ghost use Rattle.clf_kernel.specs.Judge.{signature_of, context_of};
 ghost use Rattle.clf_kernel.specs.Stops.{Gives, IsShort};
 
+use crate::judge::Judge;
 use crate::refusal::{Cause, Inferred, Stop, refuse, unwritten};
 use clf_sig::{Class, Signature};
 use clf_syntax::{Head, Tele, Ty};
 use std::alloc::Global;
-use use_contexts::{Ctx, Holding, Left, take};
+use use_contexts::{Holding, Left, take};
 
-/// The type of a head, and what it leaves of a row.
-pub fn infer_head(
-    alloc: Global,
-    head: Head,
-    sig: &Signature,
-    ctx: &Ctx,
-    row: Holding,
-) -> Result<Inferred, Stop>
-    requires marked { length (marks row) ≡ length (context ctx.now) }
-    requires numbered { length (context ctx.now) < 2 ^ 32 }
-    ensures outcome { Gives plain_inferred (head_left (plain_signature sig.now) (context ctx.now) (marks row) head) result }
-    ensures marked { IfOk result (λ found. length (marks found.left.row) ≡ length (context ctx.now)) }
-{
-    match head {
-        Head::Const(constant) => infer_constant(alloc, constant, sig, row),
-        Head::Var(var) => infer_variable(alloc, var, ctx, row),
-        Head::Meta(_) => Err(refuse(alloc, Cause::NotClosed)),
+impl Judge<'_> {
+    /// The type of a head, and what it leaves of a row.
+    pub fn infer_head(&self, head: Head, row: Holding) -> Result<Inferred, Stop>
+        requires marked { length (marks row) ≡ length (context_of self.now) }
+        requires numbered { length (context_of self.now) < 2 ^ 32 }
+        ensures outcome { Gives plain_inferred (head_left (signature_of self.now) (context_of self.now) (marks row) head) result }
+        ensures marked { IfOk result (λ found. length (marks found.left.row) ≡ length (context_of self.now)) }
+    {
+        match head {
+            Head::Const(constant) => self.infer_constant(constant, row),
+            Head::Var(var) => self.infer_variable(var, row),
+            Head::Meta(_) => Err(refuse(self.alloc, Cause::NotClosed)),
+        }
     }
-}
 
-fn infer_constant(
-    alloc: Global,
-    constant: u32,
-    sig: &Signature,
-    row: Holding,
-) -> Result<Inferred, Stop>
-    ensures outcome { Gives plain_inferred (constant_left constant (marks row) (type_of_constant (plain_signature sig.now) constant)) result }
-    ensures row { IfOk result (λ found. found.left.row ≡ row) }
-{
-    match constant_type(sig, constant) {
-        Some(ty) => head_of(alloc, ty, row),
-        None => Err(refuse(
-            alloc,
-            Cause::UnknownHead {
-                head: Head::Const(constant),
-            },
-        )),
+    fn infer_constant(&self, constant: u32, row: Holding) -> Result<Inferred, Stop>
+        ensures outcome { Gives plain_inferred (constant_left constant (marks row) (type_of_constant (signature_of self.now) constant)) result }
+        ensures row { IfOk result (λ found. found.left.row ≡ row) }
+    {
+        match constant_type(self.sig, constant) {
+            Some(ty) => head_of(self.alloc, ty, row),
+            None => Err(refuse(
+                self.alloc,
+                Cause::UnknownHead {
+                    head: Head::Const(constant),
+                },
+            )),
+        }
+    }
+
+    fn infer_variable(&self, var: u32, row: Holding) -> Result<Inferred, Stop>
+        requires marked { length (marks row) ≡ length (context_of self.now) }
+        requires numbered { length (context_of self.now) < 2 ^ 32 }
+        ensures outcome { Gives plain_inferred (variable_left (context_of self.now) (marks row) var (slice_get (context_of self.now) var)) result }
+        ensures marked { IfOk result (λ found. length (marks found.left.row) ≡ length (context_of self.now)) }
+    {
+        if var as usize >= self.ctx.len() {
+            return Err(refuse(
+                self.alloc,
+                Cause::UnknownHead {
+                    head: Head::Var(var),
+                },
+            ));
+        }
+        let mut row = row;
+        match take(&self.ctx, &mut row, var) {
+            Ok(_) => variable_of(self.alloc, &self.ctx.entry(var as usize).ty, var, row),
+            Err(_) => Err(refuse(
+                self.alloc,
+                Cause::NotHeld {
+                    level: self.level(var),
+                },
+            )),
+        }
+    }
+
+    /// The level of a variable, which is the number in its printed name.
+    pub fn level(&self, var: u32) -> u32
+        requires there { var ≤ length (context_of self.now) }
+        requires numbered { length (context_of self.now) < 2 ^ 32 }
+        ensures { result ≡ level_of (context_of self.now) var }
+    {
+        (self.ctx.len() - var as usize) as u32
     }
 }
 
@@ -64,32 +92,6 @@ fn constant_type(sig: &Signature, constant: u32) -> Option<&Ty>
     match &sig.entry(constant)?.class {
         Class::Family(_) => None,
         Class::Constant(ty) => Some(ty),
-    }
-}
-
-fn infer_variable(alloc: Global, var: u32, ctx: &Ctx, row: Holding) -> Result<Inferred, Stop>
-    requires marked { length (marks row) ≡ length (context ctx.now) }
-    requires numbered { length (context ctx.now) < 2 ^ 32 }
-    ensures outcome { Gives plain_inferred (variable_left (context ctx.now) (marks row) var (slice_get (context ctx.now) var)) result }
-    ensures marked { IfOk result (λ found. length (marks found.left.row) ≡ length (context ctx.now)) }
-{
-    if var as usize >= ctx.len() {
-        return Err(refuse(
-            alloc,
-            Cause::UnknownHead {
-                head: Head::Var(var),
-            },
-        ));
-    }
-    let mut row = row;
-    match take(ctx, &mut row, var) {
-        Ok(_) => variable_of(alloc, &ctx.entry(var as usize).ty, var, row),
-        Err(_) => Err(refuse(
-            alloc,
-            Cause::NotHeld {
-                level: level(ctx, var),
-            },
-        )),
     }
 }
 
@@ -139,13 +141,4 @@ fn head_of(alloc: Global, ty: &Ty, row: Holding) -> Result<Inferred, Stop>
         ty: ty.copy(alloc)?,
         left: Left { row, slack: false },
     })
-}
-
-/// The level of a variable, which is the number in its printed name.
-pub fn level(ctx: &Ctx, var: u32) -> u32
-    requires there { var ≤ length (context ctx.now) }
-    requires numbered { length (context ctx.now) < 2 ^ 32 }
-    ensures { result ≡ level_of (context ctx.now) var }
-{
-    (ctx.len() - var as usize) as u32
 }

@@ -3,13 +3,17 @@
 
 mod check;
 mod entry;
+mod expression;
+mod formation;
 mod head;
+mod judge;
 mod object;
 mod parts;
 mod putting;
 mod refusal;
 mod rows;
 mod scope;
+mod spine;
 mod trail;
 mod tuple;
 

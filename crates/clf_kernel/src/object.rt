@@ -13,8 +13,8 @@ ghost use Rattle.clf_decision.specs.Checking.{checked, checked_expression, infer
 ghost use Rattle.clf_kernel.specs.Answers.{plain_left, plain_inferred};
 ghost use Rattle.clf_kernel.specs.Stops.{Gives};
 
-use crate::check::{check, check_expression, infer_neutral};
-use crate::refusal::{Inferred, Refusal, Stop, fault, too_far};
+use crate::judge::Judge;
+use crate::refusal::{Inferred, Refusal, Stop, fault};
 use clf_sig::Signature;
 use clf_syntax::{Expr, Neutral, Obj, OrWide, Tele, Ty};
 use std::alloc::Global;
@@ -98,12 +98,9 @@ fn run_in_copy(
     requires { length (marks holding.now) ≡ length (context ctx.now) }
     ensures { Gives plain_left (checked_expression hereditary (plain_signature sig.now) (context ctx.now) (marks holding.now) 0 (plain_expr expr.now) (plain_tele tele.now)) result }
 {
-    if ctx.len() > u32::MAX as usize {
-        return Err(too_far(alloc));
-    }
-    let mut inner = ctx.copy(alloc)?;
+    let mut judge = Judge::over(alloc, sig, ctx)?;
     let row = holding.copy(alloc)?;
-    check_expression(alloc, expr, tele, sig, &mut inner, row)
+    judge.check_expression(expr, tele, row)
 }
 
 /// The check in a copy of the context, which grows and shrinks with the scopes of the object.
@@ -119,12 +116,9 @@ fn check_in_copy(
     requires { length (marks holding.now) ≡ length (context ctx.now) }
     ensures { Gives plain_left (checked hereditary (plain_signature sig.now) (context ctx.now) (marks holding.now) (plain_obj obj.now) (plain_ty ty.now)) result }
 {
-    if ctx.len() > u32::MAX as usize {
-        return Err(too_far(alloc));
-    }
-    let mut inner = ctx.copy(alloc)?;
+    let mut judge = Judge::over(alloc, sig, ctx)?;
     let row = holding.copy(alloc)?;
-    check(alloc, obj, ty, sig, &mut inner, row)
+    judge.check(obj, ty, row)
 }
 
 /// The type in a copy of the context, which grows and shrinks with the scopes of the arguments.
@@ -139,10 +133,7 @@ fn infer_in_copy(
     requires { length (marks holding.now) ≡ length (context ctx.now) }
     ensures { Gives plain_inferred (inferred hereditary (plain_signature sig.now) (context ctx.now) (marks holding.now) (plain_neutral neutral.now)) result }
 {
-    if ctx.len() > u32::MAX as usize {
-        return Err(too_far(alloc));
-    }
-    let mut inner = ctx.copy(alloc)?;
+    let mut judge = Judge::over(alloc, sig, ctx)?;
     let row = holding.copy(alloc)?;
-    infer_neutral(alloc, neutral, sig, &mut inner, row)
+    judge.infer_neutral(neutral, row)
 }

@@ -3,20 +3,21 @@ ghost use Rattle.std.specs.Prelude.{◌≡◌, ◌<◌, ◌^◌, [], IfOk, lengt
 ghost use Rattle.clf_syntax.specs.Plain.{plain_obj};
 ghost use Rattle.clf_syntax.specs.PlainTypes.{plain_ty};
 ghost use Rattle.use_contexts.specs.Context.{modes};
-ghost use Rattle.use_contexts.specs.Marks.{context, marks};
+ghost use Rattle.use_contexts.specs.Marks.{marks};
 ghost use Rattle.use_contexts.specs.Rows.{newest_difference};
 ghost use Rattle.clf_decision.specs.Checking.{joined_left, unit_left, atomic_left, found_left, indices_left, first_unjoined, first_left, second_left};
 ghost use Rattle.clf_rules.specs.Refusal.{index_differs};
 ghost use Rattle.trace_equal.specs.Difference.{DiffersAt};
 ghost use Rattle.clf_kernel.specs.Answers.{plain_left, plain_inferred};
+ghost use Rattle.clf_kernel.specs.Judge.{context_of};
 ghost use Rattle.clf_kernel.specs.Stops.{Gives, Ends};
 
-use crate::head::level;
+use crate::judge::Judge;
 use crate::refusal::{AtType, Cause, Inferred, Stop, refuse, refuse_at, refuse_type};
 use clf_syntax::{Obj, Ty};
 use std::alloc::Global;
 use trace_equal::first_difference;
-use use_contexts::{Ctx, Differ, Holding, Left, join_add};
+use use_contexts::{Differ, Holding, Left, join_add};
 
 #[tactic(auto, using(clf_syntax::specs::PlainTypes::plain_type_laws, crate::proofs::Stops::stop_laws))]
 pub fn check_unit(alloc: Global, ty: &Ty, row: Holding) -> Result<Left, Stop>
@@ -31,132 +32,119 @@ pub fn check_unit(alloc: Global, ty: &Ty, row: Holding) -> Result<Left, Stop>
     }
 }
 
-/// An atomic object stands at the family that its neutral has, at joined indices.
-#[tactic(auto, using(clf_syntax::specs::PlainTypes::plain_type_laws, crate::proofs::Stops::stop_laws))]
-pub fn check_atomic(alloc: Global, ctx: &Ctx, ty: &Ty, found: Inferred) -> Result<Left, Stop>
-    requires numbered { length (context ctx.now) < 2 ^ 32 }
-    ensures outcome { Gives plain_left (atomic_left (context ctx.now) (plain_ty ty.now) (plain_inferred found)) result }
-    ensures row { IfOk result (λ left. left.row ≡ found.left.row) }
-{
-    match ty {
-        Ty::Fam { family, indices } => {
-            check_family(alloc, ctx, *family, indices.as_slice(), found)
-        }
-        Ty::Fun { .. } | Ty::With { .. } | Ty::Top | Ty::Monad { .. } => {
-            // By a call: dropped here, each form of the type would be a case of this function.
-            drop(found.ty);
-            Err(refuse_type(alloc, AtType::NotAtomic, ty))
-        }
-    }
-}
-
-#[tactic(auto, using(clf_syntax::specs::PlainTypes::plain_type_laws, crate::proofs::Stops::stop_laws))]
-fn check_family(
-    alloc: Global,
-    ctx: &Ctx,
-    wanted: u32,
-    indices: &[Obj],
-    found: Inferred,
-) -> Result<Left, Stop>
-    requires numbered { length (context ctx.now) < 2 ^ 32 }
-    ensures outcome { Gives plain_left (found_left (context ctx.now) wanted (map plain_obj indices.now) (plain_ty found.ty) (plain_left found.left)) result }
-    ensures row { IfOk result (λ left. left.row ≡ found.left.row) }
-{
-    let Inferred { ty, left } = found;
-    match ty {
-        Ty::Fam {
-            family,
-            indices: found,
-        } => {
-            if family != wanted {
-                drop(found);
-                let found = family;
-                return Err(refuse(alloc, Cause::FamilyDiffers { found, wanted }));
+impl Judge<'_> {
+    /// An atomic object stands at the family that its neutral has, at joined indices.
+    #[tactic(auto, using(clf_syntax::specs::PlainTypes::plain_type_laws, crate::proofs::Stops::stop_laws))]
+    pub fn check_atomic(&self, ty: &Ty, found: Inferred) -> Result<Left, Stop>
+        requires numbered { length (context_of self.now) < 2 ^ 32 }
+        ensures outcome { Gives plain_left (atomic_left (context_of self.now) (plain_ty ty.now) (plain_inferred found)) result }
+        ensures row { IfOk result (λ left. left.row ≡ found.left.row) }
+    {
+        match ty {
+            Ty::Fam { family, indices } => { self.check_family(*family, indices.as_slice(), found) }
+            Ty::Fun { .. } | Ty::With { .. } | Ty::Top | Ty::Monad { .. } => {
+                // By a call: dropped here, each form of the type would be a case of this function.
+                drop(found.ty);
+                Err(refuse_type(self.alloc, AtType::NotAtomic, ty))
             }
-            check_indices(alloc, ctx, found.as_slice(), indices, left)
-        }
-        ty @ (Ty::Fun { .. } | Ty::With { .. } | Ty::Top | Ty::Monad { .. }) => {
-            Err(refuse(alloc, Cause::NotAtomic { ty }))
         }
     }
-}
 
-/// The indices that are found are joined with those that are wanted.
-#[tactic(auto, using(crate::proofs::Stops::stop_laws, crate::proofs::Differences::none_differs))]
-fn check_indices(
-    alloc: Global,
-    ctx: &Ctx,
-    found: &[Obj],
-    wanted: &[Obj],
-    left: Left,
-) -> Result<Left, Stop>
-    requires numbered { length (context ctx.now) < 2 ^ 32 }
-    ensures outcome { Gives plain_left (indices_left (context ctx.now) (first_unjoined (map plain_obj found.now) (map plain_obj wanted.now)) (plain_left left)) result }
-    ensures row { IfOk result (λ outer. outer.row ≡ left.row) }
-{
-    match first_difference(alloc, found, wanted)? {
-        None => Ok(left),
-        Some(place) => differ_at(alloc, ctx, place, found, wanted, left),
+    #[tactic(auto, using(clf_syntax::specs::PlainTypes::plain_type_laws, crate::proofs::Stops::stop_laws))]
+    fn check_family(&self, wanted: u32, indices: &[Obj], found: Inferred) -> Result<Left, Stop>
+        requires numbered { length (context_of self.now) < 2 ^ 32 }
+        ensures outcome { Gives plain_left (found_left (context_of self.now) wanted (map plain_obj indices.now) (plain_ty found.ty) (plain_left found.left)) result }
+        ensures row { IfOk result (λ left. left.row ≡ found.left.row) }
+    {
+        let Inferred { ty, left } = found;
+        match ty {
+            Ty::Fam {
+                family,
+                indices: found,
+            } => {
+                if family != wanted {
+                    drop(found);
+                    let found = family;
+                    return Err(refuse(self.alloc, Cause::FamilyDiffers { found, wanted }));
+                }
+                self.check_indices(found.as_slice(), indices, left)
+            }
+            ty @ (Ty::Fun { .. } | Ty::With { .. } | Ty::Top | Ty::Monad { .. }) => {
+                Err(refuse(self.alloc, Cause::NotAtomic { ty }))
+            }
+        }
     }
-}
 
-/// A refusal at two indices that are not joined, unless the lists differ by their lengths, which formation has excluded.
-#[tactic(auto, using(crate::proofs::Stops::stop_laws, crate::proofs::Differences::one_ends))]
-fn differ_at(
-    alloc: Global,
-    ctx: &Ctx,
-    place: usize,
-    found: &[Obj],
-    wanted: &[Obj],
-    left: Left,
-) -> Result<Left, Stop>
-    requires numbered { length (context ctx.now) < 2 ^ 32 }
-    requires there { DiffersAt place (map plain_obj found.now) (map plain_obj wanted.now) }
-    ensures outcome { Gives plain_left (indices_left (context ctx.now) (first_unjoined (map plain_obj found.now) (map plain_obj wanted.now)) (plain_left left)) result }
-    ensures row { IfOk result (λ outer. outer.row ≡ left.row) }
-{
-    if place >= found.len() || place >= wanted.len() {
-        return Ok(left);
+    /// The indices that are found are joined with those that are wanted.
+    #[tactic(auto, using(crate::proofs::Stops::stop_laws, crate::proofs::Differences::none_differs))]
+    fn check_indices(&self, found: &[Obj], wanted: &[Obj], left: Left) -> Result<Left, Stop>
+        requires numbered { length (context_of self.now) < 2 ^ 32 }
+        ensures outcome { Gives plain_left (indices_left (context_of self.now) (first_unjoined (map plain_obj found.now) (map plain_obj wanted.now)) (plain_left left)) result }
+        ensures row { IfOk result (λ outer. outer.row ≡ left.row) }
+    {
+        match first_difference(self.alloc, found, wanted)? {
+            None => Ok(left),
+            Some(place) => self.differ_at(place, found, wanted, left),
+        }
     }
-    Err(refuse_indices(alloc, ctx, &found[place], &wanted[place]))
-}
 
-/// A refusal at two indices that are not joined.
-fn refuse_indices(alloc: Global, ctx: &Ctx, found: &Obj, wanted: &Obj) -> Stop
-    requires numbered { length (context ctx.now) < 2 ^ 32 }
-    ensures { Ends [] (index_differs (length (context ctx.now)) (plain_obj found.now) (plain_obj wanted.now)) result }
-{
-    let scope = ctx.len() as u32;
-    match (found.copy(alloc), wanted.copy(alloc)) {
-        (Ok(found), Ok(wanted)) => refuse(
-            alloc,
-            Cause::IndexDiffers {
-                scope,
-                found,
-                wanted,
-            },
-        ),
-        _ => Stop::NoMemory,
+    /// A refusal at two indices that are not joined, unless the lists differ by their lengths, which formation has excluded.
+    #[tactic(auto, using(crate::proofs::Stops::stop_laws, crate::proofs::Differences::one_ends))]
+    fn differ_at(
+        &self,
+        place: usize,
+        found: &[Obj],
+        wanted: &[Obj],
+        left: Left,
+    ) -> Result<Left, Stop>
+        requires numbered { length (context_of self.now) < 2 ^ 32 }
+        requires there { DiffersAt place (map plain_obj found.now) (map plain_obj wanted.now) }
+        ensures outcome { Gives plain_left (indices_left (context_of self.now) (first_unjoined (map plain_obj found.now) (map plain_obj wanted.now)) (plain_left left)) result }
+        ensures row { IfOk result (λ outer. outer.row ≡ left.row) }
+    {
+        if place >= found.len() || place >= wanted.len() {
+            return Ok(left);
+        }
+        Err(self.refuse_indices(&found[place], &wanted[place]))
     }
-}
 
-/// What both parts of a pair leave.
-#[tactic(auto, using(crate::proofs::Stops::stop_laws))]
-pub fn join(alloc: Global, ctx: &Ctx, first: Left, second: Left) -> Result<Left, Stop>
-    requires first_marked { length (marks first.row) ≡ length (context ctx.now) }
-    requires second_marked { length (marks second.row) ≡ length (context ctx.now) }
-    requires numbered { length (context ctx.now) < 2 ^ 32 }
-    ensures outcome { Gives plain_left (joined_left (context ctx.now) (plain_left first) (plain_left second) (newest_difference (modes (context ctx.now)) (marks first.row) first.slack (marks second.row) second.slack)) result }
-    ensures marked { IfOk result (λ left. length (marks left.row) ≡ length (context ctx.now)) }
-{
-    match join_add(ctx, first, second) {
-        Ok(left) => Ok(left),
-        Err(Differ(var)) => Err(refuse(
-            alloc,
-            Cause::PairsDiffer {
-                level: level(ctx, var),
-            },
-        )),
+    /// A refusal at two indices that are not joined.
+    fn refuse_indices(&self, found: &Obj, wanted: &Obj) -> Stop
+        requires numbered { length (context_of self.now) < 2 ^ 32 }
+        ensures { Ends [] (index_differs (length (context_of self.now)) (plain_obj found.now) (plain_obj wanted.now)) result }
+    {
+        let scope = self.ctx.len() as u32;
+        match (found.copy(self.alloc), wanted.copy(self.alloc)) {
+            (Ok(found), Ok(wanted)) => refuse(
+                self.alloc,
+                Cause::IndexDiffers {
+                    scope,
+                    found,
+                    wanted,
+                },
+            ),
+            _ => Stop::NoMemory,
+        }
+    }
+
+    /// What both parts of a pair leave.
+    #[tactic(auto, using(crate::proofs::Stops::stop_laws))]
+    pub fn join(&self, first: Left, second: Left) -> Result<Left, Stop>
+        requires first_marked { length (marks first.row) ≡ length (context_of self.now) }
+        requires second_marked { length (marks second.row) ≡ length (context_of self.now) }
+        requires numbered { length (context_of self.now) < 2 ^ 32 }
+        ensures outcome { Gives plain_left (joined_left (context_of self.now) (plain_left first) (plain_left second) (newest_difference (modes (context_of self.now)) (marks first.row) first.slack (marks second.row) second.slack)) result }
+        ensures marked { IfOk result (λ left. length (marks left.row) ≡ length (context_of self.now)) }
+    {
+        match join_add(&self.ctx, first, second) {
+            Ok(left) => Ok(left),
+            Err(Differ(var)) => Err(refuse(
+                self.alloc,
+                Cause::PairsDiffer {
+                    level: self.level(var),
+                },
+            )),
+        }
     }
 }
 

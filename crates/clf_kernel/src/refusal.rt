@@ -1,11 +1,10 @@
 //! Refusals, and what else ends a check.
 ghost use Rattle.std.specs.Prelude.{◌≡◌, ◌∷◌, [], reverse, IfOk, IfErr};
 ghost use Rattle.clf_syntax.specs.PlainTypes.{plain_ty};
-ghost use Rattle.clf_kernel.specs.Answers.{plain_cause, at_type, IsWide};
+ghost use Rattle.clf_kernel.specs.Answers.{plain_cause, at_type};
 ghost use Rattle.clf_kernel.specs.Stops.{IsPartOf, Ends, IsShort, IsFault};
 
-use clf_syntax::{Head, Mode, Obj, Or, OrWide, Tele, TeleEntry, TooFar, Ty, Wide};
-use sqlite_items::Items;
+use clf_syntax::{Head, Mode, Obj, Or, OrWide, TooFar, Ty, Wide};
 use std::alloc::{AllocError, Global};
 use use_contexts::Left;
 
@@ -173,7 +172,7 @@ fn longer(alloc: Global, place: usize, outward: Vec<u32>) -> Result<Vec<u32>, St
 pub fn too_far(alloc: Global) -> Stop
     ensures { IsShort result }
 {
-    match wide(alloc) {
+    match Wide::full(alloc) {
         Ok(wide) => Stop::TooFar(wide),
         Err(_) => Stop::NoMemory,
     }
@@ -198,21 +197,6 @@ pub fn count(alloc: Global, parts: usize) -> Result<u32, Stop>
         return Err(too_far(alloc));
     }
     Ok(parts as u32)
-}
-
-fn wide(alloc: Global) -> Result<Wide, AllocError>
-    ensures { IfOk result (λ wide. IsWide wide) }
-{
-    let mut entries = Items::new(alloc);
-    for _number in 0..u32::MAX {
-        entries.push(TeleEntry {
-            mode: Mode::Persistent,
-            ty: Ty::Top,
-        })?;
-    }
-    Ok(Wide {
-        counted: Tele { entries },
-    })
 }
 
 /// The fault of a public call, with its path from the whole to the part.

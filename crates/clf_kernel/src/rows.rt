@@ -2,51 +2,97 @@
 ghost use Rattle.std.specs.Prelude.{◌≡◌, ◌&&◌, not, if◌then◌else◌, IfOk, length};
 ghost use Rattle.use_contexts.specs.Context.{modes};
 ghost use Rattle.use_contexts.specs.Holding.{allowed, is_linear, is_persistent, persistent_alone as persistent_marks, without_linear as without_linear_marks};
-ghost use Rattle.use_contexts.specs.Marks.{context, marks};
+ghost use Rattle.use_contexts.specs.Marks.{marks};
 ghost use Rattle.use_contexts.specs.Rows.{linear_of as linear_marks, outside, slack_outside};
+ghost use Rattle.clf_kernel.specs.Judge.{context_of};
 
+use crate::judge::Judge;
 use clf_syntax::Mode;
 use sqlite_items::Items;
-use std::alloc::{AllocError, Global};
-use use_contexts::{Ctx, Holding};
+use std::alloc::AllocError;
+use use_contexts::Holding;
 
-/// The row from which what its mode allows of a row starts.
-#[tactic(auto, using(crate::proofs::RowSteps::length_laws))]
-pub fn allowed_of(
-    alloc: Global,
-    mode: Mode,
-    ctx: &Ctx,
-    row: &Holding,
-) -> Result<Holding, AllocError>
-    requires { length (marks row.now) ≡ length (context ctx.now) }
-    ensures marks { IfOk result (λ start. marks start ≡ allowed mode (modes (context ctx.now)) (marks row.now)) }
-    ensures marked { IfOk result (λ start. length (marks start) ≡ length (context ctx.now)) }
-{
-    match mode {
-        Mode::Persistent => persistent_alone(alloc, ctx),
-        Mode::Affine => without_linear(alloc, ctx, row),
-        Mode::Linear => row.copy(alloc),
+impl Judge<'_> {
+    /// The row from which what its mode allows of a row starts.
+    #[tactic(auto, using(crate::proofs::RowSteps::length_laws))]
+    pub fn allowed_of(&self, mode: Mode, row: &Holding) -> Result<Holding, AllocError>
+        requires { length (marks row.now) ≡ length (context_of self.now) }
+        ensures marks { IfOk result (λ start. marks start ≡ allowed mode (modes (context_of self.now)) (marks row.now)) }
+        ensures marked { IfOk result (λ start. length (marks start) ≡ length (context_of self.now)) }
+    {
+        match mode {
+            Mode::Persistent => self.persistent_alone(),
+            Mode::Affine => self.without_linear(row),
+            Mode::Linear => row.copy(self.alloc),
+        }
     }
-}
 
-/// What is left outside of a row of which a part started from what its mode allows, and left this much.
-#[tactic(auto, using(crate::proofs::RowSteps::length_laws))]
-pub fn left_outside(
-    alloc: Global,
-    mode: Mode,
-    ctx: &Ctx,
-    row: Holding,
-    left: Holding,
-) -> Result<Holding, AllocError>
-    requires row_length { length (marks row) ≡ length (context ctx.now) }
-    requires left_length { length (marks left) ≡ length (context ctx.now) }
-    ensures marks { IfOk result (λ rest. marks rest ≡ outside mode (modes (context ctx.now)) (marks row) (marks left)) }
-    ensures marked { IfOk result (λ rest. length (marks rest) ≡ length (context ctx.now)) }
-{
-    match mode {
-        Mode::Persistent => Ok(row),
-        Mode::Affine => linear_of(alloc, ctx, &row, &left),
-        Mode::Linear => Ok(left),
+    /// What is left outside of a row of which a part started from what its mode allows, and left this much.
+    #[tactic(auto, using(crate::proofs::RowSteps::length_laws))]
+    pub fn left_outside(
+        &self,
+        mode: Mode,
+        row: Holding,
+        left: Holding,
+    ) -> Result<Holding, AllocError>
+        requires row_length { length (marks row) ≡ length (context_of self.now) }
+        requires left_length { length (marks left) ≡ length (context_of self.now) }
+        ensures marks { IfOk result (λ rest. marks rest ≡ outside mode (modes (context_of self.now)) (marks row) (marks left)) }
+        ensures marked { IfOk result (λ rest. length (marks rest) ≡ length (context_of self.now)) }
+    {
+        match mode {
+            Mode::Persistent => Ok(row),
+            Mode::Affine => self.linear_of(&row, &left),
+            Mode::Linear => Ok(left),
+        }
+    }
+
+    /// The row of the persistent entries alone.
+    #[tactic(auto, using(crate::proofs::RowSteps::length_laws))]
+    pub fn persistent_alone(&self) -> Result<Holding, AllocError>
+        ensures marks { IfOk result (λ row. marks row ≡ persistent_marks (modes (context_of self.now))) }
+        ensures marked { IfOk result (λ row. length (marks row) ≡ length (context_of self.now)) }
+    {
+        let mut held = Items::new(self.alloc);
+        let mut var = self.ctx.len();
+        while var > 0 {
+            var -= 1;
+            held.push(is_persistent(self.ctx.mode(var)))?;
+        }
+        Ok(Holding { held })
+    }
+
+    /// A row without its linear entries.
+    #[tactic(auto, using(crate::proofs::RowSteps::length_laws))]
+    fn without_linear(&self, row: &Holding) -> Result<Holding, AllocError>
+        requires { length (marks row.now) ≡ length (context_of self.now) }
+        ensures marks { IfOk result (λ left. marks left ≡ without_linear_marks (modes (context_of self.now)) (marks row.now)) }
+        ensures marked { IfOk result (λ left. length (marks left) ≡ length (context_of self.now)) }
+    {
+        let mut held = Items::new(self.alloc);
+        let mut var = self.ctx.len();
+        while var > 0 {
+            var -= 1;
+            held.push(keeps(self.ctx.mode(var), row.holds(var)))?;
+        }
+        Ok(Holding { held })
+    }
+
+    /// The linear entries of the first row, and the others of the second.
+    #[tactic(auto, using(crate::proofs::RowSteps::length_laws))]
+    fn linear_of(&self, first: &Holding, second: &Holding) -> Result<Holding, AllocError>
+        requires first_length { length (marks first.now) ≡ length (context_of self.now) }
+        requires second_length { length (marks second.now) ≡ length (context_of self.now) }
+        ensures marks { IfOk result (λ left. marks left ≡ linear_marks (modes (context_of self.now)) (marks first.now) (marks second.now)) }
+        ensures marked { IfOk result (λ left. length (marks left) ≡ length (context_of self.now)) }
+    {
+        let mut held = Items::new(self.alloc);
+        let mut var = self.ctx.len();
+        while var > 0 {
+            var -= 1;
+            held.push(chosen(self.ctx.mode(var), first.holds(var), second.holds(var)))?;
+        }
+        Ok(Holding { held })
     }
 }
 
@@ -55,59 +101,6 @@ pub fn slack_of(mode: Mode, slack: bool) -> bool
     ensures { result ≡ slack_outside mode slack }
 {
     matches!(mode, Mode::Linear) && slack
-}
-
-/// The row of the persistent entries alone.
-#[tactic(auto, using(crate::proofs::RowSteps::length_laws))]
-pub fn persistent_alone(alloc: Global, ctx: &Ctx) -> Result<Holding, AllocError>
-    ensures marks { IfOk result (λ row. marks row ≡ persistent_marks (modes (context ctx.now))) }
-    ensures marked { IfOk result (λ row. length (marks row) ≡ length (context ctx.now)) }
-{
-    let mut held = Items::new(alloc);
-    let mut var = ctx.len();
-    while var > 0 {
-        var -= 1;
-        held.push(is_persistent(ctx.mode(var)))?;
-    }
-    Ok(Holding { held })
-}
-
-/// A row without its linear entries.
-#[tactic(auto, using(crate::proofs::RowSteps::length_laws))]
-fn without_linear(alloc: Global, ctx: &Ctx, row: &Holding) -> Result<Holding, AllocError>
-    requires { length (marks row.now) ≡ length (context ctx.now) }
-    ensures marks { IfOk result (λ left. marks left ≡ without_linear_marks (modes (context ctx.now)) (marks row.now)) }
-    ensures marked { IfOk result (λ left. length (marks left) ≡ length (context ctx.now)) }
-{
-    let mut held = Items::new(alloc);
-    let mut var = ctx.len();
-    while var > 0 {
-        var -= 1;
-        held.push(keeps(ctx.mode(var), row.holds(var)))?;
-    }
-    Ok(Holding { held })
-}
-
-/// The linear entries of the first row, and the others of the second.
-#[tactic(auto, using(crate::proofs::RowSteps::length_laws))]
-fn linear_of(
-    alloc: Global,
-    ctx: &Ctx,
-    first: &Holding,
-    second: &Holding,
-) -> Result<Holding, AllocError>
-    requires first_length { length (marks first.now) ≡ length (context ctx.now) }
-    requires second_length { length (marks second.now) ≡ length (context ctx.now) }
-    ensures marks { IfOk result (λ left. marks left ≡ linear_marks (modes (context ctx.now)) (marks first.now) (marks second.now)) }
-    ensures marked { IfOk result (λ left. length (marks left) ≡ length (context ctx.now)) }
-{
-    let mut held = Items::new(alloc);
-    let mut var = ctx.len();
-    while var > 0 {
-        var -= 1;
-        held.push(chosen(ctx.mode(var), first.holds(var), second.holds(var)))?;
-    }
-    Ok(Holding { held })
 }
 
 fn is_persistent(mode: Mode) -> bool

@@ -1,91 +1,89 @@
 //! The scope of a lambda's variable.
 ghost use Rattle.std.specs.Prelude.{◌≡◌, ◌∷◌, ◌+◌, ◌<◌, ◌^◌, suc, true, IfOk, OnOk, IfErr, length};
 ghost use Rattle.clf_syntax.specs.PlainTypes.{plain_ty};
-ghost use Rattle.use_contexts.specs.declared.context.Ctx.{Ctx as DeclaredCtx};
-ghost use Rattle.use_contexts.specs.Marks.{context, marks};
+ghost use Rattle.use_contexts.specs.Marks.{marks};
 ghost use Rattle.use_contexts.specs.Rows.{newest, older, is_unused as is_unused_linear};
 ghost use Rattle.clf_decision.specs.Checking.{closed_scope};
+ghost use Rattle.clf_kernel.specs.declared.judge.Judge.{Judge as DeclaredJudge};
 ghost use Rattle.clf_kernel.specs.Answers.{plain_left};
-ghost use Rattle.clf_kernel.specs.Stops.{IsShort, Gives, IsEntered};
-ghost use Rattle.clf_kernel.specs.Trail.{IsGrown, closed_mode, closed_modes};
+ghost use Rattle.clf_kernel.specs.Judge.{IsEntered, IsGrown, context_of};
+ghost use Rattle.clf_kernel.specs.Stops.{IsShort, Gives};
+ghost use Rattle.clf_kernel.specs.Trail.{closed_mode, closed_modes};
 
+use crate::judge::Judge;
 use crate::refusal::{Cause, Stop, refuse, too_far};
 use clf_syntax::{Mode, TeleEntry, Ty};
 use std::alloc::{AllocError, Global};
-use use_contexts::{Ctx, Holding, Left};
+use use_contexts::{Holding, Left};
 
-/// Adds a variable that is held. It answers the row with it.
-#[tactic(auto, using(crate::proofs::Stops::stop_laws))]
-pub fn enter(
-    alloc: Global,
-    mode: Mode,
-    ty: &Ty,
-    ctx: &mut Ctx,
-    row: Holding,
-) -> Result<Holding, Stop>
-    ensures context { OnOk result (context ctx.new ≡ (mode, plain_ty ty.now) ∷ context ctx.old) }
-    ensures entry { OnOk result (IsEntered ctx.old ctx.new) }
-    ensures numbered { OnOk result (length (context ctx.new) < 2 ^ 32) }
-    ensures row { IfOk result (λ inner. marks inner ≡ true ∷ marks row) }
-    ensures short { IfErr result IsShort }
-{
-    let mut row = row;
-    row.held.push(true)?;
-    enter_entry(alloc, mode, ty, ctx)?;
-    Ok(row)
-}
-
-/// Adds a variable.
-#[tactic(auto, using(crate::proofs::Stops::stop_laws))]
-pub fn enter_entry(alloc: Global, mode: Mode, ty: &Ty, ctx: &mut Ctx) -> Result<(), Stop>
-    ensures context { OnOk result (context ctx.new ≡ (mode, plain_ty ty.now) ∷ context ctx.old) }
-    ensures entry { OnOk result (IsEntered ctx.old ctx.new) }
-    ensures numbered { OnOk result (length (context ctx.new) < 2 ^ 32) }
-    ensures short { IfErr result IsShort }
-{
-    if ctx.len() >= u32::MAX as usize {
-        return Err(too_far(alloc));
+impl Judge<'_> {
+    /// Adds a variable that is held. It answers the row with it.
+    #[tactic(auto, using(crate::proofs::Stops::stop_laws))]
+    pub fn enter(&mut self, mode: Mode, ty: &Ty, row: Holding) -> Result<Holding, Stop>
+        ensures context { OnOk result (context_of self.new ≡ (mode, plain_ty ty.now) ∷ context_of self.old) }
+        ensures entry { OnOk result (IsEntered self.old self.new) }
+        ensures numbered { OnOk result (length (context_of self.new) < 2 ^ 32) }
+        ensures row { IfOk result (λ inner. marks inner ≡ true ∷ marks row) }
+        ensures short { IfErr result IsShort }
+    {
+        let mut row = row;
+        row.held.push(true)?;
+        self.enter_entry(mode, ty)?;
+        Ok(row)
     }
-    add_entry(alloc, mode, ty, ctx)?;
-    Ok(())
-}
 
-/// Adds a newest variable.
-fn add_entry(alloc: Global, mode: Mode, ty: &Ty, ctx: &mut Ctx) -> Result<(), AllocError>
-    ensures context { OnOk result (context ctx.new ≡ (mode, plain_ty ty.now) ∷ context ctx.old) }
-    ensures entry { OnOk result (IsEntered ctx.old ctx.new) }
-{
-    ctx.entries.push(TeleEntry {
-        mode,
-        ty: ty.copy(alloc)?,
-    })
-}
-
-/// Takes the newest variable away.
-pub fn leave(ctx: &mut Ctx)
-    ensures { (outer : DeclaredCtx) → IsEntered outer ctx.old → ctx.new ≡ outer }
-{
-    ctx.entries.pop();
-}
-
-/// Takes the newest variables away, down to so many.
-pub fn leave_to(ctx: &mut Ctx, len: usize)
-    ensures { (outer : DeclaredCtx) → IsGrown outer ctx.old → length outer.entries ≡ len → ctx.new ≡ outer }
-{
-    while ctx.len() > len {
-        leave(ctx);
+    /// Adds a variable.
+    #[tactic(auto, using(crate::proofs::Stops::stop_laws))]
+    pub fn enter_entry(&mut self, mode: Mode, ty: &Ty) -> Result<(), Stop>
+        ensures context { OnOk result (context_of self.new ≡ (mode, plain_ty ty.now) ∷ context_of self.old) }
+        ensures entry { OnOk result (IsEntered self.old self.new) }
+        ensures numbered { OnOk result (length (context_of self.new) < 2 ^ 32) }
+        ensures short { IfErr result IsShort }
+    {
+        if self.ctx.len() >= u32::MAX as usize {
+            return Err(too_far(self.alloc));
+        }
+        self.add_entry(mode, ty)?;
+        Ok(())
     }
-}
 
-/// The end of the scope of a variable that the context has no longer.
-#[tactic(auto, using(crate::proofs::Stops::stop_laws))]
-pub fn close_scope(alloc: Global, mode: Mode, ctx: &Ctx, left: Left) -> Result<Left, Stop>
-    requires marked { length (marks left.row) ≡ suc (length (context ctx.now)) }
-    requires numbered { suc (length (context ctx.now)) < 2 ^ 32 }
-    ensures outcome { Gives plain_left (closed_scope mode (context ctx.now) (plain_left left)) result }
-    ensures marked { IfOk result (λ outer. length (marks outer.row) ≡ length (context ctx.now)) }
-{
-    close_mode(alloc, mode, ctx.len(), left)
+    /// Adds a newest variable.
+    fn add_entry(&mut self, mode: Mode, ty: &Ty) -> Result<(), AllocError>
+        ensures context { OnOk result (context_of self.new ≡ (mode, plain_ty ty.now) ∷ context_of self.old) }
+        ensures entry { OnOk result (IsEntered self.old self.new) }
+    {
+        self.ctx.entries.push(TeleEntry {
+            mode,
+            ty: ty.copy(self.alloc)?,
+        })
+    }
+
+    /// Takes the newest variable away.
+    pub fn leave(&mut self)
+        ensures { (outer : DeclaredJudge) → IsEntered outer self.old → self.new ≡ outer }
+    {
+        self.ctx.entries.pop();
+    }
+
+    /// Takes the newest variables away, down to so many.
+    pub fn leave_to(&mut self, len: usize)
+        ensures { (outer : DeclaredJudge) → IsGrown outer self.old → length outer.ctx.entries ≡ len → self.new ≡ outer }
+    {
+        while self.ctx.len() > len {
+            self.leave();
+        }
+    }
+
+    /// The end of the scope of a variable that the context has no longer.
+    #[tactic(auto, using(crate::proofs::Stops::stop_laws))]
+    pub fn close_scope(&self, mode: Mode, left: Left) -> Result<Left, Stop>
+        requires marked { length (marks left.row) ≡ suc (length (context_of self.now)) }
+        requires numbered { suc (length (context_of self.now)) < 2 ^ 32 }
+        ensures outcome { Gives plain_left (closed_scope mode (context_of self.now) (plain_left left)) result }
+        ensures marked { IfOk result (λ outer. length (marks outer.row) ≡ length (context_of self.now)) }
+    {
+        close_mode(self.alloc, mode, self.ctx.len(), left)
+    }
 }
 
 /// The end of the scope of the newest variable, behind so many older ones.

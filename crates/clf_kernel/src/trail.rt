@@ -3,19 +3,21 @@ ghost use Rattle.std.specs.Prelude.{ℕ, List, ◌≡◌, ◌+◌, ◌≤◌, �
 ghost use Rattle.clf_syntax.specs.declared.tree.Mode.{Mode};
 ghost use Rattle.clf_syntax.specs.PlainTypes.{plain_tele};
 ghost use Rattle.use_contexts.specs.Holding.{all_held};
-ghost use Rattle.use_contexts.specs.Marks.{context, marks};
+ghost use Rattle.use_contexts.specs.Marks.{marks};
 ghost use Rattle.clf_decision.specs.Outcome.{passed, at_part, and_then};
 ghost use Rattle.clf_decision.specs.Checking.{pattern_left, with_slack};
 ghost use Rattle.clf_kernel.specs.Answers.{plain_left, plain_inferred};
+ghost use Rattle.clf_kernel.specs.Judge.{IsGrown, context_of};
 ghost use Rattle.clf_kernel.specs.Stops.{IsShort, Gives};
-ghost use Rattle.clf_kernel.specs.Trail.{IsGrown, EntersStep, closed_modes, closed_steps, opened_by, opened_width};
+ghost use Rattle.clf_kernel.specs.Trail.{EntersStep, closed_modes, closed_steps, opened_by, opened_width};
 
+use crate::judge::Judge;
 use crate::refusal::{Cause, Inferred, Stop, count, from_part, refuse, refuse_at, too_far};
 use crate::scope::close_modes;
 use clf_syntax::{Mode, Modes, Tele, Ty, is_same_mode};
 use sqlite_items::Items;
 use std::alloc::Global;
-use use_contexts::{Ctx, Holding, Left};
+use use_contexts::{Holding, Left};
 
 /// What a step opened: the modes of its variables, and the slack of its right side.
 #[derive(Drop)]
@@ -38,59 +40,60 @@ pub struct Trail {
     pub opened: Items<Opened>,
 }
 
-/// The entries of the right side's monad become the newest variables, all of them held.
-#[tactic(auto, using(clf_syntax::specs::PlainTypes::plain_type_laws, crate::proofs::Stops::stop_laws))]
-pub fn enter_step(
-    alloc: Global,
-    place: usize,
-    modes: &Modes,
-    found: Inferred,
-    ctx: &mut Ctx,
-) -> Result<Entered, Stop>
-    requires marked { length (marks found.left.row) ≡ length (context ctx.old) }
-    requires numbered { length (context ctx.old) < 2 ^ 32 }
-    ensures outcome { EntersStep place modes.now (context ctx.old) (plain_inferred found) (context ctx.new) result }
-    ensures grown { OnOk result (IsGrown ctx.old ctx.new) }
-    ensures marked { IfOk result (λ entered. length (marks entered.row) ≡ length (context ctx.new)) }
-    ensures numbered { OnOk result (length (context ctx.new) < 2 ^ 32) }
-{
-    let Inferred { ty, left } = found;
-    match ty {
-        Ty::Monad { tele } => {
-            if let Err(stop) = same_pattern(alloc, modes.as_slice(), &tele) {
-                return Err(from_part(alloc, place, stop));
+impl Judge<'_> {
+    /// The entries of the right side's monad become the newest variables, all of them held.
+    #[tactic(auto, using(clf_syntax::specs::PlainTypes::plain_type_laws, crate::proofs::Stops::stop_laws))]
+    pub fn enter_step(
+        &mut self,
+        place: usize,
+        modes: &Modes,
+        found: Inferred,
+    ) -> Result<Entered, Stop>
+        requires marked { length (marks found.left.row) ≡ length (context_of self.old) }
+        requires numbered { length (context_of self.old) < 2 ^ 32 }
+        ensures outcome { EntersStep place modes.now (context_of self.old) (plain_inferred found) (context_of self.new) result }
+        ensures grown { OnOk result (IsGrown self.old self.new) }
+        ensures marked { IfOk result (λ entered. length (marks entered.row) ≡ length (context_of self.new)) }
+        ensures numbered { OnOk result (length (context_of self.new) < 2 ^ 32) }
+    {
+        let Inferred { ty, left } = found;
+        match ty {
+            Ty::Monad { tele } => {
+                if let Err(stop) = same_pattern(self.alloc, modes.as_slice(), &tele) {
+                    return Err(from_part(self.alloc, place, stop));
+                }
+                let row = self.hold_entries(modes.len(), left.row)?;
+                self.ctx.entries.append(tele.entries)?;
+                let opened = Opened {
+                    modes: modes.copy(self.alloc)?,
+                    slack: left.slack,
+                };
+                Ok(Entered { row, opened })
             }
-            let row = hold_entries(alloc, modes.len(), ctx, left.row)?;
-            ctx.entries.append(tele.entries)?;
-            let opened = Opened {
-                modes: modes.copy(alloc)?,
-                slack: left.slack,
-            };
-            Ok(Entered { row, opened })
-        }
-        found @ (Ty::Fam { .. } | Ty::Fun { .. } | Ty::With { .. } | Ty::Top) => {
-            Err(refuse_at(alloc, place, Cause::NotMonad { found }))
+            found @ (Ty::Fam { .. } | Ty::Fun { .. } | Ty::With { .. } | Ty::Top) => {
+                Err(refuse_at(self.alloc, place, Cause::NotMonad { found }))
+            }
         }
     }
-}
 
-/// A row with so many newer variables, all of them held.
-#[tactic(auto, using(crate::proofs::Stops::stop_laws))]
-fn hold_entries(alloc: Global, entries: usize, ctx: &Ctx, row: Holding) -> Result<Holding, Stop>
-    requires marked { length (marks row) ≡ length (context ctx.now) }
-    ensures row { IfOk result (λ inner. (ms : List Mode) → length ms ≡ entries → marks inner ≡ all_held ms (marks row)) }
-    ensures marked { IfOk result (λ inner. length (marks inner) ≡ entries + length (context ctx.now)) }
-    ensures numbered { OnOk result (entries + length (context ctx.now) < 2 ^ 32) }
-    ensures short { IfErr result IsShort }
-{
-    if entries > u32::MAX as usize || ctx.len() > u32::MAX as usize - entries {
-        return Err(too_far(alloc));
+    /// A row with so many newer variables, all of them held.
+    #[tactic(auto, using(crate::proofs::Stops::stop_laws))]
+    fn hold_entries(&self, entries: usize, row: Holding) -> Result<Holding, Stop>
+        requires marked { length (marks row) ≡ length (context_of self.now) }
+        ensures row { IfOk result (λ inner. (ms : List Mode) → length ms ≡ entries → marks inner ≡ all_held ms (marks row)) }
+        ensures marked { IfOk result (λ inner. length (marks inner) ≡ entries + length (context_of self.now)) }
+        ensures numbered { OnOk result (entries + length (context_of self.now) < 2 ^ 32) }
+        ensures short { IfErr result IsShort }
+    {
+        if entries > u32::MAX as usize || self.ctx.len() > u32::MAX as usize - entries {
+            return Err(too_far(self.alloc));
+        }
+        let mut row = row;
+        for _entry in 0..entries {
+            row.held.push(true)?;
+        }
+        Ok(row)
     }
-    let mut row = row;
-    for _entry in 0..entries {
-        row.held.push(true)?;
-    }
-    Ok(row)
 }
 
 /// Whether a pattern has as many modes as a telescope has entries, and the same.

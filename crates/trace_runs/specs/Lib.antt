@@ -1,5 +1,12 @@
+pub use Rattle.clf_syntax.specs.Plain
+pub use Rattle.clf_syntax.specs.PlainTypes
 pub use Rattle.clf_rules.specs.Typing
+pub use Rattle.clf_rules.specs.Explained
 pub use Rattle.use_contexts.specs.Context
 pub use Rattle.use_contexts.specs.Holding
+pub use Rattle.clf_decision.specs.Starts
 pub mod Run
+pub mod Refused
 pub mod Laws
+pub mod Replay
+pub mod Steps

@@ -5,13 +5,22 @@ use Rattle.clf_syntax.specs.Tree.{PlainNeutral}
 use Rattle.clf_syntax.specs.TypeTree.{PlainType, PlainTelescope, monad}
 use Rattle.clf_rules.specs.Typing.{Synthesizes}
 use Rattle.clf_sig.specs.Entry.{PlainSignature}
+use Rattle.use_contexts.specs.declared.holding.State.{State}
 use Rattle.use_contexts.specs.Context.{Context, modes, telescope_modes, with_entries}
 use Rattle.use_contexts.specs.Holding.{Holding, Split, all_held}
+use Rattle.use_contexts.specs.Marks.{context, marks}
 
 -- a state: the variables in scope, and which of them may still be used
 pub record PlainState : Type 0 where
   pub context : Context
   pub holding : Holding
+
+abbrev pub plain_state : State → PlainState
+plain_state s = record { context = context s.ctx; holding = marks s.holding }
+
+-- the state that has so much left of a context, and the entries of a telescope as its newest variables, all of them held
+abbrev pub state_after : Context → Holding → PlainTelescope → PlainState
+state_after g left u = record { context = with_entries u g; holding = all_held (telescope_modes u) left }
 
 -- what the first holding has, the second has too
 abbrev pub IsWithin : Holding → Holding → Type 0
@@ -29,7 +38,7 @@ pub record TakesStep (sig : PlainSignature) (ms : List Mode) (r : PlainNeutral) 
   pub right : Synthesizes sig before.context taken r (monad entries)
   pub least : (p q : Holding) (a : PlainType) → Split (modes before.context) before.holding p q → Synthesizes sig before.context p r a → IsWithin taken p
   pub pattern : telescope_modes entries ≡ ms
-  pub state : after ≡ record { context = with_entries entries before.context; holding = all_held ms left }
+  pub state : after ≡ state_after before.context left entries
 
 -- The steps lead from one state to the other.
 abbrev pub IsRun : PlainSignature → List (List Mode × PlainNeutral) → PlainState → PlainState → Type 0

@@ -2,5 +2,9 @@
 #![tactic(auto)]
 
 mod laws;
+mod state;
+mod step;
 
-pub use laws::runs;
+pub use laws::{decided_runs, runs};
+pub use state::after;
+pub use step::replay;

@@ -13,7 +13,7 @@ use Rattle.celf_run.proofs.Closed.{formation-starts}
 use Rattle.celf_run.proofs.judged.form_closed.Goals as goal
 
 pub check_type-judged-requires : goal.check_type-judged-requires
-check_type-judged-requires c = formation-starts (plain_signature c.args.sig.now) _ c.empty-ctx.ensures c.requires
+check_type-judged-requires c = record { starts = formation-starts (plain_signature c.args.sig.now) _ c.empty-ctx.ensures c.requires }
 
 told-of-type : (sig : PlainSignature) (a : PlainType) (r : Result (Unit {0}) (OrWide Refusal)) → ChecksType sig [] a r → FormsClosed sig a r
 told-of-type sig a (Ok x) told = told
@@ -24,4 +24,4 @@ told-of-type sig a (Err (TooFar w)) told = told
 pub returns : goal.returns
 returns c =
     let sig = plain_signature c.args.sig.now in
-    told-of-type sig (plain_ty c.args.ty.now) _ (subst (λ (g : Context). ChecksType sig g (plain_ty c.args.ty.now) c.check_type-judged.result) c.empty-ctx.ensures c.check_type-judged.ensures)
+    told-of-type sig (plain_ty c.args.ty.now) _ (subst (λ (g : Context). ChecksType sig g (plain_ty c.args.ty.now) c.check_type-judged.result) c.empty-ctx.ensures c.check_type-judged.ensures.exact)

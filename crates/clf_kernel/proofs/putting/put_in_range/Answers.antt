@@ -1,8 +1,7 @@
-use Rattle.std.proofs.Common.{◌≡◌, map, ap, sym, subst, ◌∙◌}
+use Rattle.std.proofs.Common.{◌≡◌, ap, sym, subst, ◌∙◌}
 use Rattle.clf_syntax.specs.Plain.{plain_obj}
 use Rattle.clf_syntax.specs.PlainSimple.{plain_simple}
-use Rattle.clf_syntax.specs.PlainTypes.{plain_ty, plain_tele_entry}
-use Rattle.clf_syntax.specs.TypeTree.{telescope_of}
+use Rattle.clf_syntax.specs.PlainTypes.{plain_ty}
 use Rattle.hered_subst.specs.Substitution.{single}
 use Rattle.hered_subst.proofs.SimpleTyping.{rank}
 use Rattle.hered_put.specs.Answers.{FailsAs}

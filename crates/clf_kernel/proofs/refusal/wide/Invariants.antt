@@ -1,6 +1,0 @@
--- An entry for each number so far.
-use Rattle.std.proofs.Common.{◌≡◌, length}
-use Rattle.clf_kernel.proofs.refusal.wide.Given as goal
-
-abbrev pub invariant-loop-number : goal.invariant-loop-number
-invariant-loop-number l = length l.entries ≡ l._number
