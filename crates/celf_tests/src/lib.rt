@@ -10,9 +10,13 @@ mod printer;
 #[cfg(test)]
 mod run;
 #[cfg(test)]
+mod runs;
+#[cfg(test)]
 mod signature;
 #[cfg(test)]
 mod source;
+#[cfg(test)]
+mod substitution;
 #[cfg(test)]
 mod traces;
 #[cfg(test)]
