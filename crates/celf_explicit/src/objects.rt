@@ -114,17 +114,18 @@ fn long(
     }
 }
 
-#[tactic(auto, using(clf_syntax::specs::Plain::plain_laws))]
+/// At a family a neutral stays as it is, and is not copied: so a deep object is read in time linear in its size.
+#[tactic(auto, using(clf_syntax::specs::Plain::plain_laws, clf_syntax::specs::PlainSimple::plain_simple_laws))]
 fn long_neutral(alloc: Global, neutral: Neutral, place: Option<&Simple>) -> Result<Obj, Shortage>
     ensures { IfOk result (λ o. plain_obj o ≡ spec.long_at (plain_place (option_copied place.entry)) (plain_neutral neutral)) }
 {
     match place {
+        None | Some(Simple::Atom(_)) => Ok(Obj::At { neutral }),
         Some(simple) => {
             let long = expanded(alloc, simple, &neutral);
             drop(neutral);
             long
         }
-        None => Ok(Obj::At { neutral }),
     }
 }
 

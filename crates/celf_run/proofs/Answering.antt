@@ -1,5 +1,5 @@
 -- From what the functions below `answer_item` find of an item to its reply.
-use Rattle.std.proofs.Common.{ℕ, ◌≡◌, ◌≢◌, true, false, refl, sym, ap, ◌∙◌, subst, Option, Some, None, is_some, option_map, List, [], ◌∷◌, ◌++◌, length, Result, Ok, Err, ◌⊎◌, inl, inr}
+use Rattle.std.proofs.Common.{ℕ, ◌≡◌, ◌≢◌, true, false, refl, sym, ap, ◌∙◌, subst, Option, Some, None, is_some, option_map, List, [], ◌∷◌, ◌++◌, length, Result, Ok, Err, inl, inr}
 use Rattle.std.specs.Prelude.{IfOk, OnOk, IfErr}
 use Rattle.std.proofs.lemmas.List.{length-map}
 use Rattle.clf_syntax.specs.Word.{is_declarable}
@@ -12,12 +12,8 @@ use Rattle.clf_sig.specs.declared.entry.Entry.{Entry}
 use Rattle.clf_sig.specs.Entry.{entry_limit, PlainEntry, PlainSignature, place_of}
 use Rattle.clf_sig.specs.Signature.{Declared as Declarations, plain_signature, plain_entry}
 use Rattle.clf_sig.proofs.Names.{plain_signature-append}
-use Rattle.clf_rules.specs.Typing.{HasType}
-use Rattle.clf_rules.specs.WellFormed.{WellFormedType, WellFormedEntry}
-use Rattle.clf_rules.specs.Explained.{ExplainedInClass}
-use Rattle.trace_equal.specs.Exchange.{Joined}
+use Rattle.clf_rules.specs.WellFormed.{WellFormedEntry}
 use Rattle.clf_kernel.specs.Exact.{ChecksEntry}
-use Rattle.clf_rules.specs.Refusal.{Cause}
 use Rattle.clf_kernel.specs.declared.refusal.Refusal.{Refusal}
 use Rattle.clf_kernel.specs.Answers.{plain_cause}
 use Rattle.clf_syntax.specs.Tree.{PlainObject}
@@ -27,22 +23,21 @@ use Rattle.celf_surface.specs.Surface.{WrittenBody, WrittenItem, declare, query,
 use Rattle.celf_parser.specs.Place.{HasDeclarableName}
 use Rattle.celf_sugar.specs.declared.fault.SugarFault.{SugarFault}
 use Rattle.celf_sugar.specs.declared.fault.SugarFault.TheVariants.{NoMemory as NoRoom}
-use Rattle.celf_sugar.specs.PlainTree.{DesugaredItem, DesugaredClass}
-use Rattle.celf_sugar.specs.PlainTree as plain
+use Rattle.celf_sugar.specs.PlainTree.{DesugaredItem}
 use Rattle.celf_sugar.specs.Sugar.{body, desugared}
 use Rattle.celf_sugar.specs.Faults.{first_fault}
 use Rattle.celf_sugar.specs.Answers.{IsFirst}
 use Rattle.celf_unknown.specs.Unknown.{first_unknown}
 use Rattle.celf_places.proofs.Options.{option_map-some}
 use Rattle.celf_replies.specs.declared.reply.Reply.{Reply}
-use Rattle.celf_replies.specs.Reply.{PlainWhy, duplicate, full, unknown_name, PlainReply, plain_reply, entry, checked, equal as equal_reply, different as different_reply, refused}
+use Rattle.celf_replies.specs.Reply.{duplicate, full, unknown_name, PlainReply, plain_reply, entry, equal as equal_reply, different as different_reply, refused}
 use Rattle.celf_run.specs.declared.options.Options.{Options}
 use Rattle.clf_sig.specs.Core.{PlainCore, declares, queries, traces, equates, checks}
 use Rattle.celf_unknown.specs.Fault.{standing}
 use Rattle.celf_explicit.specs.Explicit.{explicit}
 use Rattle.celf_run.specs.Source.{written}
-use Rattle.celf_run.specs.Allowed.{Held, holding, declared_name, NameBarred, is_duplicate, is_full, NamePasses, Barred, by_unknown, Passes, HasCore, is_explicit, IsTyped, IsUntyped, IsIllFormed, IsExplained, in_class, in_type, in_object, in_common_type, in_first, in_second, IsBeyondReach, Declined, by_rules, not_answered, Fits, accepted, typed, same, differing, PlainAllowed, barred, declined, answered, Allowed, sugar_fault, plainly, sugar_refusal}
-use Rattle.celf_run.specs.Answering.{NameVerdict, MayBeDeclared, MayBeAdded, AnswersCore, fits, explained, beyond, refused_by_rules, refused_as_beyond, FormsClosed, JudgesClosed, IsReplyToFault, ExplainsCore, Compares}
+use Rattle.celf_run.specs.Allowed.{holding, declared_name, NameBarred, is_duplicate, is_full, NamePasses, Barred, by_unknown, is_explicit, IsTyped, in_class, in_type, in_object, in_common_type, in_first, in_second, by_rules, not_answered, accepted, same, differing, PlainAllowed, declined, answered, Allowed, sugar_fault, plainly, sugar_refusal}
+use Rattle.celf_run.specs.Answering.{MayBeDeclared, MayBeAdded, AnswersCore, fits, explained, beyond, refused_by_rules, FormsClosed, JudgesClosed, IsReplyToFault, ExplainsCore, Compares}
 use Rattle.celf_run.proofs.Cores.{unnamed, written-fits, declared-fits}
 
 none_of : {A : Type 0} (r : Option A) → is_some r ≡ false → r ≡ None

@@ -1,5 +1,5 @@
 -- Checks of closed trees over a well-formed signature: what they presuppose, and that the rules decide them.
-use Rattle.std.proofs.Common.{◌≡◌, ◌≤◌, true, refl, sym, subst, List, ℕ, [], Some, None, ◌⊎◌, inl, inr}
+use Rattle.std.proofs.Common.{◌≡◌, ◌≤◌, true, refl, sym, subst, [], Some, None}
 use Rattle.clf_syntax.specs.Tree.{PlainObject}
 use Rattle.clf_syntax.specs.TypeTree.{PlainType}
 use Rattle.clf_syntax.specs.Simple.{SimplyFormed}
@@ -12,7 +12,7 @@ use Rattle.clf_rules.specs.WellFormed.{WellFormedType, WellFormedEntry, WellForm
 use Rattle.clf_rules.specs.Explained.{ExplainedAt, ExplainedInType, ExplainedInClass}
 use Rattle.typing_laws.specs.SimpleTyping.{families_of, simple_of}
 use Rattle.typing_laws.proofs.FormedTypes.{well_formed_is_simply_formed}
-use Rattle.clf_decision.specs.Starts.{Starts, FormationStarts, EntryStarts}
+use Rattle.clf_decision.specs.Starts.{Starts, FormationStarts}
 use Rattle.clf_decision.specs.Laws.{IsDecided}
 use Rattle.clf_decision.specs.Hereditary.{hereditary}
 use Rattle.clf_decision.proofs.Decisions.{objects_are_decided, types_are_decided, entries_are_decided}

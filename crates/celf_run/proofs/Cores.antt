@@ -1,18 +1,16 @@
 -- What is known of the core of an item that comes of a text.
-use Rattle.std.proofs.Common.{ℕ, ◌≡◌, ◌+◌, ◌-◌, ◌≤◌, ◌<◌, ◌^◌, Bool, true, false, nat_le, nat_lt, if◌then◌else◌, refl, sym, ap, ◌∙◌, subst, Option, Some, None, List, [], ◌∷◌, ◌++◌, length, map, arith, Contains}
+use Rattle.std.proofs.Common.{ℕ, ◌≡◌, ◌+◌, ◌-◌, ◌≤◌, ◌<◌, ◌^◌, Bool, true, false, nat_le, nat_lt, if◌then◌else◌, refl, sym, ap, subst, Option, Some, None, List, [], ◌∷◌, ◌++◌, length, map, arith, Contains}
 use Rattle.std.proofs.lemmas.Bool.{leb-true}
 use Rattle.std.proofs.Math.Nat.{min-le_left, min-le_right}
 use Rattle.clf_syntax.specs.declared.tree.Mode.TheVariants.{Persistent, Affine, Linear}
 use Rattle.clf_syntax.specs.TypeTree as core
 use Rattle.clf_sig.specs.Entry.{PlainClass, family_of, constant_of, PlainEntry, PlainSignature, place_of, names}
-use Rattle.clf_sig.specs.Core.{PlainCore, declares, queries, traces, equates, checks}
+use Rattle.clf_sig.specs.Core.{declares, queries, traces, checks}
 use Rattle.clf_sig.proofs.Names.{is_named}
 use Rattle.clf_rules.specs.WellFormed.{leading_persistent, may_be_implicit}
 use Rattle.celf_surface.specs.declared.surface.Bound.{Bound}
 use Rattle.celf_surface.specs.declared.surface.Bound.TheVariants.{Number, Star}
-use Rattle.celf_surface.specs.declared.surface.Span.{Span}
 use Rattle.celf_surface.specs.Surface as written
-use Rattle.celf_sugar.specs.declared.fault.SugarFault.{SugarFault}
 use Rattle.celf_sugar.specs.declared.fault.SugarFault.TheVariants.{KindPlace, NotAsync, Redex, OutOfRange, BadImplicit}
 use Rattle.celf_sugar.specs.PlainTree.{DesugaredType, family, function, both, top, monad, DesugaredTelescope, end, binding, DesugaredClass, of_family, of_constant, DesugaredBody, declare, query, trace, equal, check, DesugaredItem}
 use Rattle.celf_sugar.specs.ClassLeading.{telescope_length, class_leading}
@@ -23,7 +21,7 @@ use Rattle.celf_sugar.proofs.LeadingLaws.{class-leads}
 use Rattle.celf_places.specs.Heads.{Local, family_head, arguments_of}
 use Rattle.celf_explicit.specs.Types.{at_indices, read_indices, read_type, read_telescope, kind_of}
 use Rattle.celf_places.specs.SimpleTypes.{local_of}
-use Rattle.celf_explicit.specs.Explicit.{read_class, entry_of, read_against, both_objects, equates_both, explicit, core_of_body}
+use Rattle.celf_explicit.specs.Explicit.{read_class, entry_of, read_against, equates_both, explicit, core_of_body}
 use Rattle.celf_places.proofs.Options.{option_map-some, option_and_then-some, combined-some}
 use Rattle.celf_run.specs.Allowed.{declared_name}
 use Rattle.celf_run.specs.Answering.{StandInFront}

@@ -1,5 +1,5 @@
 -- Each task has an allowed reply.
-use Rattle.std.proofs.Common.{ℕ, ◌≡◌, Bool, true, false, refl, sym, ap, ◌∙◌, subst, Option, Some, None, List, [], ◌∷◌, ◌++◌, length, ◌⊎◌, inl, inr}
+use Rattle.std.proofs.Common.{ℕ, ◌≡◌, Bool, true, false, refl, Option, Some, None, List, [], ◌∷◌, ◌++◌, length, ◌⊎◌, inl, inr}
 use Rattle.clf_syntax.specs.Tree.{PlainObject}
 use Rattle.clf_syntax.specs.TypeTree.{PlainType}
 use Rattle.clf_sig.specs.Entry.{entry_limit, PlainEntry, PlainSignature, place_of}
@@ -22,12 +22,12 @@ use Rattle.celf_sugar.specs.Faults.{first_fault}
 use Rattle.celf_unknown.specs.Unknown.{first_unknown}
 use Rattle.celf_explicit.specs.Explicit.{explicit}
 use Rattle.celf_parser.specs.Place.{HasDeclarableName}
-use Rattle.celf_replies.specs.Reply.{PlainWhy, duplicate, full, unknown_name, kernel, not_yet, PlainReply, entry, checked, equal as equal_reply, different as different_reply, refused}
+use Rattle.celf_replies.specs.Reply.{PlainWhy, duplicate, full, unknown_name, not_yet, PlainReply, entry, checked, equal as equal_reply, different as different_reply, refused}
 use Rattle.celf_run.specs.declared.options.Options.{Options}
-use Rattle.celf_run.specs.Source.{Task, written, faulty}
-use Rattle.celf_run.specs.Allowed.{Held, holding, declared_name, NameBarred, is_duplicate, is_full, NamePasses, by_name, by_unknown, Passes, is_explicit, IsTyped, IsUntyped, IsIllFormed, IsExplained, in_class, in_type, in_object, in_common_type, in_first, in_second, not_explicit, Fits, typed, same as same_objects, differing, PlainAllowed, barred, declined, Allowed, at_fault, sugar_fault, plainly, sugar_refusal}
+use Rattle.celf_run.specs.Source.{written, faulty}
+use Rattle.celf_run.specs.Allowed.{Held, holding, declared_name, NameBarred, is_duplicate, is_full, NamePasses, by_name, by_unknown, IsTyped, IsUntyped, IsIllFormed, IsExplained, in_class, in_type, in_object, in_common_type, in_first, in_second, not_explicit, typed, same as same_objects, differing, PlainAllowed, barred, declined, Allowed, at_fault, sugar_fault, plainly, sugar_refusal}
 use Rattle.celf_run.specs.Answering.{MayBeDeclared, MayBeAdded, AnswersCore, fits, explained, beyond, refused_by_rules, refused_as_beyond}
-use Rattle.celf_run.specs.Laws.{EachTaskHasReply, IsTaskOfText}
+use Rattle.celf_run.specs.Laws.{EachTaskHasReply}
 use Rattle.celf_run.proofs.Decisions.{decide-number, Decided}
 use Rattle.celf_run.proofs.Closed.{left-typed, object-decided, type-decided, entry-decided}
 use Rattle.celf_run.proofs.Answering.{may-be-declared, nameless-passes, new-passes, may-be-added, accepts, core-allowed}

@@ -1,19 +1,17 @@
 -- Over a well-formed signature a task has one allowed reply.
-use Rattle.std.proofs.Common.{ℕ, ◌≡◌, ◌≤◌, true, refl, sym, ap, ◌∙◌, subst, Option, Some, None, List, [], ◌∷◌, ◌++◌}
+use Rattle.std.proofs.Common.{ℕ, ◌≡◌, ◌≤◌, refl, sym, ap, ◌∙◌, subst, Option, Some, None, List, ◌∷◌}
 use Rattle.clf_syntax.specs.Tree.{PlainObject}
 use Rattle.clf_syntax.specs.TypeTree.{PlainType}
-use Rattle.clf_sig.specs.Entry.{PlainEntry, PlainSignature, place_of}
+use Rattle.clf_sig.specs.Entry.{PlainSignature, place_of}
 use Rattle.clf_sig.specs.Core.{PlainCore, declares, queries, traces, equates, checks}
 use Rattle.clf_rules.specs.WellFormed.{WellFormedSignature, may_be_implicit}
 use Rattle.clf_rules.specs.Refusal.{Cause}
-use Rattle.celf_surface.specs.Surface.{WrittenItem}
 use Rattle.celf_sugar.specs.PlainTree.{DesugaredItem}
 use Rattle.celf_sugar.specs.Sugar.{desugared}
 use Rattle.celf_explicit.specs.Explicit.{explicit}
-use Rattle.celf_replies.specs.Reply.{PlainWhy, duplicate, full, unknown_name, kernel, PlainRefusal, PlainReply, refused}
+use Rattle.celf_replies.specs.Reply.{PlainWhy, duplicate, unknown_name, kernel, PlainRefusal, PlainReply, refused}
 use Rattle.celf_run.specs.declared.options.Options.{Options}
-use Rattle.celf_run.specs.Source.{Task, written, faulty}
-use Rattle.celf_run.specs.Allowed.{Held, holding, NameBarred, is_duplicate, is_full, NamePasses, Barred, by_name, by_unknown, Passes, HasCore, is_explicit, IsTyped, IsUntyped, IsIllFormed, IsExplained, in_class, in_type, in_object, in_common_type, in_first, in_second, IsBeyondReach, Declined, by_rules, not_explicit, not_answered, Fits, accepted, typed, same, differing, PlainAllowed, barred, declined, answered, Allowed, at_fault, sugar_fault, plainly, sugar_refusal}
+use Rattle.celf_run.specs.Allowed.{Held, NameBarred, is_duplicate, is_full, Barred, by_name, by_unknown, Passes, is_explicit, IsUntyped, IsIllFormed, IsExplained, in_class, in_type, in_object, in_common_type, in_first, in_second, IsBeyondReach, Declined, by_rules, not_explicit, not_answered, Fits, accepted, typed, same, differing, PlainAllowed, barred, declined, answered, at_fault, sugar_fault, plainly, sugar_refusal}
 use Rattle.celf_run.specs.Answering.{StandInFront}
 use Rattle.celf_run.specs.Laws.{ReplyIsOne}
 use Rattle.celf_run.proofs.Closed.{object-decided, type-decided, entry-decided}

@@ -1,26 +1,23 @@
 -- What comes next in a text is one task, and nothing where only blanks and comments are left.
-use Rattle.std.proofs.Common.{ℕ, ◌≡◌, ◌≢◌, ◌+◌, ◌-◌, ◌≤◌, suc, true, false, refl, sym, ap, ◌∙◌, subst, List, [], ◌∷◌, ◌++◌, length, drop, arith, Result, Ok, Err}
+use Rattle.std.proofs.Common.{ℕ, ◌≡◌, ◌≢◌, ◌+◌, refl, sym, ap, ◌∙◌, subst, List, [], ◌∷◌, ◌++◌, length, drop, arith, Result, Ok, Err}
 use Rattle.std.proofs.lemmas.List.{drop_all, length-drop}
-use Rattle.celf_lexer.specs.declared.token.TokenKind.{TokenKind}
 use Rattle.celf_lexer.specs.declared.token.TokenKind.TheVariants.{End, Directive as DirectiveWord}
 use Rattle.celf_lexer.specs.declared.token.Token.{Token}
 use Rattle.celf_lexer.specs.declared.token.LexFault.{LexFault}
 use Rattle.celf_lexer.specs.Gap.{gap}
 use Rattle.celf_lexer.specs.Sign.{front}
-use Rattle.celf_lexer.specs.Tokens.{Lexeme, placed, first_of, next_token, lexeme_of, tokens_from, is_end}
+use Rattle.celf_lexer.specs.Tokens.{Lexeme, placed, first_of, lexeme_of, tokens_from}
 use Rattle.celf_lexer.proofs.Tokens.{tokens_from-ok}
-use Rattle.celf_surface.specs.declared.surface.Span.{Span}
 use Rattle.celf_surface.specs.Surface.{WrittenItem}
 use Rattle.celf_grammar.specs.State.{State}
-use Rattle.celf_grammar.specs.Grammar.{IsItem}
-use Rattle.celf_grammar.specs.Machine.{Symbol, Item, Verdict, accepted, unexpected, too_deep, lacking, runs, runs_on}
+use Rattle.celf_grammar.specs.Machine.{Item, Verdict, accepted, unexpected, too_deep, lacking, runs}
 use Rattle.celf_grammar.specs.Faults.{BeginsItem, IsUnexpected, Says}
 use Rattle.celf_grammar.proofs.Verdicts.{verdict-only}
 use Rattle.celf_grammar.proofs.OneItem.{tree-one}
 use Rattle.celf_parser.specs.declared.fault.SyntaxFault.{SyntaxFault}
 use Rattle.celf_parser.specs.declared.fault.SyntaxFault.TheVariants.{Lex, Unexpected, Directive, TooDeep, NoMemory}
 use Rattle.celf_parser.specs.Place.{nesting, start_at, IsItemAt, HasWordFault, here, further, span_of, Stands, BeginsDirective, IsFaultAt}
-use Rattle.celf_run.specs.Source.{Source, Task, written, faulty, syntax_refusal, Next, next_item, next_fault, IsOver}
+use Rattle.celf_run.specs.Source.{Source, written, faulty, syntax_refusal, next_item, next_fault}
 use Rattle.celf_run.specs.Laws.{NextIsOne, NothingIsNext}
 
 word-fault-one : (text : List ℕ) (at : ℕ) (f g : LexFault) → HasWordFault text at f → HasWordFault text at g → f ≡ g

@@ -1,15 +1,14 @@
 -- A source has one transcript.
-use Rattle.std.proofs.Common.{ℕ, ◌≡◌, true, false, refl, sym, ap, ◌∙◌, subst, Bool, Option, Some, None, is_some, List, [], ◌∷◌, ◌++◌, length}
+use Rattle.std.proofs.Common.{◌≡◌, true, false, refl, sym, ap, ◌∙◌, subst, Bool}
 use Rattle.clf_rules.specs.WellFormed.{WellFormedSignature}
 use Rattle.clf_rules.proofs.Signatures.{extended}
 use Rattle.clf_sig.specs.Core.{PlainCore, declares, queries, traces, equates, checks}
 use Rattle.celf_sugar.specs.PlainTree.{DesugaredItem}
 use Rattle.celf_replies.specs.Reply.{PlainReply, is_refusal}
 use Rattle.celf_run.specs.declared.options.Options.{Options}
-use Rattle.celf_run.specs.declared.status.Status.{Status}
 use Rattle.celf_run.specs.Source.{Source, Task}
 use Rattle.celf_run.specs.Allowed.{Held, Fits, accepted, typed, same, differing, PlainAllowed, barred, declined, answered, Allowed, at_fault, sugar_fault, plainly}
-use Rattle.celf_run.specs.Transcript.{Turn, finished, Transcribes, over, goes_on, stops}
+use Rattle.celf_run.specs.Transcript.{Turn, Transcribes, over, goes_on, stops}
 use Rattle.celf_run.specs.Laws.{TranscriptIsOne}
 use Rattle.celf_run.proofs.OneReply.{reply_is_one}
 use Rattle.celf_run.proofs.OneTask.{next_is_one, nothing_is_next}

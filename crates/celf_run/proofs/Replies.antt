@@ -1,12 +1,11 @@
 -- The lines of the replies that a task may have read back.
-use Rattle.std.proofs.Common.{ℕ, ◌≡◌, ◌<◌, ◌^◌, refl, sym, ap, subst, Some, List, [], ◌∷◌, ◌++◌, length, slice_get, codes}
+use Rattle.std.proofs.Common.{ℕ, ◌≡◌, ◌<◌, ◌^◌, refl, sym, ap, subst, Some, List, [], ◌∷◌, ◌++◌, length}
 use Rattle.std.specs.Option.{option_map}
 use Rattle.clf_sig.specs.Entry.{Declaration, PlainEntry, PlainSignature}
 use Rattle.clf_sig.specs.Core.{PlainCore, declares, queries, traces, equates, checks}
 use Rattle.clf_rules.specs.WellFormed.{WellFormedSignature}
 use Rattle.clf_printer.specs.Depth.{class_depth}
 use Rattle.clf_printer.specs.Metas.{appearing_class}
-use Rattle.clf_printer.specs.Text.{declaration_text}
 use Rattle.celf_surface.specs.Surface.{WrittenItem}
 use Rattle.celf_sugar.specs.Sugar.{desugared}
 use Rattle.celf_explicit.specs.Explicit.{explicit}
@@ -17,7 +16,7 @@ use Rattle.celf_replies.specs.Reply.{PlainReply, entry, checked, equal, differen
 use Rattle.celf_replies.specs.Text.{IsNumbered}
 use Rattle.celf_run.specs.declared.options.Options.{Options}
 use Rattle.celf_run.specs.Source.{Task}
-use Rattle.celf_run.specs.Allowed.{Held, holding, Fits, accepted, typed, same, differing, is_explicit, PlainAllowed, barred, declined, answered, Allowed, at_fault, sugar_fault, plainly}
+use Rattle.celf_run.specs.Allowed.{Held, Fits, accepted, typed, same, differing, is_explicit, PlainAllowed, barred, declined, answered, Allowed, at_fault, sugar_fault, plainly}
 use Rattle.celf_run.specs.Transcript.{ReadsBack}
 use Rattle.celf_run.proofs.Cores.{declared-small}
 use Rattle.celf_run.proofs.Lines.{get-behind, entry-line}

@@ -1,13 +1,13 @@
 -- What is written of a file, by how its reading ends.
-use Rattle.std.proofs.Common.{ℕ, ◌≡◌, ◌≤◌, ◌<◌, zero, suc, refl, sym, ap, subst, arith, Option, Some, None, List, [], ◌∷◌, length, inl, inr}
+use Rattle.std.proofs.Common.{ℕ, ◌≡◌, ◌≤◌, ◌<◌, zero, suc, refl, ap, subst, arith, Option, Some, None, List, [], ◌∷◌, length, inl, inr}
 use Rattle.celf_lexer.specs.Tokens.{size_limit}
 use Rattle.celf_source.specs.Shelf.{Told, untold, lacking, holding, IsWhole, IsLonger, StandsBehind}
 use Rattle.celf_source.specs.Sink.{Appends}
 use Rattle.celf_run.specs.declared.options.Options.{Options}
 use Rattle.celf_run.specs.declared.status.Status.{Status}
-use Rattle.celf_run.specs.declared.status.Status.TheVariants.{Done, Refused, BadWords, ReadFault, WriteFault, NoMemory, TooLarge, TooFar}
+use Rattle.celf_run.specs.declared.status.Status.TheVariants.{ReadFault, NoMemory, TooLarge}
 use Rattle.celf_run.specs.Transcript.{nothing}
-use Rattle.celf_run.specs.Run.{Way, whole, cut, silent, way, Ends, Outcome, start, nothing_held, LimitsSize, FileOutcome, Files, AgreesOn, Agrees, Run}
+use Rattle.celf_run.specs.Run.{Way, whole, cut, silent, way, Ends, start, nothing_held, FileOutcome, AgreesOn, Run}
 use Rattle.celf_run.specs.Turning.{TextEnds, TextOutcome, Finishes}
 use Rattle.celf_run.proofs.Turns.{appends-nothing}
 

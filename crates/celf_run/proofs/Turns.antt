@@ -1,5 +1,5 @@
 -- How a turn ends, and how a run goes on from it.
-use Rattle.std.proofs.Common.{ℕ, ◌≡◌, true, false, refl, ap, sym, ◌∙◌, subst, Option, Some, None, List, [], ◌∷◌, ◌++◌, take, append_assoc, append-nil, ◌⊎◌, inl, inr}
+use Rattle.std.proofs.Common.{ℕ, ◌≡◌, false, refl, ap, sym, ◌∙◌, subst, Option, Some, None, List, [], ◌++◌, take, append_assoc, append-nil, ◌⊎◌, inl, inr}
 use Rattle.clf_syntax.specs.declared.fault.Want.{Want}
 use Rattle.clf_syntax.specs.declared.fault.Want.TheVariants.{NoMemory as no_memory, TooFar as too_far}
 use Rattle.clf_sig.specs.Entry.{PlainSignature}
@@ -14,9 +14,9 @@ use Rattle.celf_run.specs.declared.turn.Turn.{Turn as Ended}
 use Rattle.celf_run.specs.declared.turn.Turn.TheVariants.{Next as GoesOn, Ended as Ends}
 use Rattle.celf_run.specs.Source.{Source, IsOver}
 use Rattle.celf_run.specs.Allowed.{Held, holding}
-use Rattle.celf_run.specs.Transcript.{told, Turn, Transcribes, over, goes_on, stops, Begun, nothing, front, beyond}
+use Rattle.celf_run.specs.Transcript.{told, Turn, over, goes_on, stops, Begun, nothing, front, beyond}
 use Rattle.celf_run.specs.Run.{Way, whole, cut, silent, way, start, nothing_held}
-use Rattle.celf_run.specs.Turning.{place_in, Answers, WritesFront, WritesWhole, Writes, TakesOn, TextEnds, TextOutcome, Finishes, Turns, Reached, turn_behind, status_of}
+use Rattle.celf_run.specs.Turning.{place_in, Answers, WritesFront, Writes, TakesOn, TextEnds, TextOutcome, Finishes, Turns, Reached, turn_behind, status_of}
 use Rattle.celf_run.proofs.Replies.{allowed-reads_back}
 
 pub appends-nothing : (x y : Option (List ℕ)) → y ≡ x → Appends [] x y

@@ -1,5 +1,5 @@
 -- Laws of the definitions of a run, as statements.
-use Rattle.std.specs.Prelude.{ℕ, ◌≡◌, List, [], ◌∷◌, ◌++◌}
+use Rattle.std.specs.Prelude.{ℕ, ◌≡◌, List}
 use Rattle.celf_parser.specs.Place.{HasDeclarableName}
 use Rattle.clf_rules.specs.WellFormed.{WellFormedSignature}
 use Rattle.celf_replies.specs.Reply.{PlainReply}

@@ -1,5 +1,5 @@
 -- What is to be answered, one task after another.
-use Rattle.std.specs.Prelude.{ℕ, ◌+◌, ◌≡◌, ◌==◌, List, [], true, length, drop}
+use Rattle.std.specs.Prelude.{ℕ, ◌+◌, ◌≡◌, ◌==◌, List, true, length, drop}
 use Rattle.celf_lexer.specs.Gap.{gap}
 use Rattle.celf_lexer.specs.declared.token.LexFault.TheVariants.{BadByte, LongName}
 use Rattle.celf_surface.specs.Surface.{WrittenItem}

@@ -13,7 +13,7 @@ use Rattle.celf_run.specs.declared.status.Status.TheVariants.{Done, Refused, Bad
 use Rattle.celf_run.specs.declared.turn.Turn.{Turn as Ended}
 use Rattle.celf_run.specs.declared.turn.Turn.TheVariants.{Next as GoesOn, Ended as Ends}
 use Rattle.celf_run.specs.Source.{Source, Task, Next}
-use Rattle.celf_run.specs.Allowed.{Held, holding, Allowed}
+use Rattle.celf_run.specs.Allowed.{Held, Allowed}
 use Rattle.celf_run.specs.Transcript.{told, Turn}
 use Rattle.celf_run.specs.Run.{Way, whole, cut, silent, way, Ends as EndsSo, start, nothing_held}
 

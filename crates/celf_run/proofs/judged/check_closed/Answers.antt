@@ -1,5 +1,4 @@
-use Rattle.std.proofs.Common.{◌≡◌, [], ap, refl, subst, reverse, Result, Ok, Err}
-use Rattle.clf_syntax.specs.Plain.{plain_obj}
+use Rattle.std.proofs.Common.{◌≡◌, [], ap, refl, subst, reverse, Result, Err}
 use Rattle.clf_syntax.specs.PlainTypes.{plain_ty}
 use Rattle.clf_syntax.specs.declared.fault.OrWide.{OrWide}
 use Rattle.clf_syntax.specs.declared.fault.OrWide.TheVariants.{Fault, NoMemory, TooFar}

@@ -1,4 +1,4 @@
-use Rattle.std.proofs.Common.{◌≡◌, [], subst, Result, Ok, Err}
+use Rattle.std.proofs.Common.{[], subst, Result, Ok, Err}
 use Rattle.clf_syntax.specs.PlainTypes.{plain_ty}
 use Rattle.clf_syntax.specs.TypeTree.{PlainType}
 use Rattle.clf_syntax.specs.declared.fault.OrWide.{OrWide}

@@ -1,10 +1,10 @@
-use Rattle.std.proofs.Common.{◌≡◌, ◌∙◌, sym, ap, subst, length, option_copied, List, ℕ, Some, Option}
+use Rattle.std.proofs.Common.{◌≡◌, ◌∙◌, sym, ap, subst, length, option_copied, List, ℕ, Some}
 use Rattle.clf_sig.specs.Entry.{entry_limit, place_of}
 use Rattle.clf_sig.specs.Signature.{plain_signature}
 use Rattle.celf_sugar.specs.Plain.{desugared_item}
 use Rattle.celf_replies.specs.Reply.{duplicate}
 use Rattle.celf_run.specs.Allowed.{declared_name, NameBarred, is_full}
-use Rattle.celf_run.proofs.Answering.{not-placed, plain-length, nameless-passes, name-placed, new-passes}
+use Rattle.celf_run.proofs.Answering.{not-placed, plain-length, nameless-passes, name-placed}
 use Rattle.celf_run.proofs.name.barred_name.Goals as goal
 
 pub returns-in_default : goal.returns-in_default

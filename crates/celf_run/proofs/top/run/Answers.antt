@@ -1,4 +1,4 @@
-use Rattle.std.proofs.Common.{◌≡◌, ◌∙◌, sym, subst, List, ℕ, Option, Some}
+use Rattle.std.proofs.Common.{◌≡◌, ◌∙◌, subst, List, ℕ, Option, Some}
 use Rattle.celf_lexer.specs.Tokens.{size_limit}
 use Rattle.celf_source.specs.Shelf.{IsWhole, IsLonger, StandsBehind}
 use Rattle.celf_run.specs.declared.options.Options.{Options}
