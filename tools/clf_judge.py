@@ -1,7 +1,7 @@
 """Two judges of objects and types. One follows the rules of typing and tries all splits of what may be used; it says yes or
 no. The other hands on what is left, as docs/language.md says ("What may be used"), and says what is wrong first, and where.
 
-A context is a list of (mode, type), the oldest entry first. What is held is told by the numbers of the entries.
+A context is a list of (mode, type), the oldest entry first. What is held is said by the numbers of the entries.
 """
 import itertools
 
@@ -140,7 +140,7 @@ class Refused(Exception):
 
 
 class Leftovers:
-    """Checks of parts, each of which answers what is still held behind it, and whether it could take more."""
+    """Checks of parts, each of which answers what is still held after it, and whether it could take more."""
 
     def __init__(self, signature):
         self.signature = signature
@@ -187,14 +187,14 @@ class Leftovers:
         return context + list(entries), held | {len(context) + number for number, (mode, _) in enumerate(entries) if mode != PERSISTENT}
 
     def closed(self, context, entries, left, slack, path):
-        """What is left behind the scope of some entries, each linear one of which has to be used, the newest first."""
+        """What is left after the scope of some entries, each linear one of which has to be used, the newest first."""
         for number, (mode, _) in reversed(list(enumerate(entries, len(context)))):
             if mode == LINEAR and number in left and not slack:
                 raise Refused(f"unused x{number + 1}", path)
         return frozenset(place for place in left if place < len(context))
 
     def common(self, context, left, slack, right, also, path):
-        """What is left behind a pair, from what is left behind each part."""
+        """What is left after a pair, from what is left after each part."""
         for place in sorted(left ^ right, reverse=True):
             if context[place][0] == LINEAR and not (slack if place in left else also):
                 raise Refused(f"pairs differ on x{place + 1}", path)

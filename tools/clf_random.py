@@ -531,7 +531,7 @@ class Writer:
         return tokens + self.listed(pieces)
 
     def pattern_name(self, later, names, left):
-        """A name for a pattern's binder behind which `left` further ones come."""
+        """A name for a pattern's binder after which `left` further ones come."""
         used = {names[i - left - 1] for i in free_variables(later) if i > left}
         return self.chance.choice([name for name in NAMES if name not in used] or ["y" * (len(names) + 3)])
 
@@ -604,7 +604,7 @@ class Writer:
         return self.entries(list(entries), names, [], False)[0]
 
     def entries(self, entries, names, behind, wants_one):
-        """A product of entries, with the names behind it. The trees behind it are under its binders."""
+        """A product of entries, with the names after it. The trees after it are under its binders."""
         tokens, is_open = [], False
         if not entries or wants_one or self.may(0.05):
             tokens = ["1"]
@@ -632,7 +632,7 @@ class Writer:
         return tokens + [")"] * depth, names
 
     def rest(self, later, behind):
-        """The later entries and what is behind them, as one tree."""
+        """The later entries and what is after them, as one tree."""
         tree = behind[0] if behind else ("monad", ())
         for mode, ty in reversed(later):
             tree = ("function", mode, ty, tree)
