@@ -18,7 +18,7 @@ use use_contexts::Ctx;
 /// Whether an entry is well formed over a signature.
 ///
 /// It refuses where it is not, with the path and the cause of a part of its class that the rules refuse. There is one such path with one
-/// such cause (`one_answer`).
+/// such cause (`clf_decision::decided`).
 #[tactic(auto, using(crate::proofs::Stops::answer_laws, crate::proofs::Exactness::exact_laws))]
 pub fn check_entry(alloc: Global, sig: &Signature, entry: &Entry) -> Result<(), OrWide<Refusal>>
     requires starts { EntryStarts (plain_signature sig.now) (plain_entry entry.now) }

@@ -23,7 +23,7 @@ use use_contexts::{Ctx, Holding, Left};
 /// What the check of an object against a type leaves of a holding.
 ///
 /// It refuses where no part of the holding types the object, with the path and the cause of a part that the rules refuse.
-/// There is one such path with one such cause, and one such rest (`one_answer`), but for slack where no linear entry is left: there it
+/// There is one such path with one such cause, and one such rest (`clf_decision::decided`), but for slack where no linear entry is left: there it
 /// has nothing to take, and is answered or not.
 #[tactic(auto, using(crate::proofs::Stops::answer_laws, crate::proofs::Exactness::exact_laws))]
 pub fn check_object(
@@ -47,7 +47,7 @@ pub fn check_object(
 /// The type of a neutral, and what it leaves of a holding.
 ///
 /// It refuses where no part of the holding types the neutral, with the path and the cause of a part that the rules refuse.
-/// There is one such path with one such cause, and one such type and rest (`one_answer`), but for slack as at `check_object`.
+/// There is one such path with one such cause, and one such type and rest (`clf_decision::decided`), but for slack as at `check_object`.
 #[tactic(auto, using(crate::proofs::Stops::answer_laws, crate::proofs::Exactness::exact_laws))]
 pub fn infer(
     alloc: Global,
