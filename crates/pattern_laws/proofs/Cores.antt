@@ -3,7 +3,7 @@ use Rattle.std.specs.Prelude.{ℕ, Bool, true, false, zero, suc, ◌+◌, ◌-�
 use Rattle.std.proofs.Common.{ap, sym, subst, ◌∙◌, arith, inl, inr, ⊎_elim, add-one}
 use Rattle.clf_syntax.specs.declared.tree.Head.{Head}
 use Rattle.clf_syntax.specs.declared.tree.Head.TheVariants.{Const, Var, Meta}
-use Rattle.clf_syntax.specs.Tree.{PlainObject, lam, atomic, PlainNeutral, head_alone, app, head_of}
+use Rattle.clf_syntax.specs.Tree.{PlainObject, lam, atomic, PlainNeutral, head_alone, head_of}
 use Rattle.clf_syntax.specs.TypeTree.{SimpleType, arrow}
 use Rattle.clf_syntax.specs.Simple.{Assignment, extended, SimplyTyped}
 use Rattle.clf_syntax.specs.Renaming.{ren, ren_head, up, lifted}
@@ -16,6 +16,7 @@ use Rattle.hered_subst.proofs.Renamed.{renamed}
 use Rattle.hered_subst.proofs.SimpleTyping.{Typed, typed_lam, to_typed, of_typed, renamed_typed}
 use Rattle.subst_laws.specs.Environments.{Instantiation, instant, image_or}
 use Rattle.eta_laws.specs.Eta.{eta}
+use Rattle.eta_laws.proofs.EtaTyped.{eta_is_typed}
 use Rattle.trace_equal.specs.Exchange.{Joined}
 use Rattle.trace_equal.proofs.Joined.{joined_is_equivalence}
 use Rattle.pattern_laws.specs.Instantiations.{Instantiated, Types, closed, over, Instantiates}
@@ -26,7 +27,7 @@ use Rattle.pattern_laws.proofs.Typings.{typed_where, blank_absent}
 use Rattle.pattern_laws.proofs.Misfits.{head_kept}
 use Rattle.pattern_laws.proofs.Spines.{applied, applied_past, fits_instant, of_lams, flex_value_of, Ready, ready_back, keeps_variables, kept_place, ren_lams}
 use Rattle.pattern_laws.proofs.Readings.{Stand, ready_on}
-use Rattle.pattern_laws.proofs.Inversion.{renamed_joined, undone, forced, pruned_by}
+use Rattle.pattern_laws.proofs.Inversions.{renamed_joined, undone, forced, pruned_by}
 use Rattle.pattern_laws.proofs.Inverse.{Within, inverse_past, inverse_applied, inverse_there, applied_inverse, typed_lams, lams_typed, joined_bodies, fitting_at, local_within}
 use Rattle.pattern_laws.proofs.Instances.{instance_typed, typed_over, scoped_out, scoped_in, scoped_meta, instance}
 
@@ -249,7 +250,7 @@ pub narrowed : (constants parameters : Types) (v : Instantiation) (k : ℕ) (ps 
     → Substituted (instant v) (lams ps (atomic (on qs (head_alone (Meta k))))) (lams ps b) × SimplyTyped (over constants parameters) (inverted (length ps) qs b) (arrows qs a)
 narrowed constants parameters v k ps qs a b t f d w cov e =
     ( pruned_by v k (over constants parameters) (beneath ps (over constants parameters)) ps qs a b (inverse (length ps) qs) (beneath_out ps (over constants parameters)) f e shape back
-    , of_typed shape)
+    , eta_is_typed.1 (over constants parameters) (lams qs (ren (inverse (length ps) qs) b)) (arrows qs a) (of_typed shape))
   where
     back : (j : ℕ) → occurs j b ≡ true → applied (length ps) qs (inverse (length ps) qs j) ≡ j
     back j oc = ⊎_elim (λ h. let (i, g) = cov j h oc in applied_inverse (length ps) qs i j g)

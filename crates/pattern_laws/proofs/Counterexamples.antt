@@ -9,6 +9,7 @@ use Rattle.clf_syntax.specs.Simple.{Assignment, extended, SimplyTyped}
 use Rattle.hered_subst.proofs.SimpleTyping.{Typed, typed_lam, typed_monadic, typed_atomic, typed_bare, typed_app, typed_step, typed_done, typed_empty}
 use Rattle.eta_laws.specs.Eta.{eta}
 use Rattle.trace_equal.specs.Exchange.{in_monadic, exchange, stop, next}
+use Rattle.subst_laws.specs.Environments.{instant}
 use Rattle.pattern_laws.specs.Instantiations.{over}
 use Rattle.pattern_laws.specs.Equations.{scoped, Solves}
 use Rattle.pattern_laws.proofs.Spines.{flex_value}

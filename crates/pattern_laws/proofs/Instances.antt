@@ -1,15 +1,14 @@
 -- Instances of typed trees under locals.
-use Rattle.std.specs.Prelude.{ℕ, Bool, true, false, zero, suc, ◌+◌, ◌≡◌, ◌<◌, List, [], ◌∷◌, length, Option, Some, None, refl}
+use Rattle.std.specs.Prelude.{ℕ, true, false, zero, suc, ◌+◌, ◌≡◌, ◌<◌, [], ◌∷◌, length, Some, None, refl}
 use Rattle.std.proofs.Common.{ap, sym, subst, ◌∙◌, arith, inl, inr}
 use Rattle.clf_syntax.specs.declared.tree.Head.{Head}
 use Rattle.clf_syntax.specs.declared.tree.Head.TheVariants.{Const, Var, Meta}
-use Rattle.clf_syntax.specs.Tree.{PlainObject, PlainNeutral, PlainExpression, PlainTuple, head_of}
-use Rattle.clf_syntax.specs.TypeTree.{SimpleType, SimpleTelescope}
+use Rattle.clf_syntax.specs.Tree.{PlainObject}
+use Rattle.clf_syntax.specs.TypeTree.{SimpleType}
 use Rattle.clf_syntax.specs.Simple.{Assignment, Families, extended, SimplyTyped}
 use Rattle.clf_syntax.specs.Renaming.{ren_head, up}
 use Rattle.hered_subst.specs.Substitution.{Image, keep, put, under}
-use Rattle.hered_subst.proofs.SimpleTyping.{Typed, typed_lam, typed_pair, typed_unit, typed_monadic, typed_metavariable, typed_atomic, TypedNeutral, typed_bare, typed_app, typed_fst, typed_snd, TypedExpression, typed_step, typed_done, TypedTuple, typed_empty, typed_entry, to_typed, under_zero}
-use Rattle.hered_subst.proofs.Total.{extended_metavariable}
+use Rattle.hered_subst.proofs.SimpleTyping.{Typed, to_typed, under_zero}
 use Rattle.hered_subst.specs.TypedEnvironments.{TypedEnvironment}
 use Rattle.hered_subst.proofs.TypedEnvironments.{keeps_bound}
 use Rattle.hered_subst.proofs.TypedResults.{typed_has_result}

@@ -5,11 +5,12 @@ pub mod OnePlace
 pub mod Misfits
 pub mod Spines
 pub mod Readings
-pub mod Inversion
+pub mod Inversions
 pub mod Inverse
 pub mod Instances
 pub mod Cores
 pub mod Places
+pub mod Owning
 pub mod Orders
 pub mod Masks
 pub mod Counterexamples

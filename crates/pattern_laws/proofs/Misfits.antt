@@ -1,23 +1,22 @@
 -- A variable for which the eta-long form of another one is put, be it at another simple type, does not occur where that one does not occur afterwards.
-use Rattle.std.specs.Prelude.{ℕ, Bool, true, false, zero, suc, ◌+◌, ◌-◌, ◌≡◌, ◌<◌, ◌≤◌, ◌⊎◌, ◌||◌, ◌&&◌, nat_eq, List, [], ◌∷◌, length, Some, None, refl}
-use Rattle.std.proofs.Common.{ap, sym, subst, ◌∙◌, arith, inl, inr, ⊎_elim, add-one}
+use Rattle.std.specs.Prelude.{ℕ, Bool, true, false, ◌+◌, ◌-◌, ◌≡◌, ◌≤◌, ◌⊎◌, ◌||◌, ◌&&◌, nat_eq, List, length, refl}
+use Rattle.std.proofs.Common.{ap, sym, subst, ◌∙◌, arith, inl, inr, ⊎_elim}
 use Rattle.clf_syntax.specs.declared.tree.Mode.{Mode}
 use Rattle.clf_syntax.specs.declared.tree.Head.{Head}
 use Rattle.clf_syntax.specs.declared.tree.Head.TheVariants.{Const, Var, Meta}
-use Rattle.clf_syntax.specs.Tree.{PlainObject, lam, pair, unit, monadic, atomic, hole, PlainNeutral, head_alone, app, fst, snd, PlainExpression, step, done, PlainTuple, empty, entry, head_of}
+use Rattle.clf_syntax.specs.Tree.{PlainObject, lam, pair, monadic, atomic, PlainNeutral, head_alone, app, fst, snd, PlainExpression, step, done, PlainTuple, head_of}
 use Rattle.clf_syntax.specs.TypeTree.{SimpleType, base, arrow, simple_with, simple_top, lax, SimpleTelescope}
 use Rattle.clf_syntax.specs.Simple.{Assignment, extended, extended_by, simple_modes}
 use Rattle.clf_syntax.specs.Renaming.{Renumbering, ren_head, ren, ren_neutral, up}
 use Rattle.clf_syntax.specs.Occurs.{occurs, occurs_neutral, occurs_expression, occurs_tuple}
 use Rattle.clf_syntax.proofs.RenamingLaws.{cut}
-use Rattle.clf_syntax.proofs.OccursLaws.{or_first, or_second, not_true, not_both, own_number}
+use Rattle.clf_syntax.proofs.OccursLaws.{or_first, not_true, not_both, own_number}
 use Rattle.hered_subst.specs.Substitution.{Image, keep, put, Environment, ren_image, under, single, Substituted, through_lam, through_pair, through_unit, through_hole, through_monadic, through_kept, through_value, KeepsHead, kept_bare, kept_app, kept_fst, kept_snd, HasValue, value_bare, value_app, value_fst, value_snd, SubstitutedExpression, through_done, step_kept, step_value, step_meta, Flattened, flat_step, flat_done, SubstitutedTuple, through_empty, through_entry}
-use Rattle.hered_subst.specs.TypedEnvironments.{is_metavariable}
 use Rattle.hered_subst.proofs.Determined.{determined}
 use Rattle.hered_subst.proofs.Renamed.{head_renamed, under_in, under_out, single_out}
-use Rattle.hered_subst.proofs.SimpleTyping.{Typed, typed_lam, typed_pair, typed_unit, typed_monadic, typed_metavariable, typed_atomic, TypedNeutral, typed_bare, typed_app, typed_fst, typed_snd, TypedExpression, typed_step, typed_done, TypedTuple, typed_empty, typed_entry, rank}
+use Rattle.hered_subst.proofs.SimpleTyping.{Typed, typed_lam, typed_pair, typed_monadic, typed_metavariable, typed_atomic, TypedNeutral, typed_app, typed_fst, typed_snd, TypedExpression, typed_step, typed_done, TypedTuple, typed_entry, rank}
 use Rattle.hered_subst.proofs.Total.{RankedEnvironment, env_bound, env_bounds, single_env, raised_types, all_total, total_neutral}
-use Rattle.subst_laws.proofs.Compose.{value_typed, object_typed, lam_typed, pair_typed}
+use Rattle.subst_laws.proofs.Compose.{value_typed, object_typed, lam_typed}
 use Rattle.subst_laws.proofs.TypedBack.{typed_back_neutral}
 use Rattle.eta_laws.specs.Eta.{eta, variables}
 use Rattle.eta_laws.proofs.EtaLaws.{eta_ren, eta_kept, never}
@@ -220,8 +219,12 @@ value_form (value_snd {x = x} {y = y} v) r g z k u w f a (typed_snd p) = ⊎_eli
 form_there : (x : PlainObject) (w : ℕ) → IsForm w x → occurs w x ≡ true
 form_there x w i = let (u, q, e, h, b) = i in subst (λ o. occurs w o ≡ true) (sym e) (eta_there u q w b (head_occurs q w h))
 
-flattened_there : {n : ℕ} {p : List Mode} {q : PlainNeutral} {g f h : PlainExpression} → Flattened n (step p q g) f h → (w : ℕ) → occurs_neutral w q ≡ true → occurs_expression w h ≡ true
-flattened_there (flat_step {p = p} {r = r} {h = h} i) w e = or_first (occurs_neutral w r) (occurs_expression (w + length p) h) e
+flattened_there : {n : ℕ} {g f h : PlainExpression} → Flattened n g f h → (p : List Mode) (q : PlainNeutral) (d : PlainExpression) → g ≡ step p q d → (w : ℕ) → occurs_neutral w q ≡ true → occurs_expression w h ≡ true
+flattened_there (flat_step {p = k} {r = r} {h = h} i) p q d e w o = or_first (occurs_neutral w r) (occurs_expression (w + length k) h) (subst (λ n. occurs_neutral w n ≡ true) (same e) o)
+  where
+    same : {k p : List Mode} {r q : PlainNeutral} {g d : PlainExpression} → step k r g ≡ step p q d → q ≡ r
+    same e = cc
+flattened_there (flat_done i j) p q d e w o = absurd (cc)
 
 neither : (a b : Bool) → a || b ≡ false → (a ≡ false) × (b ≡ false)
 neither true b e = absurd (cc)
@@ -265,7 +268,7 @@ mutual
       (misfit_absent_expression j r (extended_by ts g) (extended_by ts z) (k + length ms) u (w + length ms) (subst (λ l. RankedEnvironment false r (extended_by ts g) (extended_by ts z) (under l s)) (sym (ap length m)) (env_bounds false r ts g z s f)) (puts_under (length ms) s k u w a) q
       (neither (occurs_neutral w x) (occurs_expression (w + length ms) y) e).1)
   misfit_absent_expression (step_value {g = d} i j l) r g z k u w f a (typed_step p m q) e = absurd (⊎_elim (λ c. absurd (cc))
-      (λ c. let (ts, h) = monadic_form c.0 c.1 c.2 in not_both (flattened_there (subst (λ v. Flattened _ v _ _) h l) w (head_occurs c.1 w c.3)) e) (value_form i r g z k u w f a p))
+      (λ c. let (ts, h) = monadic_form c.0 c.1 c.2 in not_both (flattened_there l (simple_modes ts) c.1 (done (variables ts)) h w (head_occurs c.1 w c.3)) e) (value_form i r g z k u w f a p))
   misfit_absent_expression (step_meta {x = x} i h j) r g z k u w f a (typed_step p m q) e = absurd (⊎_elim (λ c. absurd (cc)) (λ c. no_meta (ap head_of (atomic_form c.0 c.1 c.2) ∙ c.3) h) (value_form i r g z k u w f a p))
     where
       no_meta : {n : Head} {v m : ℕ} → n ≡ Var v → n ≡ Meta m → ⊥

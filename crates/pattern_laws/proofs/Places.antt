@@ -1,10 +1,10 @@
 -- Places of a metavariable: which they are, which ways from them end, and where variables that occur have one.
-use Rattle.std.specs.Prelude.{ℕ, Bool, true, false, suc, ◌+◌, ◌≡◌, ◌⊎◌, nat_eq, List, [], ◌∷◌, ◌++◌, length, Option, Some, None, refl}
+use Rattle.std.specs.Prelude.{ℕ, Bool, true, false, suc, ◌+◌, ◌≡◌, ◌⊎◌, nat_eq, List, [], ◌∷◌, length, Option, Some, None, refl}
 use Rattle.std.proofs.Common.{ap, sym, subst, ◌∙◌, arith, inl, inr, ⊎_elim, add-one}
 use Rattle.clf_syntax.specs.declared.tree.Mode.{Mode}
 use Rattle.clf_syntax.specs.declared.tree.Head.TheVariants.{Const, Var, Meta}
-use Rattle.clf_syntax.specs.Tree.{PlainObject, lam, PlainNeutral, PlainExpression, PlainTuple}
-use Rattle.clf_syntax.specs.TypeTree.{SimpleType, base, arrow, simple_with, simple_top, lax, SimpleTelescope}
+use Rattle.clf_syntax.specs.Tree.{PlainObject, PlainNeutral, PlainExpression, PlainTuple}
+use Rattle.clf_syntax.specs.TypeTree.{SimpleType, arrow, SimpleTelescope}
 use Rattle.clf_syntax.specs.Simple.{Assignment, extended, simple_modes, SimplyTyped}
 use Rattle.clf_syntax.specs.Occurs.{occurs, occurs_neutral, occurs_expression, occurs_tuple}
 use Rattle.clf_syntax.proofs.OccursLaws.{either, not_both}

@@ -1,5 +1,5 @@
 -- A metavariable on locals of which some stand at other simple types than their own: where these do not occur afterwards, its value is a renaming all the same.
-use Rattle.std.specs.Prelude.{ℕ, true, false, zero, suc, ◌+◌, ◌≡◌, ◌⊎◌, List, [], ◌∷◌, length, Some, refl}
+use Rattle.std.specs.Prelude.{ℕ, true, false, zero, suc, ◌+◌, ◌≡◌, ◌⊎◌, List, [], ◌∷◌, Some, refl}
 use Rattle.std.proofs.Common.{ap, sym, subst, ◌∙◌, inl, inr, ⊎_elim, add-one}
 use Rattle.clf_syntax.specs.declared.tree.Mode.{Mode}
 use Rattle.clf_syntax.specs.declared.tree.Head.{Head}
@@ -7,7 +7,7 @@ use Rattle.clf_syntax.specs.declared.tree.Head.TheVariants.{Const, Var, Meta}
 use Rattle.clf_syntax.specs.Tree.{PlainObject, lam, PlainNeutral, head_alone, app}
 use Rattle.clf_syntax.specs.TypeTree.{SimpleType, arrow}
 use Rattle.clf_syntax.specs.Simple.{Assignment, extended}
-use Rattle.clf_syntax.specs.Renaming.{Renumbering, lifted, ren}
+use Rattle.clf_syntax.specs.Renaming.{lifted, ren}
 use Rattle.clf_syntax.specs.Occurs.{occurs}
 use Rattle.clf_syntax.proofs.OccursLaws.{not_true, not_both}
 use Rattle.hered_subst.specs.Substitution.{Image, keep, put, Environment, single, Substituted, HasValue, value_app}
@@ -46,7 +46,7 @@ puts_single u w = (refl, at_head)
     at_head : (h : Head) (n : PlainObject) → single (eta u (head_alone (Var w))) 0 h ≡ put n → n ≡ eta u (head_alone (Var w))
     at_head (Const c) n e = absurd (cc)
     at_head (Var zero) n e = cc
-    at_head (Var (suc i)) n e = absurd (no_put (single_out (eta u (head_alone (Var w))) i) (ap (λ j. single (eta u (head_alone (Var w))) 0 (Var j)) (sym (add-one i)) ∙ e))
+    at_head (Var (suc i)) n e = absurd (no_put (single_out (eta u (head_alone (Var w))) i) (ap (λ j. single (eta u (head_alone (Var w))) 0 (Var j)) (add-one i) ∙ e))
     at_head (Meta m) n e = absurd (cc)
 
 lam_part : {m k : Mode} {b c : PlainObject} → lam m b ≡ lam k c → b ≡ c
@@ -84,6 +84,7 @@ module _ (s : Environment) (keeps : KeepsVariables s) (z : Assignment) where
   ready_on (p ∷ ps) [] g c a t r h v i l = absurd g
   ready_on (p ∷ ps) (q ∷ qs) g c a t r h v i l = let (b, y, w, k, j) = of_value i in
       of_body b w (body_typed (typed_on ps qs g.4 (lam p.0 c) (arrow p.0 p.1 a) t r h (lam q.0 b) w)) (subst (λ o. Substituted (single o 0) b v) (same_argument q.1 q.2 k) j)
+      (ready_on ps qs g.4 (lam p.0 c) (arrow p.0 p.1 a) t r h (lam q.0 b) w)
     where
       -- of the body before the last argument is put
       fits_or_absent : (b : PlainObject) → Typed false (extended p.1 z) b a → Substituted (single (eta q.1 (head_alone (Var q.2))) 0) b v → ((z (Var q.2) ≡ Some p.1) × (q.1 ≡ p.1)) ⊎ (occurs 0 b ≡ false)
@@ -91,9 +92,10 @@ module _ (s : Environment) (keeps : KeepsVariables s) (z : Assignment) where
           (λ e. ⊎_elim (λ f. inl (f ∙ ap (λ u. Some u) (sym e), sym e)) (λ f. inr (blank_absent tb 0 p.1 refl f)) g.3)
           (λ h. inr (⊎_elim (λ f. blank_absent tb 0 p.1 refl f) (λ e. misfit_absent j (rank p.1) (extended p.1 z) z 0 q.1 q.2 (single_env false p.1 z (eta q.1 (head_alone (Var q.2))) g.2) (puts_single q.1 q.2) tb (subst (λ w. occurs w v ≡ false) g.1 e)) h)) l.0
 
-      of_body : (b : PlainObject) → HasValue s (on qs r) (lam q.0 b) → Typed false (extended p.1 z) b a → Substituted (single (eta q.1 (head_alone (Var q.2))) 0) b v → Ready z (p ∷ ps) (q ∷ qs) c
-      of_body b w tb j = let d = fits_or_absent b tb j in
-          let u = ready_on ps qs g.4 (lam p.0 c) (arrow p.0 p.1 a) t r h (lam q.0 b) w (lacks_body ps qs q.0 b v q.2 (determined j (placed z p.1 q.1 q.2 b d a tb).0) l.1) in
+      of_body : (b : PlainObject) → HasValue s (on qs r) (lam q.0 b) → Typed false (extended p.1 z) b a → Substituted (single (eta q.1 (head_alone (Var q.2))) 0) b v
+          → (LacksMisfits ps qs (lam q.0 b) → Ready z ps qs (lam p.0 c)) → Ready z (p ∷ ps) (q ∷ qs) c
+      of_body b w tb j again = let d = fits_or_absent b tb j in
+          let u = again (lacks_body ps qs q.0 b v q.2 (determined j (placed z p.1 q.1 q.2 b d a tb).0) l.1) in
           (g.0, g.1, ⊎_elim (λ e. inl e) (λ e. inr (absent_before (lam_part (determined_value w (value_on s keeps z ps qs (lam p.0 c) u (arrow p.0 p.1 a) t r h).0)) e)) d, u)
         where
           absent_before : b ≡ ren (lifted 1 (filled ps)) c → occurs 0 b ≡ false → occurs 0 c ≡ false

@@ -22,7 +22,7 @@ use Rattle.eta_laws.proofs.EtaLaws.{eta_kept, eta_near, all_same}
 use Rattle.pattern_laws.proofs.Occurrences.{target}
 use Rattle.pattern_laws.proofs.Typings.{typed_where, blank_absent}
 use Rattle.pattern_laws.specs.Instantiations.{Instantiated}
-use Rattle.pattern_laws.specs.Patterns.{Place, on, lams, arrows, filled, Fitting, blank, beneath}
+use Rattle.pattern_laws.specs.Patterns.{Place, on, lams, arrows, filled, Fitting, beneath}
 
 -- all variables are kept
 abbrev pub KeepsVariables : Environment → Type 0

@@ -1,8 +1,8 @@
 //! Laws of metavariables on distinct locals, stated by functions that do nothing.
-ghost use Rattle.pattern_laws.specs.Laws.{CoversWhereNoForeign, EndsAreHeld, OneReading, OrderedHasNoCircle, SamePlaces, TwoTypes};
+ghost use Rattle.pattern_laws.specs.Laws.{CircleSolved, CoversWhereNoForeign, DistinctAreLocals, EndsAreHeld, InvertedIsTyped, OneReading, OrderedHasNoCircle, SamePlaces, SolutionIsForced, SolutionIsFound, TwoTypes};
 
 /// Places are determined, and a set of places can be grown until it holds all from which the way comes to an end.
-pub fn places()
+pub fn reading()
     ensures one_reading { OneReading }
     ensures same_places { SamePlaces }
     ensures ends_are_held { EndsAreHeld }
@@ -10,7 +10,12 @@ pub fn places()
     ensures covers_where_no_foreign { CoversWhereNoForeign }
 {}
 
-/// A metavariable on distinct locals has one solution, and what does not hold.
-pub fn inversion()
+/// An equation of a metavariable on distinct locals has one solution, and what does not hold.
+pub fn inverting()
+    ensures forced { SolutionIsForced }
+    ensures found { SolutionIsFound }
+    ensures typed { InvertedIsTyped }
+    ensures distinct { DistinctAreLocals }
     ensures two_types { TwoTypes }
+    ensures circle_solved { CircleSolved }
 {}

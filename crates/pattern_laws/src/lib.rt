@@ -3,4 +3,4 @@
 
 mod laws;
 
-pub use laws::{inversion, places};
+pub use laws::{inverting, reading};

@@ -19,7 +19,7 @@ use Rattle.pattern_laws.specs.Instantiations.{Instantiated, Types, closed, over,
 use Rattle.pattern_laws.specs.Patterns.{Place, lams, arrows, local_at, OnDistinct, beneath, SameTypes, Foreign, Ends, ends_here, ends_later}
 use Rattle.pattern_laws.specs.Equations.{scoped, Solves, Locals}
 use Rattle.pattern_laws.proofs.Spines.{applied}
-use Rattle.pattern_laws.proofs.Inversion.{follows}
+use Rattle.pattern_laws.proofs.Inversions.{follows}
 use Rattle.pattern_laws.proofs.Inverse.{not_applied, applied_back, applied_local, same_lams, same_beneath}
 use Rattle.pattern_laws.proofs.Instances.{scoped_out, scoped_meta}
 use Rattle.pattern_laws.proofs.Cores.{fitting_over, within, given_body, flex_instance}

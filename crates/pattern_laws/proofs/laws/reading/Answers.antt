@@ -1,7 +1,7 @@
 use Rattle.pattern_laws.proofs.OnePlace.{one_reading}
 use Rattle.pattern_laws.proofs.Places.{same_types, ends_held, covers}
 use Rattle.pattern_laws.proofs.Orders.{ordered_no_circle}
-use Rattle.pattern_laws.proofs.laws.places.Goals as goal
+use Rattle.pattern_laws.proofs.laws.reading.Goals as goal
 
 pub returns-clause-one_reading : goal.returns-clause-one_reading
 returns-clause-one_reading c = one_reading

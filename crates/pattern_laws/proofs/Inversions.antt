@@ -1,6 +1,6 @@
 -- The equation of a metavariable on distinct locals with a side that mentions no foreign local has one solution.
 use Rattle.std.specs.Prelude.{ℕ, true, false, ◌+◌, ◌≡◌, List, [], ◌∷◌, length, Some}
-use Rattle.std.proofs.Common.{ap, subst, ◌∙◌}
+use Rattle.std.proofs.Common.{subst, ◌∙◌}
 use Rattle.clf_syntax.specs.declared.tree.Head.{Head}
 use Rattle.clf_syntax.specs.declared.tree.Head.TheVariants.{Meta}
 use Rattle.clf_syntax.specs.Tree.{PlainObject, lam, atomic, head_alone}
@@ -11,7 +11,6 @@ use Rattle.clf_syntax.specs.Occurs.{occurs}
 use Rattle.clf_syntax.proofs.RenamingLaws.{composed, identity}
 use Rattle.clf_syntax.proofs.OccursLaws.{agreeing, not_true, not_both, source}
 use Rattle.hered_subst.specs.Substitution.{under, Substituted}
-use Rattle.hered_subst.proofs.Determined.{determined}
 use Rattle.hered_subst.proofs.Renamed.{renamed}
 use Rattle.hered_subst.proofs.SimpleTyping.{Typed}
 use Rattle.subst_laws.specs.Environments.{Instantiation, instant}
@@ -21,7 +20,7 @@ use Rattle.trace_equal.proofs.Moves.{renamed as exchange_renamed}
 use Rattle.pattern_laws.specs.Instantiations.{Instantiated}
 use Rattle.pattern_laws.specs.Patterns.{Place, on, lams, arrows, Fitting}
 use Rattle.pattern_laws.proofs.Occurrences.{target, absent_joined}
-use Rattle.pattern_laws.proofs.Spines.{applied, applied_past, fits_instant, through_lams, of_lams, flex_value}
+use Rattle.pattern_laws.proofs.Spines.{applied, fits_instant, through_lams, flex_value}
 
 pub renamed_joined : (r : Renumbering) {a b : PlainObject} → Joined a b → Joined (ren r a) (ren r b)
 renamed_joined r c = carried (ren r) (λ _ _ x. exchange_renamed r x) c
