@@ -2,14 +2,16 @@
 use Rattle.std.specs.Prelude.{ℕ, Bool, true, ◌≡◌, List, [], ◌∷◌, length, Some}
 use Rattle.clf_syntax.specs.declared.tree.Mode.{Mode}
 use Rattle.clf_syntax.specs.declared.tree.Head.TheVariants.{Const, Var, Meta}
-use Rattle.clf_syntax.specs.Tree.{PlainObject, lam, unit, monadic, atomic, head_alone, app, step, done, empty}
+use Rattle.clf_syntax.specs.Tree.{PlainObject, lam, unit, monadic, atomic, head_alone, app, step, done, empty, PlainNeutral}
 use Rattle.clf_syntax.specs.TypeTree.{SimpleType, base, arrow, simple_top, lax, simple_end}
 use Rattle.clf_syntax.specs.Simple.{Assignment, extended, SimplyTyped}
-use Rattle.subst_laws.specs.Environments.{instant}
+use Rattle.hered_subst.specs.Substitution.{Substituted}
+use Rattle.trace_equal.specs.Exchange.{Joined}
+use Rattle.subst_laws.specs.Environments.{instant, Instantiation}
 use Rattle.eta_laws.specs.Eta.{eta}
-use Rattle.pattern_laws.specs.Instantiations.{Types, closed}
+use Rattle.pattern_laws.specs.Instantiations.{Types, closed, Instantiates}
 use Rattle.pattern_laws.specs.Equations.{Locals, scoped, Solves}
-use Rattle.pattern_laws.specs.Patterns.{IsFinal, Place, on, arrows, local_at, Distinct, Covers, SameTypes, NoForeign, Ends, NoCircle, Ordered}
+use Rattle.pattern_laws.specs.Patterns.{IsFinal, Place, on, arrows, local_at, Distinct, Covers, SameTypes, NoForeign, Ends, NoCircle, Ordered, OnDistinct, OnLocals, LacksMisfits, inverted}
 
 -- Two readings of one neutral have the same locals at the same places.
 abbrev pub OneReading : Type 0
