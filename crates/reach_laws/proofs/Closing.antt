@@ -1,5 +1,5 @@
 -- With one more solution there is again an assignment with all solutions put in.
-use Rattle.std.specs.Prelude.{ℕ, Bool, true, false, zero, suc, ◌≡◌, ◌⊎◌, ◌||◌, nat_eq, if◌then◌else◌, Option, Some, None, refl}
+use Rattle.std.specs.Prelude.{ℕ, Bool, true, false, zero, suc, List, [], ◌≡◌, ◌⊎◌, ◌||◌, nat_eq, if◌then◌else◌, Option, Some, None, refl}
 use Rattle.std.proofs.Common.{ap, sym, subst, ◌∙◌, arith, inl, inr, ⊎_elim}
 use Rattle.clf_syntax.specs.declared.tree.Head.{Head}
 use Rattle.clf_syntax.specs.declared.tree.Head.TheVariants.{Const, Var, Meta}
@@ -13,6 +13,16 @@ use Rattle.hered_subst.proofs.TypedResults.{typed_has_result, result_is_typed}
 use Rattle.subst_laws.specs.Environments.{Instantiation, instant, TypedInstantiation, ComposedInstantiation}
 use Rattle.subst_laws.proofs.Environs.{instant_is_environment}
 use Rattle.subst_laws.proofs.Results.{composition, unmoved}
+use Rattle.hered_subst.proofs.SimpleTyping.{under_zero}
+use Rattle.trace_equal.specs.Exchange.{Joined}
+use Rattle.trace_equal.proofs.Closed.{trail}
+use Rattle.pattern_laws.specs.Instantiations.{over, Instantiates, Instantiated, Agrees}
+use Rattle.pattern_laws.proofs.Instances.{keeps}
+use Rattle.unify_laws.proofs.Assign.{agrees_fewer}
+use Rattle.unify_laws.proofs.Consequences.{put_in}
+use Rattle.reach_laws.specs.Laws.{PutInAgain}
+use Rattle.reach_laws.proofs.Rests.{put_in_types}
+use Rattle.reach_laws.specs.Unified.{IsAssignment, IsPutIn}
 use Rattle.pattern_laws.specs.Instantiations.{Types, closed, set}
 use Rattle.pattern_laws.specs.Mentions.{is_meta, mentions, mentions_neutral, mentions_expression, mentions_tuple}
 use Rattle.pattern_laws.specs.PutIn.{PutIn}
@@ -219,3 +229,66 @@ module _ (constants metas : Types) (given s : Instantiation) (all : PutIn given 
           of_pair : (y z : PlainObject) → (b : SimpleType) × (metas k ≡ Some b) × SimplyTyped (closed constants metas) y b → s k ≡ Some y → Substituted (instant only) y z → mentions j z ≡ false
           of_pair y z t e i = ⊎_elim (λ h. subst (λ n. mentions n z ≡ false) (sym h) (only_clears y z t.0 t.2 i))
               (λ h. only_silent j (whole j u (sym (set_else m j o given h) ∙ f)) y z t.0 t.2 (all.finished k y e j u (sym (set_else m j o given h) ∙ f)) i) (number_cases j m)
+
+  -- `next` is an assignment, and what agrees with the solutions is an instance of it.
+  next_assigns : IsAssignment constants metas next
+  next_assigns = ((λ c u e. e), (λ i u e. e), (λ k u e. ⊎_elim
+      (λ h. inr (o', ap next h ∙ set_there m o' (λ k. pick k (s k) refl), subst (λ t. SimplyTyped (closed constants metas) o' t) (one_type (sym type_of ∙ sym (ap metas h) ∙ e)) typed_o'))
+      (λ h. at_other k u e h (s k) refl) (number_cases k m)))
+    where
+      at_other : (k : ℕ) (u : SimpleType) → metas k ≡ Some u → nat_eq k m ≡ false → (x : Option PlainObject) → s k ≡ x → ((next k ≡ None) × (metas k ≡ Some u)) ⊎ ((n : PlainObject) × (next k ≡ Some n) × SimplyTyped (closed constants metas) n u)
+      at_other k u e h None g = inl (next_else k h ∙ ⊎_elim (λ p. p.1) (λ p. absurd (some_none g p.2)) (picked k (s k) refl), e)
+      at_other k u e h (Some x) g = ⊎_elim (λ p. absurd (some_none p.0 g))
+          (λ p. inr (p.1, next_else k h ∙ p.3, subst (λ t. SimplyTyped (closed constants metas) p.1 t) (one_type (sym (typed k p.0 p.2).1 ∙ e))
+              ((result_is_typed true no_families (closed constants metas) (closed constants metas) (instant only) ((instant_is_environment (closed constants metas)).0 (closed constants metas) only only_typed)).object p.0 p.1 (typed k p.0 p.2).0 (typed k p.0 p.2).2 p.4)))
+          (picked k (s k) refl)
+
+  -- what an instantiation makes of a tree is joined with what it makes of it after an assignment of which it is an instance
+  joined_after : (parameters : Types) (t v : Instantiation) → Instantiates constants metas parameters t → Agrees t v → ((k : ℕ) (x : PlainObject) → v k ≡ Some x → (b : SimpleType) × (metas k ≡ Some b) × SimplyTyped (closed constants metas) x b)
+      → (x y z w : PlainObject) (b : SimpleType) → SimplyTyped (closed constants metas) x b → Substituted (instant v) x y → Substituted (instant t) x z → Substituted (instant t) y w → Joined z w
+  joined_after parameters t v f g h x y z w b p i j k = put_in constants metas parameters v t f g h [] x y z w b p (at_none v i) (at_none t j) (at_none t k)
+    where
+      at_none : (v : Instantiation) {x y : PlainObject} → Substituted (instant v) x y → Instantiated 0 v x y
+      at_none v {x} {y} i = subst (λ e. Substituted e x y) (sym (under_zero (instant v))) i
+
+  instance_of : (parameters : Types) (t : Instantiation) → Instantiates constants metas parameters t → (x : PlainObject) (b : SimpleType) → SimplyTyped (closed constants metas) x b → (y : PlainObject) × Substituted (instant t) x y
+  instance_of parameters t f x b p = let (y, i, _) = (typed_has_result true no_families (closed constants metas) (over constants parameters) (instant t) (keeps constants metas parameters t f)).object x b p in (y, i)
+
+  only_types : (k : ℕ) (x : PlainObject) → only k ≡ Some x → (b : SimpleType) × (metas k ≡ Some b) × SimplyTyped (closed constants metas) x b
+  only_types k x e = ⊎_elim
+      (λ h. (a, ap metas h ∙ type_of, subst (λ y. SimplyTyped (closed constants metas) y a) (one_object (sym (set_there m o' (λ k. None)) ∙ sym (ap only h) ∙ e)) typed_o'))
+      (λ h. absurd (some_none (set_else m k o' (λ k. None) h) e)) (number_cases k m)
+
+  next_instances : ((parameters : Types) (t : Instantiation) → Instantiates constants metas parameters t → Agrees t given → Agrees t s) → (parameters : Types) (t : Instantiation) → Instantiates constants metas parameters t → Agrees t (set m o given) → Agrees t next
+  next_instances before parameters t f g k z e = ⊎_elim
+      (λ h. subst (λ n. (u x : PlainObject) × (t n ≡ Some u) × Substituted (instant t) z x × Joined u x) (sym h) (subst (λ y. (u x : PlainObject) × (t m ≡ Some u) × Substituted (instant t) y x × Joined u x) (one_object (sym (set_there m o' (λ k. pick k (s k) refl)) ∙ sym (ap next h) ∙ e)) at_new))
+      (λ h. ⊎_elim (λ p. absurd (some_none (next_else k h ∙ p.1) e))
+          (λ p. subst (λ y. (u x : PlainObject) × (t k ≡ Some u) × Substituted (instant t) y x × Joined u x) (one_object (sym (next_else k h ∙ p.3) ∙ e)) (at_old k p.0 p.1 p.2 p.4)) (picked k (s k) refl))
+      (number_cases k m)
+    where
+      agrees_s : Agrees t s
+      agrees_s = before parameters t f (agrees_fewer t given m o open_ g)
+
+      at_new : (u x : PlainObject) × (t m ≡ Some u) × Substituted (instant t) o' x × Joined u x
+      at_new = let (u, x, h, i, j) = g m o (set_there m o given) in let (y, k) = instance_of parameters t f o' a typed_o' in
+          (u, y, h, k, trail j (joined_after parameters t s f agrees_s typed o o' x y a typed_o put i k))
+
+      agrees_only : Agrees t only
+      agrees_only k x e = ⊎_elim
+          (λ h. subst (λ n. (u y : PlainObject) × (t n ≡ Some u) × Substituted (instant t) x y × Joined u y) (sym h) (subst (λ v. (u y : PlainObject) × (t m ≡ Some u) × Substituted (instant t) v y × Joined u y) (one_object (sym (set_there m o' (λ k. None)) ∙ sym (ap only h) ∙ e)) at_new))
+          (λ h. absurd (some_none (set_else m k o' (λ k. None) h) e)) (number_cases k m)
+
+      at_old : (k : ℕ) (y z : PlainObject) → s k ≡ Some y → Substituted (instant only) y z → (u x : PlainObject) × (t k ≡ Some u) × Substituted (instant t) z x × Joined u x
+      at_old k y z e i = let (u, x, h, l, j) = agrees_s k y e in let (b, tb, ty) = typed k y e in
+          let (w, n) = instance_of parameters t f z b ((result_is_typed true no_families (closed constants metas) (closed constants metas) (instant only) ((instant_is_environment (closed constants metas)).0 (closed constants metas) only only_typed)).object y z b ty i) in
+          (u, w, h, n, trail j (joined_after parameters t only f agrees_only only_types y z x w b ty i l n))
+
+  pub put_in_again : ((parameters : Types) (t : Instantiation) → Instantiates constants metas parameters t → Agrees t given → Agrees t s) → IsPutIn constants metas (set m o given) next
+  put_in_again before = record { put_in = closed_again; assigns = next_assigns; instances = next_instances before }
+
+pub put_in_once_more : PutInAgain
+put_in_once_more constants metas given s p typed m o x a n e t i f w = let h = put_in_types constants metas given s p typed in
+    (next constants metas given s p.put_in h m o x a n e i t (stays constants metas s p.assigns o x a t i) f w typed, put_in_again constants metas given s p.put_in h m o x a n e i t (stays constants metas s p.assigns o x a t i) f w typed p.instances)
+  where
+    stays : (constants metas : Types) (s : Instantiation) → IsAssignment constants metas s → (o x : PlainObject) (a : SimpleType) → SimplyTyped (closed constants metas) o a → Substituted (instant s) o x → SimplyTyped (closed constants metas) x a
+    stays constants metas s f o x a t i = (result_is_typed true no_families (closed constants metas) (closed constants metas) (instant s) ((instant_is_environment (closed constants metas)).0 (closed constants metas) s f)).object o x a t i

@@ -3,6 +3,7 @@ use Rattle.std.specs.Prelude.{List, [], ◌∷◌, ◌++◌}
 use Rattle.clf_syntax.specs.Tree.{PlainObject}
 use Rattle.clf_syntax.specs.TypeTree.{SimpleType}
 use Rattle.pattern_laws.specs.Equations.{Equation, Listed, listed_here, listed_later, Locals}
+use Rattle.reach_laws.specs.Laws.{DownFurther}
 use Rattle.reach_laws.specs.Rest.{ComesDown, down_joined, down_listed, down_lam, down_pair, down_neutral, PartsComeDown, no_parts, next_part}
 
 pub down_further : (constants metas : Types) (l k : List Equation) → ((d : Equation) → Listed d l → ComesDown constants metas k d) → {e : Equation} → ComesDown constants metas l e → ComesDown constants metas k e
@@ -27,3 +28,6 @@ down_more constants metas l k c = down_further constants metas l (l ++ k) (λ d 
 pub down_behind : (constants metas : Types) (l k : List Equation) {e : Equation} → ComesDown constants metas k e → ComesDown constants metas (l ++ k) e
 down_behind constants metas l k c = down_further constants metas k (l ++ k) (λ d m. down_listed (listed_behind d l k m)) c
 
+
+pub down_further_law : DownFurther
+down_further_law constants metas l k f e c = down_further constants metas l k f c

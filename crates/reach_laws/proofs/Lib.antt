@@ -1,6 +1,7 @@
 pub mod Reached
 pub mod Down
 pub mod PartsUnder
+pub mod Rests
 pub mod Tightness
 pub mod Tight
 pub mod Closing

@@ -23,7 +23,8 @@ use Rattle.pattern_laws.proofs.Instances.{no_families, typed_scoped}
 use Rattle.unify_laws.specs.Parts.{SameShape, shape_head, shape_app, shape_fst, shape_snd, PartAt, part_here, part_function, part_fst, part_snd}
 use Rattle.unify_laws.proofs.RigidPlaces.{keeps_head, KeepsOthers, keeps_others}
 use Rattle.unify_laws.proofs.Steps.{shape_heads}
-use Rattle.reach_laws.specs.Rest.{PartOf, part_itself, part_body, part_left, part_right, part_argument}
+use Rattle.reach_laws.specs.Laws.{PartsStay}
+use Rattle.reach_laws.specs.Rest.{EquationUnder, PartOf, part_itself, part_body, part_left, part_right, part_argument}
 use Rattle.reach_laws.specs.Unified.{IsAssignment}
 
 from_type : {m k : Mode} {d c e f : SimpleType} → arrow m d c ≡ arrow k e f → e ≡ d
@@ -126,3 +127,16 @@ module _ (constants metas : Types) (s : Instantiation) (typed : IsAssignment con
       let (r', er, kr) = keeps_head (length ls) s (shape_heads h).0 ir in let (n', en, kn) = keeps_head (length ls) s (shape_heads h).1 iq in
       part_argument r' n' f (part_under p t v w i k (atomic r') (atomic n') (through_kept kr) (through_kept kn)) (shape_under h (keeps_others (length ls) s) kr kn)
       (part_at_under (scoped ls (closed constants metas)) q (to_kept true (scoped ls (closed constants metas)) (scoped ls (closed constants metas)) (under (length ls) (instant s)) (keeps ls)) kr kn x y j l)
+
+pub parts_stay : PartsStay
+parts_stay constants metas e d p t = (part_typed constants metas p t, (λ s f u v h k. of_under s f u v h k))
+  where
+    of_under : (s : Instantiation) → IsAssignment constants metas s → (u v : Equation) → EquationUnder s e u → EquationUnder s d v → PartOf constants metas u v
+    of_under s f u v h k = renewed h.locals h.type k.locals k.type (part_under constants metas s f p t u.left u.right h.left h.right v.left v.right k.left k.right)
+      where
+        renewed : u.locals ≡ e.locals → u.type ≡ e.type → v.locals ≡ d.locals → v.type ≡ d.type
+            → PartOf constants metas (record { locals = e.locals; left = u.left; right = u.right; type = e.type }) (record { locals = d.locals; left = v.left; right = v.right; type = d.type }) → PartOf constants metas u v
+        renewed a b c g q = subst (λ ls. PartOf constants metas (record { locals = ls; left = u.left; right = u.right; type = u.type }) v) (sym a)
+            (subst (λ y. PartOf constants metas (record { locals = e.locals; left = u.left; right = u.right; type = y }) v) (sym b)
+            (subst (λ ls. PartOf constants metas (record { locals = e.locals; left = u.left; right = u.right; type = e.type }) (record { locals = ls; left = v.left; right = v.right; type = v.type })) (sym c)
+            (subst (λ y. PartOf constants metas (record { locals = e.locals; left = u.left; right = u.right; type = e.type }) (record { locals = d.locals; left = v.left; right = v.right; type = y })) (sym g) q)))

@@ -3,7 +3,7 @@ use Rattle.std.specs.Prelude.{ℕ, ◌≡◌, Bool, true, List, length, Some, No
 use Rattle.clf_syntax.specs.Tree.{PlainObject}
 use Rattle.clf_syntax.specs.TypeTree.{SimpleType}
 use Rattle.subst_laws.specs.Environments.{Instantiation, instant, TypedInstantiation}
-use Rattle.pattern_laws.specs.Instantiations.{Types, closed, Instantiates}
+use Rattle.pattern_laws.specs.Instantiations.{Types, closed, Instantiates, Agrees}
 use Rattle.pattern_laws.specs.PutIn.{PutIn}
 use Rattle.pattern_laws.specs.Equations.{Equation, Solves, Listed}
 use Rattle.unify_laws.specs.Problems.{Problem, WellTyped, Grows, Stays, KeepsSolutions, HasNone}
@@ -26,10 +26,15 @@ pub record HoldsUnsolved (start : Problem) (list : ℕ → Bool) : Type 0 where
   pub all : (m : ℕ) (a : SimpleType) → start.metas m ≡ Some a → start.given m ≡ None → list m ≡ true
   pub there : (m : ℕ) → list m ≡ true → (a : SimpleType) × (start.metas m ≡ Some a)
 
+-- s is the solutions with all solutions put in: an assignment, of which each instantiation that agrees with the solutions is an instance.
+pub record IsPutIn (constants metas : Types) (given s : Instantiation) : Type 0 where
+  pub put_in : PutIn given s
+  pub assigns : IsAssignment constants metas s
+  pub instances : (parameters : Types) (t : Instantiation) → Instantiates constants metas parameters t → Agrees t given → Agrees t s
+
 -- With all solutions put in, by s, the given equations are es, whose rest is left; and what the solutions give the metavariables that were unsolved at the start is tight for these.
 pub record EndsWith (constants : Types) (start now : Problem) (left : List Equation) (s : Instantiation) (es : List Equation) : Type 0 where
-  pub put_in : PutIn now.given s
-  pub assigns : IsAssignment constants now.metas s
+  pub put_in : IsPutIn constants now.metas now.given s
   pub under : EachUnder s start.equations es
   pub rest : Rest constants now.metas es left
   pub tight : (list : ℕ → Bool) → HoldsUnsolved start list → Tight constants now.metas list s

@@ -7,7 +7,7 @@ use Rattle.clf_syntax.specs.Simple.{SimplyTyped}
 use Rattle.hered_subst.specs.Substitution.{Substituted}
 use Rattle.subst_laws.specs.Environments.{Instantiation, instant}
 use Rattle.trace_equal.specs.Exchange.{Joined}
-use Rattle.pattern_laws.specs.Patterns.{Place, OnDistinct, Covers, inverted}
+use Rattle.pattern_laws.specs.Patterns.{Place, OnDistinct, Covers, inverted, OnLocals, LacksMisfits}
 use Rattle.pattern_laws.specs.Instantiations.{Types, closed, Agrees, set}
 use Rattle.pattern_laws.specs.Equations.{scoped, Equation, Locals}
 use Rattle.pattern_laws.proofs.Cores.{solution_forced, solution_found}

@@ -1,6 +1,7 @@
 -- What follows from a problem's equations: their parts, and what becomes of them when solutions are put in.
+use Rattle.joined_laws.proofs.Environs.{joined_instances}
 use Rattle.std.specs.Prelude.{ℕ, suc, false, ◌≡◌, ◌⊎◌, List, [], ◌∷◌, length, Option, Some, None, refl}
-use Rattle.std.proofs.Common.{sym, subst, ◌∙◌, inl, inr}
+use Rattle.std.proofs.Common.{sym, subst, ◌∙◌, inl, inr, true}
 use Rattle.clf_syntax.specs.declared.tree.Mode.{Mode}
 use Rattle.clf_syntax.specs.declared.tree.Head.TheVariants.{Meta}
 use Rattle.clf_syntax.specs.Tree.{PlainObject, lam, pair, atomic, PlainNeutral, head_of}
@@ -24,12 +25,12 @@ use Rattle.joined_laws.proofs.Results.{respects_all}
 use Rattle.pattern_laws.specs.Instantiations.{Instantiated, Types, closed, over, Instantiates, Agrees}
 use Rattle.pattern_laws.specs.Equations.{scoped, Equation, Solves, SolvesEach, TypedEquation, Listed, listed_here, listed_later, Locals}
 use Rattle.pattern_laws.proofs.Spines.{under_instant}
-use Rattle.pattern_laws.proofs.Instances.{keeps as keeps_closed, keeps_under, instance}
+use Rattle.pattern_laws.proofs.Instances.{keeps as keeps_closed, keeps_under, instance, composed_scoped, joined_scoped, typed_scoped}
 use Rattle.unify_laws.specs.Problems.{Problem, KeepsSolutions, HasNone, WellTyped, Consequence}
-use Rattle.unify_laws.specs.Parts.{Parts, PartAt, part_here, part_later}
-use Rattle.unify_laws.proofs.Steps.{lam_part, pair_parts, SolvesParts, neutral_parts, neutral_clash}
+use Rattle.unify_laws.specs.Parts.{PartAt, part_here, SameShape}
+use Rattle.unify_laws.proofs.Steps.{lam_part, pair_parts, neutral_clash, neutral_part}
 
-listed_solved : (t : Instantiation) (e : Equation) (es : List Equation) → Listed e es → SolvesEach (instant t) es → Solves (instant t) e
+pub listed_solved : (t : Instantiation) (e : Equation) (es : List Equation) → Listed e es → SolvesEach (instant t) es → Solves (instant t) e
 listed_solved t e es listed_here s = s.0
 listed_solved t e es (listed_later l) s = listed_solved t e _ l s.1
 

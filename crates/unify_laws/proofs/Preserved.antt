@@ -5,12 +5,12 @@ use Rattle.clf_syntax.specs.declared.tree.Head.{Head}
 use Rattle.clf_syntax.specs.declared.tree.Head.TheVariants.{Const, Var, Meta}
 use Rattle.clf_syntax.specs.Tree.{PlainObject, atomic, PlainNeutral, head_alone, PlainExpression, PlainTuple, head_of}
 use Rattle.clf_syntax.specs.TypeTree.{SimpleType, arrow, SimpleTelescope, simple_end, simple_binding}
-use Rattle.clf_syntax.specs.Simple.{Assignment, extended, extended_by, SimplyTyped, MayStand}
+use Rattle.clf_syntax.specs.Simple.{no_holes, Assignment, extended, extended_by, SimplyTyped, MayStand}
 use Rattle.hered_subst.proofs.SimpleTyping.{Typed, typed_lam, typed_pair, typed_unit, typed_monadic, typed_metavariable, typed_atomic, TypedNeutral, typed_bare, typed_app, typed_fst, typed_snd, TypedExpression, typed_step, typed_done, TypedTuple, typed_empty, typed_entry, to_typed, of_typed, of_neutral}
 use Rattle.subst_laws.specs.Environments.{Instantiation}
 use Rattle.eta_laws.specs.Eta.{eta}
 use Rattle.eta_laws.proofs.EtaTyped.{eta_is_typed}
-use Rattle.pattern_laws.specs.Patterns.{Place, on, lams, arrows, beneath, masked, IsFinal}
+use Rattle.pattern_laws.specs.Patterns.{Place, on, lams, arrows, beneath, masked, IsFinal, HasFinalResult}
 use Rattle.pattern_laws.specs.Instantiations.{Types, closed, set}
 use Rattle.pattern_laws.specs.Equations.{scoped, Equation, TypedEquations, Locals}
 use Rattle.pattern_laws.proofs.Inverse.{lams_typed}
@@ -120,8 +120,8 @@ narrowed_typed constants metas k bs ps a may e = of_typed (lams_typed ps (to_typ
     neutral : TypedNeutral true (beneath ps (closed constants metas)) (on (masked 0 bs ps) (head_alone (Meta k))) a
     neutral = on_typed (beneath ps (closed constants metas)) (masked 0 bs ps) (head_alone (Meta k)) a (masked_fits (beneath ps (closed constants metas)) 0 bs ps (along (closed constants metas) ps)) (typed_bare (beneath_meta ps (closed constants metas) k ∙ e))
 
-    stands : IsFinal a → MayStand (on (masked 0 bs ps) (head_alone (Meta k))) a
-    stands c = ⊎_elim (λ u. inl u) (λ u. inr (k, u.0, head_on (masked 0 bs ps) (head_alone (Meta k)), u.1)) c
+    stands : IsFinal a → MayStand (no_holes true) (on (masked 0 bs ps) (head_alone (Meta k))) a
+    stands c = ⊎_elim (λ u. inl u) (λ u. inr (k, u.0, head_on (masked 0 bs ps) (head_alone (Meta k)), u.1, refl)) c
 
 one_object : {a b : PlainObject} → Some a ≡ Some b → a ≡ b
 one_object e = cc

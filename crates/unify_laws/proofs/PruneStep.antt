@@ -9,7 +9,7 @@ use Rattle.clf_syntax.proofs.OccursLaws.{not_both}
 use Rattle.hered_subst.proofs.SimpleTyping.{Typed}
 use Rattle.hered_subst.specs.TypedEnvironments.{is_metavariable}
 use Rattle.subst_laws.specs.Environments.{Instantiation}
-use Rattle.pattern_laws.specs.Patterns.{Place, local_at, OnDistinct, beneath, SameTypes, Foreign, Ends, masked, filled, mask_at}
+use Rattle.pattern_laws.specs.Patterns.{Place, local_at, OnDistinct, beneath, SameTypes, Foreign, Ends, masked, filled, mask_at, OnLocals, LacksMisfits}
 use Rattle.pattern_laws.specs.Instantiations.{Types, closed, over}
 use Rattle.pattern_laws.specs.Equations.{scoped, Equation, Locals}
 use Rattle.pattern_laws.proofs.Inverse.{place_cases, lams_typed}

@@ -1,6 +1,7 @@
 -- All solutions put in: a pass is absorbed, and where no solved metavariable is mentioned nothing changes. And equations without metavariables.
+use Rattle.pattern_laws.proofs.Instances.{typed_scoped, composed_scoped}
 use Rattle.std.specs.Prelude.{suc, ◌≡◌, List, [], ◌∷◌, length, Option, Some, None, refl}
-use Rattle.std.proofs.Common.{sym, subst, inl, inr, ⊎_elim}
+use Rattle.std.proofs.Common.{sym, subst, inl, inr, ⊎_elim, true}
 use Rattle.clf_syntax.specs.declared.tree.Head.{Head}
 use Rattle.clf_syntax.specs.declared.tree.Head.TheVariants.{Const, Var, Meta}
 use Rattle.clf_syntax.specs.Tree.{PlainObject}

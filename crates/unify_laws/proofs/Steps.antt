@@ -1,10 +1,11 @@
 -- Steps that keep the solutions: the order of steps, and the parts of an equation.
+use Rattle.clf_syntax.specs.Simple.{Assignment, SimplyTypedNeutral}
 use Rattle.std.specs.Prelude.{◌≡◌, false, List, [], ◌∷◌, length, refl}
 use Rattle.std.proofs.Common.{sym, subst, ◌∙◌}
 use Rattle.clf_syntax.specs.declared.tree.Mode.{Mode}
 use Rattle.clf_syntax.specs.declared.tree.Head.{Head}
 use Rattle.clf_syntax.specs.Tree.{PlainObject, lam, pair, atomic, PlainNeutral, head_alone, app, fst, snd, head_of}
-use Rattle.clf_syntax.specs.TypeTree.{SimpleType}
+use Rattle.clf_syntax.specs.TypeTree.{SimpleType, arrow, simple_with}
 use Rattle.hered_subst.specs.Substitution.{Image, keep, Environment, under, Substituted, through_lam, through_pair, through_kept, KeepsHead, kept_bare, kept_app, kept_fst, kept_snd}
 use Rattle.hered_subst.specs.TypedEnvironments.{is_metavariable}
 use Rattle.subst_laws.specs.Environments.{Instantiation, instant}
