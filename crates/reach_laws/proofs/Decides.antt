@@ -6,12 +6,11 @@ use Rattle.clf_syntax.specs.declared.tree.Head.{Head}
 use Rattle.clf_syntax.specs.declared.tree.Head.TheVariants.{Const, Var, Meta}
 use Rattle.clf_syntax.specs.Tree.{PlainObject, lam, pair, unit, monadic, atomic, hole, PlainNeutral, head_alone, app, fst, snd, head_of}
 use Rattle.clf_syntax.specs.TypeTree.{SimpleType, arrow, simple_with}
-use Rattle.clf_syntax.specs.Simple.{Assignment, extended, SimplyTyped, SimplyTypedNeutral}
+use Rattle.clf_syntax.specs.Simple.{Assignment, extended, SimplyTyped, SimplyTypedNeutral, no_holes}
 use Rattle.hered_subst.specs.TypedEnvironments.{is_metavariable}
 use Rattle.pattern_laws.specs.Patterns.{Place, Foreign}
 use Rattle.pattern_laws.specs.Equations.{scoped, Locals}
 use Rattle.reach_laws.specs.Reach.{Standing, standing_here, standing_body, standing_left, standing_right, standing_below, StandingBelow, in_this, in_earlier, under_fst, under_snd}
-use Rattle.flat_laws.proofs.FlatReach.{foreign_cases}
 use Rattle.subst_laws.proofs.Variables.{neutral_has_one_type}
 -- where it is decided of a neutral whether it is a metavariable on distinct locals.
 

@@ -1,10 +1,11 @@
 -- What comes down to equations that come down to others comes down to these; and the last pass of unification establishes the rest.
+use Rattle.pattern_laws.specs.Instantiations.{Types}
 use Rattle.std.specs.Prelude.{List, [], ◌∷◌, ◌++◌}
 use Rattle.clf_syntax.specs.Tree.{PlainObject}
 use Rattle.clf_syntax.specs.TypeTree.{SimpleType}
 use Rattle.pattern_laws.specs.Equations.{Equation, Listed, listed_here, listed_later, Locals}
 use Rattle.reach_laws.specs.Laws.{DownFurther}
-use Rattle.reach_laws.specs.Rest.{ComesDown, down_joined, down_listed, down_lam, down_pair, down_neutral, PartsComeDown, no_parts, next_part}
+use Rattle.reach_laws.specs.Rest.{ComesDown, down_joined, down_listed, down_lam, down_pair, down_neutral}
 
 pub down_further : (constants metas : Types) (l k : List Equation) → ((d : Equation) → Listed d l → ComesDown constants metas k d) → {e : Equation} → ComesDown constants metas l e → ComesDown constants metas k e
 down_further constants metas l k f (down_joined j) = down_joined j

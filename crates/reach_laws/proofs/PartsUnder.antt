@@ -5,7 +5,7 @@ use Rattle.clf_syntax.specs.declared.tree.Mode.{Mode}
 use Rattle.clf_syntax.specs.declared.tree.Head.{Head}
 use Rattle.clf_syntax.specs.Tree.{PlainObject, lam, pair, atomic, PlainNeutral, head_alone, app, fst, snd}
 use Rattle.clf_syntax.specs.TypeTree.{SimpleType, base, arrow, simple_with}
-use Rattle.clf_syntax.specs.Simple.{Assignment, extended, no_holes, SimplyTyped, SimplyTypedNeutral}
+use Rattle.clf_syntax.specs.Simple.{Assignment, Families, extended, no_holes, SimplyTyped, SimplyTypedNeutral}
 use Rattle.hered_subst.specs.Substitution.{Image, keep, put, Environment, under, Substituted, through_lam, through_pair, through_kept, KeepsHead, kept_bare, kept_app, kept_fst, kept_snd}
 use Rattle.hered_subst.specs.TypedEnvironments.{is_metavariable, TypedEnvironment}
 use Rattle.hered_subst.proofs.Bounded.{Kept}
@@ -19,13 +19,16 @@ use Rattle.subst_laws.proofs.Variables.{neutral_has_one_type}
 use Rattle.pattern_laws.specs.Instantiations.{Types, closed, Instantiated}
 use Rattle.pattern_laws.specs.Equations.{Locals, scoped, Equation, TypedEquation}
 use Rattle.pattern_laws.proofs.Spines.{under_instant}
-use Rattle.pattern_laws.proofs.Instances.{no_families, typed_scoped}
+use Rattle.pattern_laws.proofs.Instances.{typed_scoped}
 use Rattle.unify_laws.specs.Parts.{SameShape, shape_head, shape_app, shape_fst, shape_snd, PartAt, part_here, part_function, part_fst, part_snd}
 use Rattle.unify_laws.proofs.RigidPlaces.{keeps_head, KeepsOthers, keeps_others}
 use Rattle.unify_laws.proofs.Steps.{shape_heads}
 use Rattle.reach_laws.specs.Laws.{PartsStay}
 use Rattle.reach_laws.specs.Rest.{EquationUnder, PartOf, part_itself, part_body, part_left, part_right, part_argument}
 use Rattle.reach_laws.specs.Unified.{IsAssignment}
+
+no_families : Families
+no_families f = None
 
 from_type : {m k : Mode} {d c e f : SimpleType} → arrow m d c ≡ arrow k e f → e ≡ d
 from_type h = cc
@@ -49,13 +52,22 @@ one_shape g (shape_app {m = m} c) a b p q = sym (to_type (one_shape g c (arrow m
 one_shape g (shape_fst c) a b p q = sym (first_type (one_shape g c (simple_with a p.0) (simple_with b q.0) p.1 q.1))
 one_shape g (shape_snd c) a b p q = sym (second_type (one_shape g c (simple_with p.0 a) (simple_with q.0 b) p.1 q.1))
 
+function_shape : {m k : Mode} {r s : PlainNeutral} {o u : PlainObject} → SameShape (app m r o) (app k s u) → SameShape r s
+function_shape (shape_app h) = h
+
+first_shape : {r s : PlainNeutral} → SameShape (fst r) (fst s) → SameShape r s
+first_shape (shape_fst h) = h
+
+second_shape : {r s : PlainNeutral} → SameShape (snd r) (snd s) → SameShape r s
+second_shape (shape_snd h) = h
+
 -- So their arguments have the type that the first one asks for.
 arguments_typed : (g : Assignment) {o u : PlainObject} {c : SimpleType} {r n : PlainNeutral} → PartAt g o u c r n → SameShape r n → (a b : SimpleType) → SimplyTypedNeutral g r a → SimplyTypedNeutral g n b → SimplyTyped g o c × SimplyTyped g u c
-arguments_typed g {o = o} {u = u} {c = c} (part_here {m = m} {r = r} {s = n} e t) (shape_app h) a b p q = let i : p.0 ≡ c = from_type (neutral_has_one_type (no_holes true) g r (arrow m c e) (arrow m p.0 a) t p.1) in
-    (subst (SimplyTyped g o) i p.2, subst (SimplyTyped g u) (from_type (one_shape g h (arrow m p.0 a) (arrow m q.0 b) p.1 q.1) ∙ i) q.2)
-arguments_typed g (part_function {m = m} t) (shape_app h) a b p q = arguments_typed g t h (arrow m p.0 a) (arrow m q.0 b) p.1 q.1
-arguments_typed g (part_fst t) (shape_fst h) a b p q = arguments_typed g t h (simple_with a p.0) (simple_with b q.0) p.1 q.1
-arguments_typed g (part_snd t) (shape_snd h) a b p q = arguments_typed g t h (simple_with p.0 a) (simple_with q.0 b) p.1 q.1
+arguments_typed g {o = o} {u = u} {c = c} (part_here {m = m} {r = r} {s = n} e t) h a b p q = let i : p.0 ≡ c = from_type (neutral_has_one_type (no_holes true) g r (arrow m c e) (arrow m p.0 a) t p.1) in
+    (subst (SimplyTyped g o) i p.2, subst (SimplyTyped g u) (from_type (one_shape g (function_shape h) (arrow m p.0 a) (arrow m q.0 b) p.1 q.1) ∙ i) q.2)
+arguments_typed g (part_function {m = m} t) h a b p q = arguments_typed g t (function_shape h) (arrow m p.0 a) (arrow m q.0 b) p.1 q.1
+arguments_typed g (part_fst t) h a b p q = arguments_typed g t (first_shape h) (simple_with a p.0) (simple_with b q.0) p.1 q.1
+arguments_typed g (part_snd t) h a b p q = arguments_typed g t (second_shape h) (simple_with p.0 a) (simple_with q.0 b) p.1 q.1
 
 body_typed : (g : Assignment) (m : Mode) (b : PlainObject) (d a : SimpleType) → SimplyTyped g (lam m b) (arrow m d a) → SimplyTyped (extended d g) b a
 body_typed g m b d a t = subst (λ e. SimplyTyped (extended e g) b a) (from_type t.2) (subst (λ c. SimplyTyped (extended t.0 g) b c) (to_type t.2) t.3)
@@ -79,7 +91,7 @@ not_put e f = cc
 
 -- A neutral whose head is kept stays typed.
 kept_neutral : {s : Environment} {n x : PlainNeutral} → KeepsHead s n x → (g z : Assignment) → Kept true g z s → {t : SimpleType} → TypedNeutral true g n t → TypedNeutral true z x t
-kept_neutral (kept_bare {h = h} e) g z f (typed_bare {t = t} p) = ⊎_elim (λ a. typed_bare (subst (λ j. z j ≡ Some t) (one_head a.1 e) a.2)) (λ a. absurd (not_put e a.1)) (f h t p)
+kept_neutral (kept_bare {h = h} e) g z f (typed_bare {t = t} p) = ⊎_elim (λ a. typed_bare (subst (λ j. z j ≡ Some t) (one_head e a.1) a.2)) (λ a. absurd (not_put e a.1)) (f h t p)
 kept_neutral {s = s} (kept_app i k) g z f (typed_app {d = d} p q) = typed_app (kept_neutral i g z f p) (let (y, l, t) = total_object true g z s f q in subst (λ o. Typed true z o d) (determined l k) t)
 kept_neutral (kept_fst i) g z f (typed_fst p) = typed_fst (kept_neutral i g z f p)
 kept_neutral (kept_snd i) g z f (typed_snd p) = typed_snd (kept_neutral i g z f p)

@@ -42,11 +42,11 @@ pub down_solved : (constants metas parameters : Types) (t : Instantiation) → I
 down_solved constants metas parameters t i left f (down_joined {e = e} j) p = joined_solved constants metas parameters t i e p j
 down_solved constants metas parameters t i left f (down_listed {e = e} l) p = f e l
 down_solved constants metas parameters t i left f (down_lam {ls = ls} {m = m} {b = b} {c = c} {d = d} {a = a} h) p = (lam_part t ls d m b c (arrow m d a) a).1
-    (down_solved constants metas parameters t i left f h (part_typed constants metas (part_body part_itself) p))
+    (down_solved constants metas parameters t i left f h (part_typed constants metas (part_body {ls = ls} {m = m} {b = b} {c = c} {d = d} {a = a} part_itself) p))
 down_solved constants metas parameters t i left f (down_pair {ls = ls} {l = l} {k = k} {r = r} {s = s} {c = c} {d = d} h g) p = (pair_parts t ls l k r s (simple_with c d) c d).1
-    (down_solved constants metas parameters t i left f h (part_typed constants metas (part_left r s d part_itself) p), down_solved constants metas parameters t i left f g (part_typed constants metas (part_right l k c part_itself) p))
+    (down_solved constants metas parameters t i left f h (part_typed constants metas (part_left {ls = ls} {l = l} {k = k} {c = c} r s d part_itself) p), down_solved constants metas parameters t i left f g (part_typed constants metas (part_right {ls = ls} {r = r} {s = s} {d = d} l k c part_itself) p))
 down_solved constants metas parameters t i left f (down_neutral {ls = ls} {r = r} {n = n} {f = a} h g) p = neutral_whole t ls (scoped ls (closed constants metas)) r n (base a) h p.0.1
-    (λ o u c q. down_solved constants metas parameters t i left f (g o u c q) (part_typed constants metas (part_argument r n a part_itself h q) p))
+    (λ o u c q. down_solved constants metas parameters t i left f (g o u c q) (part_typed constants metas (part_argument {ls = ls} {o = o} {u = u} {c = c} r n a part_itself h q) p))
 
 pub rest_solves : (constants metas parameters : Types) (t : Instantiation) → Instantiates constants metas parameters t → (es left : List Equation) → TypedEquations constants metas es → Rest constants metas es left
     → (SolvesEach (instant t) es → SolvesEach (instant t) left) × (SolvesEach (instant t) left → SolvesEach (instant t) es)

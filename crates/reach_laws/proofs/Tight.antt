@@ -1,4 +1,5 @@
 -- What the solutions give the metavariables of the start, with all solutions put in, is tight for these.
+use Rattle.reach_laws.specs.Unified.{IsAssignment, HoldsUnsolved}
 use Rattle.std.specs.Prelude.{ℕ, Bool, true, false, ◌≡◌, ◌<◌, ◌⊎◌, nat_eq, List, [], ◌∷◌, ◌++◌, Option, Some, None, refl}
 use Rattle.std.proofs.Common.{ap, sym, subst, ◌∙◌, arith, inl, inr, ⊎_elim, append_assoc}
 use Rattle.clf_syntax.specs.declared.tree.Head.TheVariants.{Const, Var, Meta}
@@ -15,11 +16,11 @@ use Rattle.pattern_laws.specs.Instantiations.{Types, closed}
 use Rattle.pattern_laws.specs.Equations.{scoped, Locals}
 use Rattle.pattern_laws.specs.Mentions.{mentions, mentions_neutral, mentions_expression, mentions_tuple}
 use Rattle.pattern_laws.specs.PutIn.{PutIn}
-use Rattle.unify_laws.specs.Problems.{Problem, WellTyped}
-use Rattle.unify_laws.specs.Progress.{Progress, CameFrom}
+use Rattle.unify_laws.specs.Problems.{Problem, WellTyped, Stays}
+use Rattle.unify_laws.specs.Progress.{Progress, CameFrom, Traced}
 use Rattle.unify_laws.proofs.Preserved.{Fits}
 use Rattle.reach_laws.specs.Reach.{Standing, standing_here, standing_body}
-use Rattle.reach_laws.specs.Rest.{Tight}
+use Rattle.reach_laws.specs.Rest.{Tight, StandsIn}
 use Rattle.reach_laws.proofs.Tightness.{new_one_stands}
 
 same_number : (i v : ℕ) → nat_eq i v ≡ true → i ≡ v

@@ -22,7 +22,7 @@ use Rattle.pattern_laws.proofs.Cores.{beneath_out}
 use Rattle.pattern_laws.proofs.Masks.{masked_fitting}
 use Rattle.pattern_laws.proofs.Places.{same_types}
 use Rattle.unify_laws.specs.Problems.{Problem}
-use Rattle.unify_laws.specs.Progress.{Progress, CameFrom}
+use Rattle.unify_laws.specs.Progress.{Progress, CameFrom, Traced}
 use Rattle.unify_laws.proofs.Preserved.{Fits, Along, along, masked_fits}
 
 -- the places with their variables renumbered

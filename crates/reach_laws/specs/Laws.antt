@@ -1,12 +1,18 @@
 -- Laws of reach and rest, as statements; the functions of the crate's `laws` state them.
-use Rattle.std.specs.Prelude.{ℕ, Bool}
-use Rattle.subst_laws.specs.Environments.{Instantiation}
-use Rattle.pattern_laws.specs.Instantiations.{Types}
+use Rattle.std.specs.Prelude.{ℕ, Bool, false, ◌≡◌, List, Some, None}
+use Rattle.clf_syntax.specs.Tree.{PlainObject}
+use Rattle.clf_syntax.specs.TypeTree.{SimpleType}
+use Rattle.clf_syntax.specs.Simple.{SimplyTyped}
+use Rattle.hered_subst.specs.Substitution.{Substituted}
+use Rattle.subst_laws.specs.Environments.{Instantiation, instant}
+use Rattle.pattern_laws.specs.Mentions.{mentions}
+use Rattle.pattern_laws.specs.Instantiations.{Types, closed, set, Instantiates}
 use Rattle.pattern_laws.specs.PutIn.{PutIn}
-use Rattle.unify_laws.specs.Problems.{Problem, WellTyped, Stays}
+use Rattle.pattern_laws.specs.Equations.{Equation, SolvesEach, TypedEquation, TypedEquations, Listed}
+use Rattle.unify_laws.specs.Problems.{Problem, WellTyped, Stays, KeepsSolutions}
 use Rattle.unify_laws.specs.Progress.{Traced}
-use Rattle.reach_laws.specs.Rest.{Tight}
-use Rattle.reach_laws.specs.Unified.{IsAssignment, HoldsUnsolved}
+use Rattle.reach_laws.specs.Rest.{ComesDown, PartOf, EquationUnder, Rest, Tight}
+use Rattle.reach_laws.specs.Unified.{IsAssignment, HoldsUnsolved, IsPutIn, Unified}
 
 -- What the solutions give the metavariables that were unsolved at the start is tight for these, where solutions are only added and each new metavariable came from another.
 abbrev pub IsTight : Type 0
