@@ -1,0 +1,4 @@
+pub mod Gets
+pub mod TablesLaws
+pub mod Rests
+pub mod Becomings
