@@ -17,7 +17,7 @@ use Rattle.subst_laws.specs.Environments.{Instantiation, instant, image_or}
 use Rattle.metavars.specs.declared.value.Outcome.{Outcome}
 use Rattle.metavars.specs.declared.value.Outcome.TheVariants.{Kept as KeptOutcome, Solved}
 use Rattle.store_laws.specs.Additions.{given}
-use Rattle.store_laws.specs.PutIn.{PutIn}
+use Rattle.store_laws.specs.PutIn.{PutIn, IsClosed}
 use Rattle.metavars.specs.Stored.{Stored, additions}
 use Rattle.metavars.specs.Becoming.{Object, Kept, Value, Expression, Typing, TelescopeOf, Entry, TypingEntry, Each, none, next}
 use Rattle.metavars.specs.Outcomes.{AppliedTo, FirstOf, SecondOf, BecomesOutcome, IsKept, IsSolved, UnderArgument, UnderFirst, UnderSecond, ValueInFront, flat_in_front, meta_in_front, InFront}
@@ -27,7 +27,7 @@ use Rattle.metavars.specs.Outcomes.{AppliedTo, FirstOf, SecondOf, BecomesOutcome
 closed-stays : (n : ℕ) (x : PlainObject) → ((v : ℕ) → occurs v x ≡ false) → ren (up n) x ≡ x
 closed-stays n x h = agreeing (up n) (λ i. i) x (λ i e. absurd (not_both e (h i))) ∙ identity x
 
-module _ (s : Instantiation) (h : (m : ℕ) (x : PlainObject) → s m ≡ Some x → (v : ℕ) → occurs v x ≡ false) where
+module _ (s : Instantiation) (h : IsClosed s) where
   stays-put : (n m : ℕ) (i : Option PlainObject) → s m ≡ i → ren_image (up n) (image_or (Meta m) i) ≡ image_or (Meta m) i
   stays-put n m None e = refl
   stays-put n m (Some x) e = ap put (closed-stays n x (h m x e))
@@ -45,49 +45,49 @@ module _ (s : Instantiation) (h : (m : ℕ) (x : PlainObject) → s m ≡ Some x
 module _ (store : Stored) where
   pub object-lam : (m : Mode) (b x : PlainObject) → Object store b x → Object store (lam m b) (lam m x)
   unfolding Object
-  object-lam m b x h = λ s p. through_lam (subst (λ z. Substituted z b x) (sym (under-closed s p.closed 1)) (h s p))
+  object-lam m b x h = λ s p c. through_lam (subst (λ z. Substituted z b x) (sym (under-closed s c 1)) (h s p c))
 
   pub object-pair : (l r x y : PlainObject) → Object store l x → Object store r y → Object store (pair l r) (pair x y)
   unfolding Object
-  object-pair l r x y h k = λ s p. through_pair (h s p) (k s p)
+  object-pair l r x y h k = λ s p c. through_pair (h s p c) (k s p c)
 
   pub object-unit : Object store unit unit
   unfolding Object
-  object-unit = λ s p. through_unit
+  object-unit = λ s p c. through_unit
 
   pub object-hole : Object store hole hole
   unfolding Object
-  object-hole = λ s p. through_hole
+  object-hole = λ s p c. through_hole
 
   pub object-monadic : (e f : PlainExpression) → Expression store e f → Object store (monadic e) (monadic f)
   unfolding Object Expression
-  object-monadic e f h = λ s p. through_monadic (h s p)
+  object-monadic e f h = λ s p c. through_monadic (h s p c)
 
   pub object-kept : (n x : PlainNeutral) → Kept store n x → Object store (atomic n) (atomic x)
   unfolding Object Kept
-  object-kept n x h = λ s p. through_kept (h s p)
+  object-kept n x h = λ s p c. through_kept (h s p c)
 
   pub object-value : (n : PlainNeutral) (x : PlainObject) → Value store n x → Object store (atomic n) x
   unfolding Object Value
-  object-value n x h = λ s p. through_value (h s p)
+  object-value n x h = λ s p c. through_value (h s p c)
 
   -- ---- heads
 
   pub kept-const : (c : ℕ) → Kept store (head_alone (Const c)) (head_alone (Const c))
   unfolding Kept
-  kept-const c = λ s p. kept_bare refl
+  kept-const c = λ s p c. kept_bare refl
 
   pub kept-var : (i : ℕ) → Kept store (head_alone (Var i)) (head_alone (Var i))
   unfolding Kept
-  kept-var i = λ s p. kept_bare refl
+  kept-var i = λ s p c. kept_bare refl
 
   pub kept-meta : (m : ℕ) → given (additions store) m ≡ None → Kept store (head_alone (Meta m)) (head_alone (Meta m))
   unfolding Kept
-  kept-meta m e = λ s p. kept_bare (ap (image_or (Meta m)) (p.unsolved m e))
+  kept-meta m e = λ s p c. kept_bare (ap (image_or (Meta m)) (p.unsolved m e))
 
   pub value-meta : (m : ℕ) (o x : PlainObject) → given (additions store) m ≡ Some o → Object store o x → Value store (head_alone (Meta m)) x
   unfolding Value Object
-  value-meta m o x e h = λ s p. let (y, f, q) = p.solved m o e in value_bare (ap (image_or (Meta m)) f ∙ ap put (determined q (h s p)))
+  value-meta m o x e h = λ s p c. let (y, f, q) = p.solved m o e in value_bare (ap (image_or (Meta m)) f ∙ ap put (determined q (h s p c)))
 
   pub outcome-kept : (n : PlainNeutral) (o : Outcome) → IsKept n o → Kept store n n → BecomesOutcome store n o
   outcome-kept n (KeptOutcome x) e h = subst (Kept store n) (sym e) h
@@ -101,27 +101,27 @@ module _ (store : Stored) where
 
   kept-app : (m : Mode) (r x : PlainNeutral) (o y : PlainObject) → Kept store r x → Object store o y → Kept store (app m r o) (app m x y)
   unfolding Kept Object
-  kept-app m r x o y h k = λ s p. kept_app (h s p) (k s p)
+  kept-app m r x o y h k = λ s p c. kept_app (h s p c) (k s p c)
 
   kept-fst : (r x : PlainNeutral) → Kept store r x → Kept store (fst r) (fst x)
   unfolding Kept
-  kept-fst r x h = λ s p. kept_fst (h s p)
+  kept-fst r x h = λ s p c. kept_fst (h s p c)
 
   kept-snd : (r x : PlainNeutral) → Kept store r x → Kept store (snd r) (snd x)
   unfolding Kept
-  kept-snd r x h = λ s p. kept_snd (h s p)
+  kept-snd r x h = λ s p c. kept_snd (h s p c)
 
   value-app : (m : Mode) (r : PlainNeutral) (f o y x : PlainObject) → Value store r f → Object store o y → AppliedTo m f y x → Value store (app m r o) x
   unfolding Value Object
-  value-app m r f o y x h k (b, e, q) = λ s p. value_app (subst (HasValue (instant s) r) e (h s p)) (k s p) q
+  value-app m r f o y x h k (b, e, q) = λ s p c. value_app (subst (HasValue (instant s) r) e (h s p c)) (k s p c) q
 
   value-fst : (r : PlainNeutral) (f x : PlainObject) → Value store r f → FirstOf f x → Value store (fst r) x
   unfolding Value
-  value-fst r f x h (y, e) = λ s p. value_fst (subst (HasValue (instant s) r) e (h s p))
+  value-fst r f x h (y, e) = λ s p c. value_fst (subst (HasValue (instant s) r) e (h s p c))
 
   value-snd : (r : PlainNeutral) (f x : PlainObject) → Value store r f → SecondOf f x → Value store (snd r) x
   unfolding Value
-  value-snd r f x h (y, e) = λ s p. value_snd (subst (HasValue (instant s) r) e (h s p))
+  value-snd r f x h (y, e) = λ s p c. value_snd (subst (HasValue (instant s) r) e (h s p c))
 
   pub under-argument : (m : Mode) (r : PlainNeutral) (o y : PlainObject) (v w : Outcome) → BecomesOutcome store r v → Object store o y → UnderArgument m y v w → BecomesOutcome store (app m r o) w
   under-argument m r o y (KeptOutcome v) (KeptOutcome w) h k e = subst (Kept store (app m r o)) (sym e) (kept-app m r (plain_neutral v) o y h k)
@@ -143,23 +143,23 @@ module _ (store : Stored) where
 
   -- ---- expressions
 
-  entries : (s : Instantiation) → PutIn (given (additions store)) s → {es xs : List (Mode × PlainObject)} → Each (Entry store) es xs → SubstitutedTuple (instant s) (tuple_of es) (tuple_of xs)
+  entries : (s : Instantiation) → PutIn (given (additions store)) s → IsClosed s → {es xs : List (Mode × PlainObject)} → Each (Entry store) es xs → SubstitutedTuple (instant s) (tuple_of es) (tuple_of xs)
   unfolding Entry Object
-  entries s p none = through_empty
-  entries s p (next {x = x} {y = y} {xs = xs} {ys = ys} h hs) = subst (λ m. SubstitutedTuple (instant s) (tuple_of (x ∷ xs)) (tuple_of ((m, y.1) ∷ ys))) h.0 (through_entry (h.1 s p) (entries s p hs))
+  entries s p c none = through_empty
+  entries s p c (next {x = x} {y = y} {xs = xs} {ys = ys} h hs) = subst (λ m. SubstitutedTuple (instant s) (tuple_of (x ∷ xs)) (tuple_of ((m, y.1) ∷ ys))) h.0 (through_entry (h.1 s p c) (entries s p c hs))
 
   pub expression-done : (es xs : List (Mode × PlainObject)) → Each (Entry store) es xs → Expression store (done (tuple_of es)) (done (tuple_of xs))
   unfolding Expression
-  expression-done es xs h = λ s p. through_done (entries s p h)
+  expression-done es xs h = λ s p c. through_done (entries s p c h)
 
   step-kept : (ms : List Mode) (r x : PlainNeutral) (e f : PlainExpression) → Kept store r x → Expression store e f → Expression store (step ms r e) (step ms x f)
   unfolding Kept Expression
-  step-kept ms r x e f h k = λ s p. step_kept (h s p) (subst (λ z. SubstitutedExpression z e f) (sym (under-closed s p.closed (length ms))) (k s p))
+  step-kept ms r x e f h k = λ s p c. step_kept (h s p c) (subst (λ z. SubstitutedExpression z e f) (sym (under-closed s c (length ms))) (k s p c))
 
   step-value : (ms : List Mode) (r : PlainNeutral) (v : PlainObject) (e f x : PlainExpression) → Value store r v → Expression store e f → ValueInFront ms v f x → Expression store (step ms r e) x
   unfolding Value Expression
-  step-value ms r v e f x h k (flat_in_front q) = λ s p. step_value (h s p) (subst (λ z. SubstitutedExpression z e f) (sym (under-closed s p.closed (length ms))) (k s p)) q
-  step-value ms r v e f x h k (meta_in_front q) = λ s p. step_meta (h s p) q (subst (λ z. SubstitutedExpression z e f) (sym (under-closed s p.closed (length ms))) (k s p))
+  step-value ms r v e f x h k (flat_in_front q) = λ s p c. step_value (h s p c) (subst (λ z. SubstitutedExpression z e f) (sym (under-closed s c (length ms))) (k s p c)) q
+  step-value ms r v e f x h k (meta_in_front q) = λ s p c. step_meta (h s p c) q (subst (λ z. SubstitutedExpression z e f) (sym (under-closed s c (length ms))) (k s p c))
 
   pub step-in-front : (ms : List Mode) (r : PlainNeutral) (o : Outcome) (e f x : PlainExpression) → BecomesOutcome store r o → Expression store e f → InFront ms o f x → Expression store (step ms r e) x
   step-in-front ms r (KeptOutcome n) e f x h k q = subst (Expression store (step ms r e)) (sym q) (step-kept ms r (plain_neutral n) e f h k)
@@ -167,40 +167,40 @@ module _ (store : Stored) where
 
   -- ---- types
 
-  indices : (s : Instantiation) → PutIn (given (additions store)) s → {ns xs : List PlainObject} → Each (Object store) ns xs → SubstitutedEach (instant s) ns xs
+  indices : (s : Instantiation) → PutIn (given (additions store)) s → IsClosed s → {ns xs : List PlainObject} → Each (Object store) ns xs → SubstitutedEach (instant s) ns xs
   unfolding Object
-  indices s p none = each_none
-  indices s p (next h hs) = each_next (h s p) (indices s p hs)
+  indices s p c none = each_none
+  indices s p c (next h hs) = each_next (h s p c) (indices s p c hs)
 
   pub type-family : (f : ℕ) (ns xs : List PlainObject) → Each (Object store) ns xs → Typing store (family f ns) (family f xs)
   unfolding Typing
-  type-family f ns xs h = λ s p. in_family (indices s p h)
+  type-family f ns xs h = λ s p c. in_family (indices s p c h)
 
   pub type-function : (m : Mode) (a b x y : PlainType) → Typing store a x → Typing store b y → Typing store (function m a b) (function m x y)
   unfolding Typing
-  type-function m a b x y h k = λ s p. in_function (h s p) (subst (λ z. SubstitutedType z b y) (sym (under-closed s p.closed 1)) (k s p))
+  type-function m a b x y h k = λ s p c. in_function (h s p c) (subst (λ z. SubstitutedType z b y) (sym (under-closed s c 1)) (k s p c))
 
   pub type-both : (a b x y : PlainType) → Typing store a x → Typing store b y → Typing store (both a b) (both x y)
   unfolding Typing
-  type-both a b x y h k = λ s p. in_both (h s p) (k s p)
+  type-both a b x y h k = λ s p c. in_both (h s p c) (k s p c)
 
   pub type-top : Typing store top top
   unfolding Typing
-  type-top = λ s p. in_top
+  type-top = λ s p c. in_top
 
-  telescope : (s : Instantiation) → PutIn (given (additions store)) s → {es xs : List (Mode × PlainType)} → Each (TypingEntry store) es xs → SubstitutedTelescope (instant s) (telescope_of es) (telescope_of xs)
+  telescope : (s : Instantiation) → PutIn (given (additions store)) s → IsClosed s → {es xs : List (Mode × PlainType)} → Each (TypingEntry store) es xs → SubstitutedTelescope (instant s) (telescope_of es) (telescope_of xs)
   unfolding TypingEntry Typing
-  telescope s p none = in_end
-  telescope s p (next {x = x} {y = y} {xs = xs} {ys = ys} h hs) = subst (λ m. SubstitutedTelescope (instant s) (telescope_of (x ∷ xs)) (telescope_of ((m, y.1) ∷ ys))) h.0
-      (in_binding (h.1 s p) (subst (λ z. SubstitutedTelescope z (telescope_of xs) (telescope_of ys)) (sym (under-closed s p.closed 1)) (telescope s p hs)))
+  telescope s p c none = in_end
+  telescope s p c (next {x = x} {y = y} {xs = xs} {ys = ys} h hs) = subst (λ m. SubstitutedTelescope (instant s) (telescope_of (x ∷ xs)) (telescope_of ((m, y.1) ∷ ys))) h.0
+      (in_binding (h.1 s p c) (subst (λ z. SubstitutedTelescope z (telescope_of xs) (telescope_of ys)) (sym (under-closed s c 1)) (telescope s p c hs)))
 
   pub telescope-entries : (es xs : List (Mode × PlainType)) → Each (TypingEntry store) es xs → TelescopeOf store (telescope_of es) (telescope_of xs)
   unfolding TelescopeOf
-  telescope-entries es xs h = λ s p. telescope s p h
+  telescope-entries es xs h = λ s p c. telescope s p c h
 
   pub type-monad : (t x : PlainTelescope) → TelescopeOf store t x → Typing store (monad t) (monad x)
   unfolding Typing TelescopeOf
-  type-monad t x h = λ s p. in_monad (h s p)
+  type-monad t x h = λ s p c. in_monad (h s p c)
 
   -- ---- entries
 

@@ -2,3 +2,4 @@ pub mod Gets
 pub mod TablesLaws
 pub mod Rests
 pub mod Becomings
+pub mod Measure

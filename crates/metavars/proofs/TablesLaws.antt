@@ -2,7 +2,7 @@
 use Rattle.std.specs.Prelude.{ℕ, zero, suc, ◌+◌, ◌<◌, ◌≤◌, ◌≡◌, ◌≢◌, ◌⊎◌, nat_eq, Bool, true, false, if◌then◌else◌, List, [], ◌∷◌, ◌++◌, length, map, take, drop, Option, Some, None, slice_get, slice_set, refl}
 use Rattle.std.proofs.Common.{ap, sym, subst, inl, inr, ⊎_elim, ◌∙◌, arith}
 use Rattle.std.specs.Option.{option_map}
-use Rattle.std.proofs.Math.Seq.{take-append_seam}
+use Rattle.std.proofs.Math.Seq.{take-append_seam, take-length}
 use Rattle.std.proofs.lemmas.List.{length-append, take-append-le, take-append-drop, length-set}
 use Rattle.std.proofs.lemmas.Bool.{eq-eqb, eqb-true}
 use Rattle.std.proofs.lemmas.Option.{slice_get_within}
@@ -17,7 +17,7 @@ use Rattle.metavars.specs.declared.tables.Tables.{Tables}
 use Rattle.store_laws.specs.Additions.{given, meta_types}
 use Rattle.metavars.specs.Stored.{Added, added_new, added_solved, plain_added}
 use Rattle.metavars.specs.Tables.{told, listed, new_ones, AreTables, with_row, with_new, with_solved, place_in, inner_place, object_in, object_of}
-use Rattle.metavars.proofs.Gets.{get-front, get-last, get-split, get-set_same, get-set_other, slice_get_none}
+use Rattle.metavars.proofs.Gets.{get-front, get-last, get-split, get-set_same, get-set_other, slice_get_none, take-take}
 
 -- ---- counts
 
@@ -210,29 +210,29 @@ no_solution : (xs : List Addition) (ts : List Simple) (m : ℕ) → length ts �
 no_solution [] ts m h n = refl
 no_solution (New ∷ xs) [] m h n = absurd (omega arith)
 no_solution (New ∷ xs) (u ∷ ts) m h n = no_solution xs ts m (omega arith) (λ p o e. n (suc p) o e)
-no_solution (Solved k u ∷ xs) ts m h n = picked (nat_eq k m) refl
+no_solution (Solved k u ∷ xs) ts m h n = picked (nat_eq m k) refl
   where
-    picked : (b : Bool) → nat_eq k m ≡ b → (if b then Some (plain_obj u) else given (map plain_added (told xs ts)) m) ≡ None
-    picked true e = absurd (n 0 u (ap (λ j. Some (Solved j u)) (eqb-true k m e)))
+    picked : (b : Bool) → nat_eq m k ≡ b → (if b then Some (plain_obj u) else given (map plain_added (told xs ts)) m) ≡ None
+    picked true e = absurd (n 0 u (ap (λ j. Some (Solved j u)) (sym (eqb-true m k e))))
     picked false e = no_solution xs ts m h (λ p o f. n (suc p) o f)
 
 one_solution : (xs : List Addition) (ts : List Simple) (m p : ℕ) (o : Obj) → length ts ≡ new_ones xs → slice_get xs p ≡ Some (Solved m o) → ((q : ℕ) (u : Obj) → slice_get xs q ≡ Some (Solved m u) → q ≡ p)
     → given (map plain_added (told xs ts)) m ≡ Some (plain_obj o)
-one_solution [] ts m p o h e n = cc
+one_solution [] ts m p o h e n = absurd (cc)
 one_solution (New ∷ xs) [] m p o h e n = absurd (omega arith)
 one_solution (New ∷ xs) (u ∷ ts) m zero o h e n = absurd (not_new (cc (e)))
 one_solution (New ∷ xs) (u ∷ ts) m (suc p) o h e n = one_solution xs ts m p o (omega arith) e (λ q v f. omega (arith, n (suc q) v f))
-one_solution (Solved k u ∷ xs) ts m p o h e n = picked p e n (nat_eq k m) refl
+one_solution (Solved k u ∷ xs) ts m p o h e n = picked p e n (nat_eq m k) refl
   where
-    picked : (p : ℕ) → slice_get (Solved k u ∷ xs) p ≡ Some (Solved m o) → ((q : ℕ) (v : Obj) → slice_get (Solved k u ∷ xs) q ≡ Some (Solved m v) → q ≡ p) → (b : Bool) → nat_eq k m ≡ b
+    picked : (p : ℕ) → slice_get (Solved k u ∷ xs) p ≡ Some (Solved m o) → ((q : ℕ) (v : Obj) → slice_get (Solved k u ∷ xs) q ≡ Some (Solved m v) → q ≡ p) → (b : Bool) → nat_eq m k ≡ b
         → (if b then Some (plain_obj u) else given (map plain_added (told xs ts)) m) ≡ Some (plain_obj o)
     picked zero e n true f = ap (λ v. Some (plain_obj v)) (cc (e))
-    picked zero e n false f = let same : k ≡ m = cc (e) in absurd (not_both (eq-eqb k m same) f)
-    picked (suc p) e n true f = absurd (omega (arith, n 0 u (ap (λ j. Some (Solved j u)) (eqb-true k m f))))
+    picked zero e n false f = let same : k ≡ m = cc (e) in absurd (not_both (eq-eqb m k (sym same)) f)
+    picked (suc p) e n true f = absurd (omega (arith, n 0 u (ap (λ j. Some (Solved j u)) (sym (eqb-true m k f)))))
     picked (suc p) e n false f = one_solution xs ts m p o h e (λ q v g. omega (arith, n (suc q) v g))
 
 inner : (x : Option (Option ℕ)) (p : ℕ) → inner_place x ≡ Some p → x ≡ Some (Some p)
-inner None p e = cc
+inner None p e = absurd (cc)
 inner (Some q) p e = ap Some e
 
 not_inner : (x : Option (Option ℕ)) (p : ℕ) → inner_place x ≡ None → x ≡ Some (Some p) → ⊥
@@ -268,3 +268,23 @@ told-types (Solved k u ∷ xs) ts h = told-types xs ts h
 
 pub listed-types : (t : Tables) → AreTables t → meta_types (map plain_added (listed t)) ≡ map plain_simple t.metas
 listed-types t h = told-types t.added t.metas h.typed
+
+-- ---- the front of what was told
+
+pub record IsFront (count : ℕ) (old new : Tables) : Type 0 where
+  pub tables : AreTables new
+  pub count : count ≤ length new.added
+  pub within : length new.added ≤ length old.added
+  pub listed : listed new ≡ take (length new.added) (listed old)
+
+pub front-all : (count : ℕ) (t : Tables) → AreTables t → count ≤ length t.added → IsFront count t t
+front-all count t h le = record { tables = h; count = le; within = omega arith; listed = sym (ap (λ n. take n (listed t)) (sym (listed-length t h)) ∙ take-length (listed t)) }
+
+pub front-less : (count : ℕ) (old now new : Tables) → IsFront count old now → AreTables new → length now.added ≡ length new.added + 1 → count < length now.added → listed new ≡ take (length new.added) (listed now) → IsFront count old new
+front-less count old now new f h one less e = record { tables = h; count = omega (arith, one, less); within = omega (arith, f.within, one); listed = e ∙ ap (take (length new.added)) f.listed ∙ take-take (length new.added) (length now.added) (listed old) (omega (arith, one)) }
+
+pub front-done : (count : ℕ) (old new : Tables) → IsFront count old new → length new.added ≤ count → listed new ≡ take count (listed old)
+front-done count old new f le = f.listed ∙ ap (λ n. take n (listed old)) (same f.count le)
+  where
+    same : count ≤ length new.added → length new.added ≤ count → length new.added ≡ count
+    same a b = omega arith

@@ -14,4 +14,3 @@ pub mod Tables
 pub mod Becoming
 pub mod Outcomes
 pub mod Inside
-pub mod Scopes

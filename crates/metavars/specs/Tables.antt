@@ -10,17 +10,17 @@ use Rattle.metavars.specs.Stored.{Added, added_new, added_solved}
 -- the additions with the simple types of the new metavariables
 abbrev pub told : List Addition → List Simple → List Added
 told [] ts = []
-told (New ∷ as) [] = []
-told (New ∷ as) (t ∷ ts) = added_new t ∷ told as ts
-told (Solved m o ∷ as) ts = added_solved m o ∷ told as ts
+told (New ∷ xs) [] = []
+told (New ∷ xs) (t ∷ ts) = added_new t ∷ told xs ts
+told (Solved m o ∷ xs) ts = added_solved m o ∷ told xs ts
 
 abbrev pub listed : Tables → List Added
 listed t = told t.added t.metas
 
 abbrev pub new_ones : List Addition → ℕ
 new_ones [] = 0
-new_ones (New ∷ as) = new_ones as + 1
-new_ones (Solved m o ∷ as) = new_ones as
+new_ones (New ∷ xs) = new_ones xs + 1
+new_ones (Solved m o ∷ xs) = new_ones xs
 
 -- There is a row for each new metavariable, and the places of the solutions are those of the additions that solve; what is solved was there before.
 pub record AreTables (t : Tables) : Type 0 where

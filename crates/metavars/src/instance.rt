@@ -6,7 +6,7 @@ ghost use Rattle.clf_syntax.specs.Wide.{IsWant};
 ghost use Rattle.hered_subst.specs.Substitution.{Substituted, SubstitutedType};
 ghost use Rattle.subst_laws.specs.Environments.{Instantiation, instant};
 ghost use Rattle.store_laws.specs.Additions.{given};
-ghost use Rattle.store_laws.specs.PutIn.{PutIn};
+ghost use Rattle.store_laws.specs.PutIn.{PutIn, IsClosed};
 ghost use Rattle.metavars.specs.Stored.{additions};
 
 use crate::instantiate::{Looking, put_object};
@@ -29,7 +29,7 @@ fn want(alloc: Global, fault: PutFault) -> Want
 impl Store {
     /// The object with all solutions put in. A hole stays.
     pub fn instantiate(&self, obj: &Obj) -> Result<Obj, Want>
-        ensures put_in { IfOk result (λ x. (s : Instantiation) → PutIn (given (additions self.now)) s → Substituted (instant s) (plain_obj obj.now) (plain_obj x)) }
+        ensures put_in { IfOk result (λ x. (s : Instantiation) → PutIn (given (additions self.now)) s → IsClosed s → Substituted (instant s) (plain_obj obj.now) (plain_obj x)) }
         ensures wanting { IfErr result IsWant }
     {
         let alloc = self.alloc();
@@ -41,7 +41,7 @@ impl Store {
 
     /// The type with all solutions put in. A hole stays.
     pub fn instantiate_ty(&self, ty: &Ty) -> Result<Ty, Want>
-        ensures put_in { IfOk result (λ x. (s : Instantiation) → PutIn (given (additions self.now)) s → SubstitutedType (instant s) (plain_ty ty.now) (plain_ty x)) }
+        ensures put_in { IfOk result (λ x. (s : Instantiation) → PutIn (given (additions self.now)) s → IsClosed s → SubstitutedType (instant s) (plain_ty ty.now) (plain_ty x)) }
         ensures wanting { IfErr result IsWant }
     {
         let alloc = self.alloc();

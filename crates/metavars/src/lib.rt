@@ -1,7 +1,6 @@
 //! Metavariables and their solutions.
 #![tactic(auto)]
 
-mod fresh;
 mod instance;
 mod instantiate;
 mod rest;

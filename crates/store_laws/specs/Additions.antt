@@ -15,15 +15,15 @@ pub data Addition : Type 0 where
 -- the simple types of the metavariables, by number
 abbrev pub meta_types : List Addition → List SimpleType
 meta_types [] = []
-meta_types (new t ∷ as) = t ∷ meta_types as
-meta_types (solved m o ∷ as) = meta_types as
+meta_types (new t ∷ zs) = t ∷ meta_types zs
+meta_types (solved m o ∷ zs) = meta_types zs
 
 -- The solutions, as they were given: the metavariables in them may have solutions in turn.
 abbrev pub given : List Addition → Instantiation
 given [] m = None
-given (new t ∷ as) m = given as m
-given (solved k o ∷ as) m = if nat_eq k m then Some o else given as m
+given (new t ∷ zs) m = given zs m
+given (solved k o ∷ zs) m = if nat_eq m k then Some o else given zs m
 
 -- the assignment of the constants and the metavariables, without variables
 abbrev pub heads_of : List SimpleType → List Addition → Assignment
-heads_of constants as = assigned constants (meta_types as) []
+heads_of constants zs = assigned constants (meta_types zs) []

@@ -12,6 +12,9 @@ pub record PutIn (solutions s : Instantiation) : Type 0 where
   pub unsolved : (m : ℕ) → solutions m ≡ None → s m ≡ None
   -- A solved metavariable has its solution, after s.
   pub solved : (m : ℕ) (o : PlainObject) → solutions m ≡ Some o → (x : PlainObject) × (s m ≡ Some x) × Substituted (instant s) o x
-  -- No solved metavariable is mentioned, and no variable is free.
+  -- No solved metavariable is mentioned.
   pub finished : (m : ℕ) (x : PlainObject) → s m ≡ Some x → (k : ℕ) (o : PlainObject) → solutions k ≡ Some o → mentions k x ≡ false
-  pub closed : (m : ℕ) (x : PlainObject) → s m ≡ Some x → (v : ℕ) → occurs v x ≡ false
+
+-- No variable is free in what the instantiation gives.
+abbrev pub IsClosed : Instantiation → Type 0
+IsClosed s = (m : ℕ) (x : PlainObject) → s m ≡ Some x → (v : ℕ) → occurs v x ≡ false

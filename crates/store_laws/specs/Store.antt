@@ -11,13 +11,13 @@ use Rattle.store_laws.specs.Mentions.{mentions}
 use Rattle.store_laws.specs.PutIn.{PutIn}
 
 -- When a metavariable may be given a solution.
-pub record MaySolve (constants : List SimpleType) (as : List Addition) (m : ℕ) (o : PlainObject) : Type 0 where
-  pub unsolved : given as m ≡ None
+pub record MaySolve (constants : List SimpleType) (zs : List Addition) (m : ℕ) (o : PlainObject) : Type 0 where
+  pub unsolved : given zs m ≡ None
   -- The solution has the metavariable's simple type, and no free variable.
-  pub typed : (t : SimpleType) × (slice_get (meta_types as) m ≡ Some t) × SimplyTyped (heads_of constants as) o t
+  pub typed : (t : SimpleType) × (slice_get (meta_types zs) m ≡ Some t) × SimplyTyped (heads_of constants zs) o t
   -- With all solutions put in, it does not mention the metavariable.
-  pub no_circle : (s : Instantiation) (x : PlainObject) → PutIn (given as) s → Substituted (instant s) o x → mentions m x ≡ false
+  pub no_circle : (s : Instantiation) (x : PlainObject) → PutIn (given zs) s → Substituted (instant s) o x → mentions m x ≡ false
 
 -- A store: each solution could be given where it was added.
 abbrev pub IsStore : List SimpleType → List Addition → Type 0
-IsStore constants as = (before : List Addition) (m : ℕ) (o : PlainObject) (after : List Addition) → as ≡ before ++ solved m o ∷ after → MaySolve constants before m o
+IsStore constants zs = (before : List Addition) (m : ℕ) (o : PlainObject) (after : List Addition) → zs ≡ before ++ solved m o ∷ after → MaySolve constants before m o

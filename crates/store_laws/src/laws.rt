@@ -1,10 +1,9 @@
 //! Laws of solutions, stated by functions that do nothing.
-ghost use Rattle.store_laws.specs.Laws.{PutInIsOne, StoreGrows, StoreIsCut, StoreIsPutIn};
+ghost use Rattle.store_laws.specs.Laws.{StoreGrows, StoreIsCut, StoreIsPutIn};
 
-/// The solutions of a store may all be put in, in one way.
+/// The solutions of a store may all be put in.
 pub fn putting_in()
-    ensures some { StoreIsPutIn }
-    ensures one { PutInIsOne }
+    ensures { StoreIsPutIn }
 {}
 
 /// A store stays one with what is added, and with what is taken back.
