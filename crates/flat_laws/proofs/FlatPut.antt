@@ -183,6 +183,6 @@ module _ (constants metas : Types) (given : Instantiation) (typed : TypedInstant
     flat_put_below (app m r o) ls t y e (f, (d, c, q, k)) p (kept_app {x = x} {y = w} i j) =
         ( flat_put_below r ls (arrow m p.0 t) x e f p.1 i
         , (d, c, kept_typed (scoped ls (closed constants metas)) i (arrow m d c) (keeps_others (length ls) given) (stay ls) e q
-            , flat_put o ls d w k (subst (SimplyTyped (scoped ls (closed constants metas)) o) (from_type (one_of (scoped ls (closed constants metas)) r (arrow m d c) (arrow m p.0 t) q p.1)) p.2) j))
+            , flat_put o ls d w k (subst (SimplyTyped (scoped ls (closed constants metas)) o) (from_type (neutral_has_one_type (no_holes true) (scoped ls (closed constants metas)) r (arrow m d c) (arrow m p.0 t) q p.1)) p.2) j))
     flat_put_below (fst r) ls t y e f p (kept_fst {x = x} i) = flat_put_below r ls (simple_with t p.0) x e f p.1 i
     flat_put_below (snd r) ls t y e f p (kept_snd {x = x} i) = flat_put_below r ls (simple_with p.0 t) x e f p.1 i

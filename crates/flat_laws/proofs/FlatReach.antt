@@ -1,4 +1,7 @@
 -- In a flat system every side that is a metavariable reaches the other side.
+use Rattle.store_laws.proofs.Numbers.{number_cases}
+use Rattle.pattern_laws.proofs.Owning.{on_locals}
+use Rattle.clf_syntax.specs.declared.tree.Mode.{Mode}
 use Rattle.std.specs.Prelude.{ℕ, Bool, true, false, ◌+◌, ◌-◌, ◌≡◌, ◌<◌, ◌≤◌, ◌⊎◌, ◌||◌, nat_eq, List, [], ◌∷◌, ◌++◌, length, Some, refl}
 use Rattle.std.proofs.Common.{ap, sym, subst, ◌∙◌, arith, inl, inr, ⊎_elim, append_assoc}
 use Rattle.clf_syntax.specs.declared.tree.Head.TheVariants.{Const, Var, Meta}

@@ -6,8 +6,6 @@ pub use Rattle.hered_subst.specs.Substitution
 pub use Rattle.trace_equal.specs.Exchange
 pub use Rattle.subst_laws.specs.Environments
 pub use Rattle.eta_laws.specs.Eta
-pub mod Mentions
-pub mod PutIn
 pub mod Instantiations
 pub mod Equations
 pub mod Renumberings

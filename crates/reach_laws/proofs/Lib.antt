@@ -4,5 +4,5 @@ pub mod PartsUnder
 pub mod Rests
 pub mod Tightness
 pub mod Tight
-pub mod Closing
+pub mod Again
 pub mod Decides

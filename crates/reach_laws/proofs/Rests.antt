@@ -10,7 +10,7 @@ use Rattle.trace_equal.proofs.Closed.{trail}
 use Rattle.trace_equal.proofs.Joined.{joined_is_equivalence}
 use Rattle.subst_laws.specs.Environments.{Instantiation, instant}
 use Rattle.pattern_laws.specs.Instantiations.{Types, closed, Instantiates, Agrees, Instantiated}
-use Rattle.pattern_laws.specs.PutIn.{PutIn}
+use Rattle.store_laws.specs.PutIn.{PutIn}
 use Rattle.pattern_laws.specs.Equations.{Locals, scoped, Equation, Solves, SolvesEach, TypedEquation, TypedEquations, Listed, listed_here, listed_later}
 use Rattle.pattern_laws.proofs.Instances.{instance}
 use Rattle.unify_laws.specs.Problems.{Problem, IsSolution, KeepsSolutions, WellTyped}

@@ -1,4 +1,5 @@
 -- What the solutions give the metavariables of the start, with all solutions put in, is tight for these.
+use Rattle.store_laws.proofs.Mentioned.{mentioned}
 use Rattle.reach_laws.specs.Unified.{IsAssignment, HoldsUnsolved}
 use Rattle.std.specs.Prelude.{ℕ, Bool, true, false, ◌≡◌, ◌<◌, ◌⊎◌, nat_eq, List, [], ◌∷◌, ◌++◌, Option, Some, None, refl}
 use Rattle.std.proofs.Common.{ap, sym, subst, ◌∙◌, arith, inl, inr, ⊎_elim, append_assoc}
@@ -14,43 +15,14 @@ use Rattle.eta_laws.specs.Eta.{eta}
 use Rattle.pattern_laws.specs.Patterns.{Place, on, lams, arrows, Fitting, Distinct, beneath, OnDistinct, masked, Ordered}
 use Rattle.pattern_laws.specs.Instantiations.{Types, closed}
 use Rattle.pattern_laws.specs.Equations.{scoped, Locals}
-use Rattle.pattern_laws.specs.Mentions.{mentions, mentions_neutral, mentions_expression, mentions_tuple}
-use Rattle.pattern_laws.specs.PutIn.{PutIn}
+use Rattle.store_laws.specs.Mentions.{mentions, mentions_neutral, mentions_expression, mentions_tuple}
+use Rattle.store_laws.specs.PutIn.{PutIn}
 use Rattle.unify_laws.specs.Problems.{Problem, WellTyped, Stays}
 use Rattle.unify_laws.specs.Progress.{Progress, CameFrom, Traced}
 use Rattle.unify_laws.proofs.Preserved.{Fits}
 use Rattle.reach_laws.specs.Reach.{Standing, standing_here, standing_body}
 use Rattle.reach_laws.specs.Rest.{Tight, StandsIn}
 use Rattle.reach_laws.proofs.Tightness.{new_one_stands}
-
-same_number : (i v : ℕ) → nat_eq i v ≡ true → i ≡ v
-same_number i v e = grind arith
-
--- A metavariable that a typed tree mentions has a type.
-mutual
-  pub mentioned : {w : Bool} {g : Assignment} {o : PlainObject} {t : SimpleType} → Typed w g o t → (k : ℕ) → mentions k o ≡ true → (u : SimpleType) × (g (Meta k) ≡ Some u)
-  mentioned (typed_lam p) k e = mentioned p k e
-  mentioned (typed_pair {l = l} {r = r} p q) k e = ⊎_elim (λ f. mentioned p k f) (λ f. mentioned q k f) (either (mentions k l) (mentions k r) e)
-  mentioned typed_unit k e = absurd (cc)
-  mentioned (typed_monadic p) k e = mentioned_expression p k e
-  mentioned (typed_metavariable i p j) k e = mentioned_neutral p k e
-  mentioned (typed_atomic p) k e = mentioned_neutral p k e
-
-  mentioned_neutral : {w : Bool} {g : Assignment} {n : PlainNeutral} {t : SimpleType} → TypedNeutral w g n t → (k : ℕ) → mentions_neutral k n ≡ true → (u : SimpleType) × (g (Meta k) ≡ Some u)
-  mentioned_neutral (typed_bare {h = Const c} f) k e = absurd (cc)
-  mentioned_neutral (typed_bare {h = Var i} f) k e = absurd (cc)
-  mentioned_neutral (typed_bare {g = g} {h = Meta m} {t = t} f) k e = (t, ap (λ j. g (Meta j)) (sym (same_number m k e)) ∙ f)
-  mentioned_neutral (typed_app {r = r} {o = o} p q) k e = ⊎_elim (λ f. mentioned_neutral p k f) (λ f. mentioned q k f) (either (mentions_neutral k r) (mentions k o) e)
-  mentioned_neutral (typed_fst p) k e = mentioned_neutral p k e
-  mentioned_neutral (typed_snd p) k e = mentioned_neutral p k e
-
-  mentioned_expression : {w : Bool} {g : Assignment} {x : PlainExpression} {ts : SimpleTelescope} → TypedExpression w g x ts → (k : ℕ) → mentions_expression k x ≡ true → (u : SimpleType) × (g (Meta k) ≡ Some u)
-  mentioned_expression (typed_step {g = g} {r = r} {e = x} {ts = ts} p m q) k e = ⊎_elim (λ f. mentioned_neutral p k f) (λ f. let (u, h) = mentioned_expression q k f in (u, sym (extended_metavariable ts g k) ∙ h)) (either (mentions_neutral k r) (mentions_expression k x) e)
-  mentioned_expression (typed_done p) k e = mentioned_tuple p k e
-
-  mentioned_tuple : {w : Bool} {g : Assignment} {x : PlainTuple} {ts : SimpleTelescope} → TypedTuple w g x ts → (k : ℕ) → mentions_tuple k x ≡ true → (u : SimpleType) × (g (Meta k) ≡ Some u)
-  mentioned_tuple typed_empty k e = absurd (cc)
-  mentioned_tuple (typed_entry {o = o} {t = t} p q) k e = ⊎_elim (λ f. mentioned p k f) (λ f. mentioned_tuple q k f) (either (mentions k o) (mentions_tuple k t) e)
 
 -- the places as locals
 abbrev types_of : List Place → Locals

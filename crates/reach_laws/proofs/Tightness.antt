@@ -15,7 +15,7 @@ use Rattle.eta_laws.proofs.EtaLaws.{eta_ren, eta_kept}
 use Rattle.eta_laws.proofs.EtaTyped.{eta_typed}
 use Rattle.pattern_laws.specs.Instantiations.{Instantiated, Types}
 use Rattle.pattern_laws.specs.Patterns.{Place, on, lams, arrows, filled, blank, local_at, SameTypes, masked, beneath, Ordered, IsFinal}
-use Rattle.pattern_laws.specs.PutIn.{PutIn}
+use Rattle.store_laws.specs.PutIn.{PutIn}
 use Rattle.pattern_laws.proofs.Spines.{KeepsVariables, keeps_variables, applied, through_lams, flex_value}
 use Rattle.pattern_laws.proofs.Inverse.{local_filled, local_within, lams_typed, same_lams, same_length, same_beneath}
 use Rattle.pattern_laws.proofs.Cores.{beneath_out}

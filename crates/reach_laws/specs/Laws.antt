@@ -5,9 +5,9 @@ use Rattle.clf_syntax.specs.TypeTree.{SimpleType}
 use Rattle.clf_syntax.specs.Simple.{SimplyTyped}
 use Rattle.hered_subst.specs.Substitution.{Substituted}
 use Rattle.subst_laws.specs.Environments.{Instantiation, instant}
-use Rattle.pattern_laws.specs.Mentions.{mentions}
+use Rattle.store_laws.specs.Mentions.{mentions}
 use Rattle.pattern_laws.specs.Instantiations.{Types, closed, set, Instantiates}
-use Rattle.pattern_laws.specs.PutIn.{PutIn}
+use Rattle.store_laws.specs.PutIn.{PutIn}
 use Rattle.pattern_laws.specs.Equations.{Equation, SolvesEach, TypedEquation, TypedEquations, Listed}
 use Rattle.unify_laws.specs.Problems.{Problem, WellTyped, Stays, KeepsSolutions}
 use Rattle.unify_laws.specs.Progress.{Traced}

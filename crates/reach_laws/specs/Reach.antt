@@ -6,7 +6,7 @@ use Rattle.clf_syntax.specs.Tree.{PlainObject, lam, pair, unit, monadic, atomic,
 use Rattle.clf_syntax.specs.TypeTree.{SimpleType, arrow, simple_with}
 use Rattle.clf_syntax.specs.Simple.{Assignment, extended, SimplyTypedNeutral}
 use Rattle.hered_subst.specs.TypedEnvironments.{is_metavariable}
-use Rattle.pattern_laws.specs.Mentions.{mentions}
+use Rattle.store_laws.specs.Mentions.{mentions}
 use Rattle.pattern_laws.specs.Instantiations.{Types, closed}
 use Rattle.pattern_laws.specs.Equations.{Locals, scoped, Equation}
 use Rattle.pattern_laws.specs.Patterns.{Place, OnDistinct, OnLocals, LacksMisfits, SameTypes, Foreign, NoForeign, NoCircle}

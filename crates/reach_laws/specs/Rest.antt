@@ -5,7 +5,7 @@ use Rattle.clf_syntax.specs.Tree.{PlainObject, lam, pair, atomic, PlainNeutral}
 use Rattle.clf_syntax.specs.TypeTree.{SimpleType, base, arrow, simple_with}
 use Rattle.trace_equal.specs.Exchange.{Joined}
 use Rattle.subst_laws.specs.Environments.{Instantiation}
-use Rattle.pattern_laws.specs.Mentions.{mentions}
+use Rattle.store_laws.specs.Mentions.{mentions}
 use Rattle.pattern_laws.specs.Instantiations.{Types, closed, Instantiated}
 use Rattle.pattern_laws.specs.Equations.{Locals, scoped, Equation, Listed}
 use Rattle.pattern_laws.specs.Patterns.{Place, OnDistinct}

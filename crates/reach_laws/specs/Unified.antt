@@ -4,7 +4,7 @@ use Rattle.clf_syntax.specs.Tree.{PlainObject}
 use Rattle.clf_syntax.specs.TypeTree.{SimpleType}
 use Rattle.subst_laws.specs.Environments.{Instantiation, instant, TypedInstantiation}
 use Rattle.pattern_laws.specs.Instantiations.{Types, closed, Instantiates, Agrees}
-use Rattle.pattern_laws.specs.PutIn.{PutIn}
+use Rattle.store_laws.specs.PutIn.{PutIn}
 use Rattle.pattern_laws.specs.Equations.{Equation, Solves, Listed}
 use Rattle.unify_laws.specs.Problems.{Problem, WellTyped, Grows, Stays, KeepsSolutions, HasNone}
 use Rattle.unify_laws.specs.Progress.{Traced}

@@ -1,4 +1,5 @@
 -- The step that solves a metavariable on distinct locals by the other side.
+use Rattle.store_laws.proofs.Numbers.{number_cases, set_there, set_else}
 use Rattle.std.specs.Prelude.{ℕ, Bool, true, false, ◌≡◌, ◌⊎◌, nat_eq, if◌then◌else◌, List, [], length, Option, Some, None, refl}
 use Rattle.std.proofs.Common.{ap, sym, subst, ◌∙◌, arith, inl, inr, ⊎_elim}
 use Rattle.clf_syntax.specs.Tree.{PlainObject, atomic, PlainNeutral}
@@ -12,31 +13,6 @@ use Rattle.pattern_laws.specs.Instantiations.{Types, closed, Agrees, set}
 use Rattle.pattern_laws.specs.Equations.{scoped, Equation, Locals}
 use Rattle.pattern_laws.proofs.Cores.{solution_forced, solution_found}
 use Rattle.unify_laws.specs.Problems.{KeepsSolutions, Consequence}
-
-same_number : (i v : ℕ) → nat_eq i v ≡ true → i ≡ v
-same_number i v e = grind arith
-
-own : (i : ℕ) → nat_eq i i ≡ true
-own i = grind arith
-
-pub number_cases : (k m : ℕ) → (k ≡ m) ⊎ (nat_eq k m ≡ false)
-number_cases k m = of (nat_eq k m) (λ e. same_number k m e)
-  where
-    of : (b : Bool) → (b ≡ true → k ≡ m) → (k ≡ m) ⊎ (b ≡ false)
-    of true f = inl (f refl)
-    of false f = inr refl
-
-chosen : {X : Type 0} {b : Bool} (x : X) (o : Option X) → b ≡ true → (if b then Some x else o) ≡ Some x
-chosen x o e = rw e refl
-
-passed : {X : Type 0} {b : Bool} (x : X) (o : Option X) → b ≡ false → (if b then Some x else o) ≡ o
-passed x o e = rw e refl
-
-pub set_there : {X : Type 0} (m : ℕ) (x : X) (g : ℕ → Option X) → set m x g m ≡ Some x
-set_there m x g = chosen x (g m) (own m)
-
-pub set_else : {X : Type 0} (m k : ℕ) (x : X) (g : ℕ → Option X) → nat_eq k m ≡ false → set m x g k ≡ g k
-set_else m k x g e = passed x (g k) e
 
 -- What is there already is another number.
 pub another : {X : Type 0} (m k : ℕ) (g : ℕ → Option X) (s : X) → g m ≡ None → g k ≡ Some s → nat_eq k m ≡ false

@@ -1,4 +1,5 @@
 -- The step that takes arguments from a metavariable: it becomes a new metavariable on the other arguments.
+use Rattle.store_laws.proofs.Numbers.{number_cases, set_there, set_else}
 use Rattle.std.specs.Prelude.{ℕ, true, false, ◌≡◌, ◌<◌, List, [], ◌∷◌, length, Some, None, refl}
 use Rattle.std.proofs.Common.{ap, sym, subst, ◌∙◌, ⊎_elim}
 use Rattle.clf_syntax.specs.declared.tree.Head.{Head}
@@ -20,7 +21,7 @@ use Rattle.pattern_laws.proofs.Inverse.{Within}
 use Rattle.pattern_laws.proofs.Instances.{keeps as keeps_closed, keeps_under, scoped_meta}
 use Rattle.pattern_laws.proofs.Cores.{given_body, narrowed}
 use Rattle.unify_laws.specs.Problems.{IsSolution, Extends, KeepsSolutions, WellTyped}
-use Rattle.unify_laws.proofs.Assign.{number_cases, set_there, set_else, another, agrees_more, agrees_fewer}
+use Rattle.unify_laws.proofs.Assign.{another, agrees_more, agrees_fewer}
 
 no_families : Families
 no_families f = None

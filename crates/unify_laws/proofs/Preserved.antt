@@ -1,4 +1,5 @@
 -- Steps keep a problem simply typed.
+use Rattle.store_laws.proofs.Numbers.{number_cases, set_there, set_else}
 use Rattle.std.specs.Prelude.{ℕ, Bool, true, false, zero, suc, ◌≡◌, ◌<◌, ◌⊎◌, List, [], ◌∷◌, Some, None, refl}
 use Rattle.std.proofs.Common.{ap, sym, subst, ◌∙◌, inl, inr, ⊎_elim}
 use Rattle.clf_syntax.specs.declared.tree.Head.{Head}
@@ -16,7 +17,7 @@ use Rattle.pattern_laws.specs.Equations.{scoped, Equation, TypedEquations, Local
 use Rattle.pattern_laws.proofs.Inverse.{lams_typed}
 use Rattle.unify_laws.specs.Problems.{Problem, KeepsSolutions, Grows, WellTyped}
 use Rattle.unify_laws.specs.Progress.{Progress, CameFrom}
-use Rattle.unify_laws.proofs.Assign.{number_cases, set_there, set_else, another}
+use Rattle.unify_laws.proofs.Assign.{another}
 use Rattle.unify_laws.proofs.Steps.{keeps_same, keeps_then}
 use Rattle.unify_laws.specs.Narrowing.{narrowed_by}
 

@@ -20,7 +20,7 @@ use Rattle.trace_equal.specs.Exchange.{Joined}
 use Rattle.joined_laws.proofs.Respect.{joined_bound}
 use Rattle.pattern_laws.specs.Instantiations.{Instantiated, Types, closed}
 use Rattle.pattern_laws.specs.Equations.{scoped, Solves, Locals}
-use Rattle.pattern_laws.specs.PutIn.{PutIn}
+use Rattle.store_laws.specs.PutIn.{PutIn}
 use Rattle.pattern_laws.proofs.Spines.{under_instant, keeps_variables}
 
 no_families : Families

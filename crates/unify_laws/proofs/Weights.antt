@@ -1,4 +1,5 @@
 -- Each step makes the weight smaller.
+use Rattle.store_laws.proofs.Numbers.{set_there, set_else}
 use Rattle.std.specs.Prelude.{ℕ, false, zero, suc, ◌+◌, ◌≡◌, ◌<◌, ◌≤◌, ◌⊎◌, nat_eq, Option, Some, None, refl}
 use Rattle.std.proofs.Common.{ap, sym, ◌∙◌, arith, ⊎_elim}
 use Rattle.clf_syntax.specs.Tree.{PlainObject}
@@ -7,7 +8,6 @@ use Rattle.subst_laws.specs.Environments.{Instantiation}
 use Rattle.pattern_laws.specs.Instantiations.{Types, set}
 use Rattle.pattern_laws.specs.Patterns.{functions}
 use Rattle.unify_laws.specs.Weight.{weight_of, weight}
-use Rattle.unify_laws.proofs.Assign.{set_there, set_else}
 
 other_number : (m n : ℕ) → m < n → nat_eq m n ≡ false
 other_number m n h = grind arith

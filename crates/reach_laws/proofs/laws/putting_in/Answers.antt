@@ -1,10 +1,10 @@
-use Rattle.reach_laws.proofs.Closing.{put_in_once_more}
+use Rattle.reach_laws.proofs.Again.{put_in_again}
 use Rattle.reach_laws.proofs.PartsUnder.{parts_stay}
 use Rattle.reach_laws.proofs.Down.{down_further_law}
 use Rattle.reach_laws.proofs.laws.putting_in.Goals as goal
 
 pub returns-clause-put_in_again : goal.returns-clause-put_in_again
-returns-clause-put_in_again c = put_in_once_more
+returns-clause-put_in_again c = put_in_again
 
 pub returns-clause-parts_stay : goal.returns-clause-parts_stay
 returns-clause-parts_stay c = parts_stay

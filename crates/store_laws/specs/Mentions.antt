@@ -6,7 +6,6 @@ use Rattle.clf_syntax.specs.declared.tree.Head.TheVariants.{Const, Var, Meta}
 use Rattle.clf_syntax.specs.Tree.{PlainObject, lam, pair, unit, monadic, atomic, hole, PlainNeutral, head_alone, app, fst, snd, PlainExpression, step, done, PlainTuple, empty, entry}
 use Rattle.clf_syntax.specs.TypeTree.{PlainType, family, function, both, top, monad, PlainTelescope, end, binding}
 
--- the head is metavariable k
 abbrev pub is_meta : ℕ → Head → Bool
 is_meta k (Const c) = false
 is_meta k (Var i) = false

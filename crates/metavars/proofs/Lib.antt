@@ -1,0 +1,5 @@
+pub mod Gets
+pub mod TablesLaws
+pub mod Rests
+pub mod Becomings
+pub mod Measure

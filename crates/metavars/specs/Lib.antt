@@ -1,0 +1,16 @@
+pub use Rattle.clf_syntax.specs.Tree
+pub use Rattle.clf_syntax.specs.TypeTree
+pub use Rattle.clf_syntax.specs.Simple
+pub use Rattle.hered_subst.specs.Substitution
+pub use Rattle.subst_laws.specs.Environments
+pub use Rattle.store_laws.specs.Mentions
+pub use Rattle.store_laws.specs.Additions
+pub use Rattle.store_laws.specs.PutIn
+pub use Rattle.store_laws.specs.Store
+pub use Rattle.eta_laws.specs.Eta
+pub mod Fresh
+pub mod Stored
+pub mod Tables
+pub mod Becoming
+pub mod Outcomes
+pub mod Inside
