@@ -6,3 +6,4 @@ pub mod Tightness
 pub mod Tight
 pub mod Again
 pub mod Decides
+pub mod Worked

@@ -6,3 +6,4 @@ pub mod Reach
 pub mod Rest
 pub mod Unified
 pub mod Laws
+pub mod Worked

@@ -1,5 +1,6 @@
 //! Laws of reach and rest, stated by functions that do nothing.
 ghost use Rattle.reach_laws.specs.Laws.{DownFurther, IsTight, LeftKeeps, PartsStay, PutInAgain, RestSolves};
+ghost use Rattle.reach_laws.specs.Worked.{CircleIsNoAnswer, ClashIsAtPart, CornerAtMonad, NothingForeignIsLeft};
 
 /// What holds at the end of unification: what its solutions give is tight, and what is left stands for what was given.
 pub fn ending()
@@ -13,4 +14,12 @@ pub fn putting_in()
     ensures put_in_again { PutInAgain }
     ensures parts_stay { PartsStay }
     ensures down_further { DownFurther }
+{}
+
+/// Some equations, worked out by hand.
+pub fn worked()
+    ensures circle { CircleIsNoAnswer }
+    ensures clash { ClashIsAtPart }
+    ensures foreign { NothingForeignIsLeft }
+    ensures corner { CornerAtMonad }
 {}
