@@ -17,7 +17,7 @@ pub fn putting_in()
 {}
 
 /// Some equations, worked out by hand.
-pub fn worked()
+pub fn examples()
     ensures circle { CircleIsNoAnswer }
     ensures clash { ClashIsAtPart }
     ensures foreign { NothingForeignIsLeft }

@@ -3,4 +3,4 @@
 
 mod laws;
 
-pub use laws::{ending, putting_in, worked};
+pub use laws::{ending, examples, putting_in};
