@@ -164,7 +164,7 @@ module _ (constants metas : Types) (given : Instantiation) (typed : TypedInstant
   mutual
     pub flat_put : (x : PlainObject) (ls : Locals) (t : SimpleType) (y : PlainObject) → Flat (scoped ls (closed constants metas)) x t → SimplyTyped (scoped ls (closed constants metas)) x t → Instantiated (length ls) given x y → Flat (scoped ls (closed constants metas)) y t
     flat_put (lam m b) ls t y (d, c, e, f) p i = let (x, h, k) = body i in subst (λ z. Flat (scoped ls (closed constants metas)) z t) (sym h)
-        (d, c, e, flat_put b (d ∷ ls) c x f
+        (d, c, e, flat_put b ((m, d) ∷ ls) c x f
             (subst (λ a. SimplyTyped (extended a (scoped ls (closed constants metas))) b c) (from_type (sym e ∙ p.2)) (subst (λ a. SimplyTyped (extended p.0 (scoped ls (closed constants metas))) b a) (to_type (sym e ∙ p.2)) p.3))
             (subst (λ s. Substituted s b x) (under_instant (length ls) given) k))
     flat_put (pair l r) ls t y (c, d, e, f, h) p i = let (x, w, k, j, u) = parts i in subst (λ z. Flat (scoped ls (closed constants metas)) z t) (sym k)

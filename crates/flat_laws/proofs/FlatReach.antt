@@ -1,6 +1,6 @@
 -- In a flat system every side that is a metavariable reaches the other side.
 use Rattle.store_laws.proofs.Numbers.{number_cases}
-use Rattle.pattern_laws.proofs.Owning.{on_locals}
+use Rattle.pattern_laws.proofs.Owning.{on_locals, lacks_same}
 use Rattle.clf_syntax.specs.declared.tree.Mode.{Mode}
 use Rattle.std.specs.Prelude.{ℕ, Bool, true, false, ◌+◌, ◌-◌, ◌≡◌, ◌<◌, ◌≤◌, ◌⊎◌, ◌||◌, nat_eq, List, [], ◌∷◌, ◌++◌, length, Some, refl}
 use Rattle.std.proofs.Common.{ap, sym, subst, ◌∙◌, arith, inl, inr, ⊎_elim, append_assoc}
@@ -13,7 +13,7 @@ use Rattle.hered_subst.specs.TypedEnvironments.{is_metavariable}
 use Rattle.eta_laws.specs.Eta.{eta, variables}
 use Rattle.pattern_laws.specs.Patterns.{Place, on, arrows, OnDistinct, Foreign, IsFinal, Ordered}
 use Rattle.pattern_laws.specs.Equations.{scoped, Locals}
-use Rattle.pattern_laws.specs.Mentions.{mentions, mentions_neutral, mentions_expression, mentions_tuple}
+use Rattle.store_laws.specs.Mentions.{mentions, mentions_neutral, mentions_expression, mentions_tuple}
 use Rattle.pattern_laws.proofs.Places.{same_types}
 use Rattle.pattern_laws.proofs.Orders.{searched, ordered_no_circle}
 use Rattle.reach_laws.specs.Reach.{Standing, standing_here, standing_body, standing_left, standing_right, standing_below, StandingBelow, in_this, in_earlier, under_fst, under_snd, Prunable, PrunableBelow, InReach, same_reach, head_reach, inside_reach, free_reach}

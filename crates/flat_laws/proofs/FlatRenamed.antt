@@ -78,7 +78,7 @@ mutual
   flat_renamed_below z r g (head_alone h) p f o = tt
   flat_renamed_below z r g (app m q x) (p, (d, c, e, y)) f o =
       ( flat_renamed_below z r g q p (f.0, f.1, (λ i h. f.2 i (or_first (occurs_neutral i q) (occurs i x) h))) (λ i j h u. o i j (or_first (occurs_neutral i q) (occurs i x) h) (or_first (occurs_neutral j q) (occurs j x) u))
-      , (d, c, of_neutral (typed_where_neutral z r (to_neutral g q (arrow m d c) e) (f.0, f.1, (λ i h. f.2 i (or_first (occurs_neutral i q) (occurs i x) h))))
+      , (d, c, of_neutral (typed_where_neutral z r (to_neutral true g q (arrow m d c) e) (f.0, f.1, (λ i h. f.2 i (or_first (occurs_neutral i q) (occurs i x) h))))
         , flat_renamed z r g x d y (f.0, f.1, (λ i h. f.2 i (or_second (occurs_neutral i q) (occurs i x) h))) (λ i j h u. o i j (or_second (occurs_neutral i q) (occurs i x) h) (or_second (occurs_neutral j q) (occurs j x) u))))
   flat_renamed_below z r g (fst q) p f o = flat_renamed_below z r g q p f o
   flat_renamed_below z r g (snd q) p f o = flat_renamed_below z r g q p f o
