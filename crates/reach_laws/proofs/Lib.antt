@@ -7,3 +7,4 @@ pub mod Tight
 pub mod Again
 pub mod Decides
 pub mod Worked
+pub mod InTurn

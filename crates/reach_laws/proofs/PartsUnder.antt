@@ -46,7 +46,7 @@ the_type : {t u : SimpleType} → Some t ≡ Some u → t ≡ u
 the_type e = cc
 
 -- Neutrals of one shape have one type.
-one_shape : (g : Assignment) {r n : PlainNeutral} → SameShape r n → (a b : SimpleType) → SimplyTypedNeutral g r a → SimplyTypedNeutral g n b → a ≡ b
+pub one_shape : (g : Assignment) {r n : PlainNeutral} → SameShape r n → (a b : SimpleType) → SimplyTypedNeutral g r a → SimplyTypedNeutral g n b → a ≡ b
 one_shape g (shape_head e) a b p q = the_type (sym p ∙ q)
 one_shape g (shape_app {m = m} c) a b p q = sym (to_type (one_shape g c (arrow m p.0 a) (arrow m q.0 b) p.1 q.1))
 one_shape g (shape_fst c) a b p q = sym (first_type (one_shape g c (simple_with a p.0) (simple_with b q.0) p.1 q.1))
@@ -90,13 +90,13 @@ not_put : {i : Image} {j : Head} {n : PlainObject} → i ≡ keep j → i ≡ pu
 not_put e f = cc
 
 -- A neutral whose head is kept stays typed.
-kept_neutral : {s : Environment} {n x : PlainNeutral} → KeepsHead s n x → (g z : Assignment) → Kept true g z s → {t : SimpleType} → TypedNeutral true g n t → TypedNeutral true z x t
+pub kept_neutral : {s : Environment} {n x : PlainNeutral} → KeepsHead s n x → (g z : Assignment) → Kept true g z s → {t : SimpleType} → TypedNeutral true g n t → TypedNeutral true z x t
 kept_neutral (kept_bare {h = h} e) g z f (typed_bare {t = t} p) = ⊎_elim (λ a. typed_bare (subst (λ j. z j ≡ Some t) (one_head e a.1) a.2)) (λ a. absurd (not_put e a.1)) (f h t p)
 kept_neutral {s = s} (kept_app i k) g z f (typed_app {d = d} p q) = typed_app (kept_neutral i g z f p) (let (y, l, t) = total_object true g z s f q in subst (λ o. Typed true z o d) (determined l k) t)
 kept_neutral (kept_fst i) g z f (typed_fst p) = typed_fst (kept_neutral i g z f p)
 kept_neutral (kept_snd i) g z f (typed_snd p) = typed_snd (kept_neutral i g z f p)
 
-shape_under : {r n : PlainNeutral} → SameShape r n → {s : Environment} {x y : PlainNeutral} → KeepsOthers s → KeepsHead s r x → KeepsHead s n y → SameShape x y
+pub shape_under : {r n : PlainNeutral} → SameShape r n → {s : Environment} {x y : PlainNeutral} → KeepsOthers s → KeepsHead s r x → KeepsHead s n y → SameShape x y
 shape_under (shape_head {h = h} e) k (kept_bare {j = j} f) (kept_bare {j = i} g) = subst (λ c. SameShape (head_alone j) (head_alone c)) (one_head (k h e) f ∙ sym (one_head (k h e) g)) (shape_head (subst (λ c. is_metavariable c ≡ false) (sym (one_head (k h e) f)) e))
 shape_under (shape_app a) k (kept_app p c) (kept_app q d) = shape_app (shape_under a k p q)
 shape_under (shape_fst a) k (kept_fst p) (kept_fst q) = shape_fst (shape_under a k p q)

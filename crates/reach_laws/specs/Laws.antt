@@ -1,5 +1,5 @@
 -- Laws of reach and rest, as statements; the functions of the crate's `laws` state them.
-use Rattle.std.specs.Prelude.{ℕ, Bool, false, ◌≡◌, List, Some, None}
+use Rattle.std.specs.Prelude.{ℕ, Bool, false, ◌≡◌, List, ◌++◌, Some, None}
 use Rattle.clf_syntax.specs.Tree.{PlainObject}
 use Rattle.clf_syntax.specs.TypeTree.{SimpleType}
 use Rattle.clf_syntax.specs.Simple.{SimplyTyped}
@@ -9,9 +9,9 @@ use Rattle.store_laws.specs.Mentions.{mentions}
 use Rattle.pattern_laws.specs.Instantiations.{Types, closed, set, Instantiates}
 use Rattle.store_laws.specs.PutIn.{PutIn}
 use Rattle.pattern_laws.specs.Equations.{Equation, SolvesEach, TypedEquation, TypedEquations, Listed}
-use Rattle.unify_laws.specs.Problems.{Problem, WellTyped, Stays, KeepsSolutions}
+use Rattle.unify_laws.specs.Problems.{Problem, WellTyped, Grows, Stays, KeepsSolutions}
 use Rattle.unify_laws.specs.Progress.{Traced}
-use Rattle.reach_laws.specs.Rest.{ComesDown, PartOf, EquationUnder, Rest, Tight}
+use Rattle.reach_laws.specs.Rest.{ComesDown, PartOf, EquationUnder, EachUnder, Rest, Tight}
 use Rattle.reach_laws.specs.Unified.{IsAssignment, HoldsUnsolved, IsPutIn, Unified}
 
 -- What the solutions give the metavariables that were unsolved at the start is tight for these, where solutions are only added and each new metavariable came from another.
@@ -46,3 +46,14 @@ PartsStay = (constants metas : Types) (e d : Equation) → PartOf constants meta
 -- What comes down to equations that come down to others comes down to these.
 abbrev pub DownFurther : Type 0
 DownFurther = (constants metas : Types) (l k : List Equation) → ((d : Equation) → Listed d l → ComesDown constants metas k d) → (e : Equation) → ComesDown constants metas l e → ComesDown constants metas k e
+
+-- Rests in turn: with an assignment s put into what is left of some equations, and into others, the rest of both together is the rest of all of them after s.
+abbrev pub RestsInTurn : Type 0
+RestsInTurn = (constants metas : Types) (s : Instantiation) → IsAssignment constants metas s → (es us left more vs ws final : List Equation)
+    → TypedEquations constants metas es → Rest constants metas es left
+    → EachUnder s es us → EachUnder s left vs → EachUnder s more ws → Rest constants metas (vs ++ ws) final
+    → Rest constants metas (us ++ ws) final
+
+-- Where metavariables came from, in turn, while solutions are only added.
+abbrev pub TracedInTurn : Type 0
+TracedInTurn = (start middle metas : Types) (before given : Instantiation) → Grows middle metas → Stays before given → Traced start middle before → Traced middle metas given → Traced start metas given
