@@ -1,4 +1,5 @@
 -- With one more solution there is again an assignment with all solutions put in, of which what agrees with the solutions is an instance.
+use Rattle.reach_laws.specs.Rest.{IsAssignment}
 use Rattle.std.specs.Prelude.{ℕ, ◌≡◌, ◌⊎◌, List, [], Option, Some, None, refl}
 use Rattle.std.proofs.Common.{ap, sym, subst, ◌∙◌, inl, inr, ⊎_elim, true}
 use Rattle.clf_syntax.specs.Tree.{PlainObject}
@@ -18,7 +19,7 @@ use Rattle.pattern_laws.proofs.Instances.{keeps}
 use Rattle.unify_laws.proofs.Assign.{agrees_fewer}
 use Rattle.unify_laws.proofs.Consequences.{put_in}
 use Rattle.reach_laws.specs.Laws.{PutInAgain}
-use Rattle.reach_laws.specs.Unified.{IsAssignment, IsPutIn}
+use Rattle.reach_laws.specs.Unified.{IsPutIn}
 use Rattle.reach_laws.proofs.Rests.{put_in_types}
 
 one_object : {o : Option PlainObject} {a b : PlainObject} → o ≡ Some a → o ≡ Some b → a ≡ b

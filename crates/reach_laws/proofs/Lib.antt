@@ -8,3 +8,4 @@ pub mod Again
 pub mod Decides
 pub mod Worked
 pub mod InTurn
+pub mod Sources

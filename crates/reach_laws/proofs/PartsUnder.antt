@@ -24,8 +24,7 @@ use Rattle.unify_laws.specs.Parts.{SameShape, shape_head, shape_app, shape_fst, 
 use Rattle.unify_laws.proofs.RigidPlaces.{keeps_head, KeepsOthers, keeps_others}
 use Rattle.unify_laws.proofs.Steps.{shape_heads}
 use Rattle.reach_laws.specs.Laws.{PartsStay}
-use Rattle.reach_laws.specs.Rest.{EquationUnder, PartOf, part_itself, part_body, part_left, part_right, part_argument}
-use Rattle.reach_laws.specs.Unified.{IsAssignment}
+use Rattle.reach_laws.specs.Rest.{IsAssignment, EquationUnder, PartOf, part_itself, part_body, part_left, part_right, part_argument}
 
 no_families : Families
 no_families f = None

@@ -16,8 +16,8 @@ use Rattle.pattern_laws.proofs.Instances.{instance}
 use Rattle.unify_laws.specs.Problems.{Problem, IsSolution, KeepsSolutions, WellTyped}
 use Rattle.unify_laws.proofs.Steps.{lam_part, pair_parts, neutral_part, neutral_whole, joined_solved}
 use Rattle.unify_laws.proofs.Consequences.{listed_solved, put_in, put_in_typed}
-use Rattle.reach_laws.specs.Rest.{ComesDown, down_joined, down_listed, down_lam, down_pair, down_neutral, PartOf, part_itself, part_body, part_left, part_right, part_argument, EquationUnder, EachUnder, Rest}
-use Rattle.reach_laws.specs.Unified.{IsAssignment, IsPutIn, EndsWith, Unified}
+use Rattle.reach_laws.specs.Rest.{IsAssignment, ComesDown, down_joined, down_listed, down_lam, down_pair, down_neutral, PartOf, part_itself, part_body, part_left, part_right, part_argument, EquationUnder, EachUnder, Rest}
+use Rattle.reach_laws.specs.Unified.{IsPutIn, EndsWith, Unified}
 use Rattle.reach_laws.proofs.PartsUnder.{part_typed, stays_typed}
 
 pub typed_listed : (constants metas : Types) (e : Equation) (es : List Equation) → Listed e es → TypedEquations constants metas es → TypedEquation constants metas e

@@ -1,6 +1,6 @@
 -- What the solutions give the metavariables of the start, with all solutions put in, is tight for these.
 use Rattle.store_laws.proofs.Mentioned.{mentioned}
-use Rattle.reach_laws.specs.Unified.{IsAssignment, HoldsUnsolved}
+use Rattle.reach_laws.specs.Unified.{HoldsUnsolved}
 use Rattle.std.specs.Prelude.{ℕ, Bool, true, false, ◌≡◌, ◌<◌, ◌⊎◌, nat_eq, List, [], ◌∷◌, ◌++◌, Option, Some, None, refl}
 use Rattle.std.proofs.Common.{ap, sym, subst, ◌∙◌, arith, inl, inr, ⊎_elim, append_assoc}
 use Rattle.clf_syntax.specs.declared.tree.Head.TheVariants.{Const, Var, Meta}
@@ -21,7 +21,7 @@ use Rattle.unify_laws.specs.Problems.{Problem, WellTyped, Stays}
 use Rattle.unify_laws.specs.Progress.{Progress, CameFrom, Traced}
 use Rattle.unify_laws.proofs.Preserved.{Fits}
 use Rattle.reach_laws.specs.Reach.{Standing, standing_here, standing_body}
-use Rattle.reach_laws.specs.Rest.{Tight, StandsIn}
+use Rattle.reach_laws.specs.Rest.{IsAssignment, Tight, StandsIn}
 use Rattle.reach_laws.proofs.Tightness.{new_one_stands}
 
 -- the places as locals

@@ -4,6 +4,7 @@ pub use Rattle.pattern_laws.specs.Patterns
 pub use Rattle.unify_laws.specs.Problems
 pub mod Reach
 pub mod Rest
+pub mod Sources
 pub mod Unified
 pub mod Laws
 pub mod Worked

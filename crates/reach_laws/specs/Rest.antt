@@ -4,7 +4,7 @@ use Rattle.clf_syntax.specs.declared.tree.Mode.{Mode}
 use Rattle.clf_syntax.specs.Tree.{PlainObject, lam, pair, atomic, PlainNeutral}
 use Rattle.clf_syntax.specs.TypeTree.{SimpleType, base, arrow, simple_with}
 use Rattle.trace_equal.specs.Exchange.{Joined}
-use Rattle.subst_laws.specs.Environments.{Instantiation}
+use Rattle.subst_laws.specs.Environments.{Instantiation, TypedInstantiation}
 use Rattle.store_laws.specs.Mentions.{mentions}
 use Rattle.pattern_laws.specs.Instantiations.{Types, closed, Instantiated}
 use Rattle.pattern_laws.specs.Equations.{Locals, scoped, Equation, Listed}
@@ -39,6 +39,10 @@ pub record GoesNoFurther (e : Equation) : Type 0 where
   pub no_lams : (m k : Mode) (b c : PlainObject) → e.left ≡ lam m b → e.right ≡ lam k c → ⊥
   pub no_pairs : (l r k s : PlainObject) → e.left ≡ pair l r → e.right ≡ pair k s → ⊥
   pub no_neutrals : (r n : PlainNeutral) → e.left ≡ atomic r → e.right ≡ atomic n → SameShape r n → ⊥
+
+-- s is an assignment: it gives metavariables trees of their simple types, in which metavariables may stand.
+abbrev pub IsAssignment : Types → Types → Instantiation → Type 0
+IsAssignment constants metas s = TypedInstantiation (closed constants metas) (closed constants metas) s
 
 -- d is the equation e after an assignment s.
 pub record EquationUnder (s : Instantiation) (e d : Equation) : Type 0 where

@@ -1,18 +1,15 @@
 -- What unification answers: the clauses of the call.
-use Rattle.std.specs.Prelude.{ℕ, ◌≡◌, Bool, true, List, length, Some, None}
+use Rattle.std.specs.Prelude.{ℕ, ◌≡◌, ◌⊎◌, Bool, true, List, length, Some, None}
 use Rattle.clf_syntax.specs.Tree.{PlainObject}
 use Rattle.clf_syntax.specs.TypeTree.{SimpleType}
-use Rattle.subst_laws.specs.Environments.{Instantiation, instant, TypedInstantiation}
+use Rattle.subst_laws.specs.Environments.{Instantiation, instant}
 use Rattle.pattern_laws.specs.Instantiations.{Types, closed, Instantiates, Agrees}
 use Rattle.store_laws.specs.PutIn.{PutIn}
 use Rattle.pattern_laws.specs.Equations.{Equation, Solves, Listed}
 use Rattle.unify_laws.specs.Problems.{Problem, WellTyped, Grows, Stays, KeepsSolutions, HasNone}
 use Rattle.unify_laws.specs.Progress.{Traced}
-use Rattle.reach_laws.specs.Rest.{PartOf, GoesNoFurther, EquationUnder, EachUnder, Rest, Tight}
-
--- s is an assignment: it gives metavariables trees of their simple types, in which metavariables may stand.
-abbrev pub IsAssignment : Types → Types → Instantiation → Type 0
-IsAssignment constants metas s = TypedInstantiation (closed constants metas) (closed constants metas) s
+use Rattle.reach_laws.specs.Rest.{IsAssignment, PartOf, GoesNoFurther, EquationUnder, EachUnder, Rest, Tight}
+use Rattle.reach_laws.specs.Sources.{FromPlaces, FromSide}
 
 -- Metavariables and solutions are only added, and all stays simply typed. The equations are those given.
 pub record OnlyAdds (constants : Types) (start now : Problem) : Type 0 where
@@ -32,12 +29,14 @@ pub record IsPutIn (constants metas : Types) (given s : Instantiation) : Type 0 
   pub assigns : IsAssignment constants metas s
   pub instances : (parameters : Types) (t : Instantiation) → Instantiates constants metas parameters t → Agrees t given → Agrees t s
 
--- With all solutions put in, by s, the given equations are es, whose rest is left; and what the solutions give the metavariables that were unsolved at the start is tight for these.
+-- With all solutions put in, by s, the given equations are es, whose rest is left; what the solutions give the metavariables that were unsolved at the start is tight for these; and it is told where the solutions came from.
 pub record EndsWith (constants : Types) (start now : Problem) (left : List Equation) (s : Instantiation) (es : List Equation) : Type 0 where
   pub put_in : IsPutIn constants now.metas now.given s
   pub under : EachUnder s start.equations es
   pub rest : Rest constants now.metas es left
   pub tight : (list : ℕ → Bool) → HoldsUnsolved start list → Tight constants now.metas list s
+  -- Each solution that was added came from the sides of the equations, or is a new metavariable on arguments.
+  pub sources : (m : ℕ) (o : PlainObject) → start.given m ≡ None → now.given m ≡ Some o → FromPlaces o ⊎ FromSide constants now.metas start.equations s o
 
 -- After solved, with no equation left, and after stuck: exactly the solutions are kept.
 pub record Unified (constants : Types) (start now : Problem) (left : List Equation) : Type 0 where
