@@ -9,3 +9,4 @@ pub mod Decides
 pub mod Worked
 pub mod InTurn
 pub mod Sources
+pub mod Patterned

@@ -46,6 +46,17 @@ ClashIsAtPart = (constants : Types) (start now : Problem) (under : ℕ) (m : Mod
 abbrev pub NothingForeignIsLeft : Type 0
 NothingForeignIsLeft = (constants metas : Types) (e : Equation) (left : List Equation) → Rest constants metas [] left → Listed e left → ⊥
 
+-- s (?0 x) = s x, and its part ?0 x = x
+abbrev pub with_pattern : Mode → Equation
+with_pattern m = record { locals = (m, base 0) ∷ []; left = atomic (app m (head_alone (Const 0)) (atomic (app m (head_alone (Meta 0)) (atomic (head_alone (Var 0)))))); right = atomic (app m (head_alone (Const 0)) (atomic (head_alone (Var 0)))); type = base 0 }
+
+abbrev pub pattern : Mode → Equation
+pattern m = record { locals = (m, base 0) ∷ []; left = atomic (app m (head_alone (Meta 0)) (atomic (head_alone (Var 0)))); right = atomic (head_alone (Var 0)); type = base 0 }
+
+-- Nothing is left of `s (?0 x) = s x`: its part has the simple type that s asks for, and is in reach.
+abbrev pub PatternIsNotLeft : Type 0
+PatternIsNotLeft = (m : Mode) (left : List Equation) (e : Equation) → Rest (ones m) (ones m) (with_pattern m ∷ []) left → Listed e left → ⊥
+
 -- ?0 := \x. x ?1, for ?1 at a monad
 abbrev pub cornered : Mode → Instantiation
 cornered m = set 0 (lam m (atomic (app m (head_alone (Var 0)) (atomic (head_alone (Meta 1)))))) (λ k. None)

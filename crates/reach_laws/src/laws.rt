@@ -1,6 +1,6 @@
 //! Laws of reach and rest, stated by functions that do nothing.
 ghost use Rattle.reach_laws.specs.Laws.{AbsorbedAgain, DownFurther, IsTight, LeftKeeps, PartsStay, PutInAgain, RestSolves, RestsInTurn, SidePutIn, TracedInTurn};
-ghost use Rattle.reach_laws.specs.Worked.{CircleIsNoAnswer, ClashIsAtPart, CornerAtMonad, NothingForeignIsLeft};
+ghost use Rattle.reach_laws.specs.Worked.{CircleIsNoAnswer, ClashIsAtPart, CornerAtMonad, NothingForeignIsLeft, PatternIsNotLeft};
 
 /// What holds at the end of unification: what its solutions give is tight, and what is left stands for what was given.
 pub fn ending()
@@ -29,5 +29,6 @@ pub fn examples()
     ensures circle { CircleIsNoAnswer }
     ensures clash { ClashIsAtPart }
     ensures foreign { NothingForeignIsLeft }
+    ensures pattern { PatternIsNotLeft }
     ensures corner { CornerAtMonad }
 {}
