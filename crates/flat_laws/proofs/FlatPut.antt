@@ -100,8 +100,8 @@ no_type : (u : SimpleType) {o : Option SimpleType} → o ≡ None → o ≡ Some
 no_type u e f = cc
 
 module _ (constants metas : Types) (given : Instantiation) (typed : TypedInstantiation (closed constants metas) (closed constants metas) given)
-  (flat_types : FlatTypes (closed constants metas))
-  (flat : (k : ℕ) (o : PlainObject) (a : SimpleType) → given k ≡ Some o → metas k ≡ Some a → SimplyTyped (closed constants metas) o a × Flat (closed constants metas) o a) (ls : Locals) where
+    (flat_types : FlatTypes (closed constants metas))
+    (flat : (k : ℕ) (o : PlainObject) (a : SimpleType) → given k ≡ Some o → metas k ≡ Some a → SimplyTyped (closed constants metas) o a × Flat (closed constants metas) o a) (ls : Locals) where
   -- an occurring variable of what a closed object holds below the lambdas stands at a place
   placed : (zs : List Place) (b : PlainObject) (t : SimpleType) → Typed false (beneath zs (closed constants metas)) b t → (i : ℕ) → occurs i b ≡ true → (v : ℕ) × (local_at zs i ≡ Some v)
   placed zs b t p i o = ⊎_elim
@@ -118,20 +118,22 @@ module _ (constants metas : Types) (given : Instantiation) (typed : TypedInstant
   -- a solved metavariable on distinct locals in order
   flat_value : (zs : List Place) (t : SimpleType) → Fitting (scoped ls (closed constants metas)) zs → Ordered zs → (b : PlainObject) → Typed false (beneath zs (closed constants metas)) b t → Flat (beneath zs (closed constants metas)) b t
       → Flat (scoped ls (closed constants metas)) (ren (applied (length ls) zs) b) t
-  flat_value zs t f u b p q = flat_renamed (scoped ls (closed constants metas)) (applied (length ls) zs) (beneath zs (closed constants metas)) b t q
-      ((λ c. scoped_out ls (closed constants metas) (Const c) ∙ sym (beneath_out zs (closed constants metas) (Const c))), (λ m. scoped_out ls (closed constants metas) (Meta m) ∙ sym (beneath_out zs (closed constants metas) (Meta m)))
-      , (λ i o. let (v, e) = placed zs b t p i o in ap (λ j. scoped ls (closed constants metas) (Var j)) (applied_local (length ls) zs i v e) ∙ fitting_at (scoped ls (closed constants metas)) zs f (closed constants metas) i v e))
+  flat_value zs t f u b p q = flat_renamed (scoped ls (closed constants metas)) (applied (length ls) zs) (beneath zs (closed constants metas)) b t q (
+    (λ c. scoped_out ls (closed constants metas) (Const c) ∙ sym (beneath_out zs (closed constants metas) (Const c))),
+    (λ m. scoped_out ls (closed constants metas) (Meta m) ∙ sym (beneath_out zs (closed constants metas) (Meta m))),
+    (λ i o. let (v, e) = placed zs b t p i o in ap (λ j. scoped ls (closed constants metas) (Var j)) (applied_local (length ls) zs i v e) ∙ fitting_at (scoped ls (closed constants metas)) zs f (closed constants metas) i v e),
+  )
       (λ i j o k l. let (v, e) = placed zs b t p i o in let (w, h) = placed zs b t p j k in
-          subst (λ a. a < applied (length ls) zs j) (sym (applied_local (length ls) zs i v e)) (subst (λ a. v < a) (sym (applied_local (length ls) zs j w h)) (u i j v w l e h)))
+      subst (λ a. a < applied (length ls) zs j) (sym (applied_local (length ls) zs i v e)) (subst (λ a. v < a) (sym (applied_local (length ls) zs j w h)) (u i j v w l e h)))
 
   pub flat_put_flexible : (n : PlainNeutral) (k : ℕ) (zs : List Place) (t : SimpleType) → OnDistinct (scoped ls (closed constants metas)) n k zs t → Ordered zs → (y : PlainObject) → Instantiated (length ls) given (atomic n) y → Flat (scoped ls (closed constants metas)) y t
   flat_put_flexible n k zs t d u y i = ⊎_elim
       (λ e. subst (λ z. Flat (scoped ls (closed constants metas)) z t) (determined (left e) (subst (λ q. Instantiated (length ls) given (atomic q) y) d.neutral i)) (inr (k, zs, record { neutral = refl; type = d.type; fitting = d.fitting; distinct = d.distinct }, u)))
       (λ e. let (o, h) = e in let (p, q) = flat k o (arrows zs t) h own in
-          let (b, f, g) = typed_lams zs (flat_long (to_typed true (closed constants metas) o (arrows zs t) p) flat_types q) in
-          subst (λ z. Flat (scoped ls (closed constants metas)) z t)
-          (determined (flex_value (length ls) given k (closed constants metas) (scoped ls (closed constants metas)) zs b t (scoped_out ls (closed constants metas)) d.fitting (h ∙ ap (λ o. Some o) f) (lams_typed zs g)) (subst (λ q. Instantiated (length ls) given (atomic q) y) d.neutral i))
-          (flat_value zs t d.fitting u b g (flat_lams zs (closed constants metas) b t (subst (λ z. Flat (closed constants metas) z (arrows zs t)) f q))))
+      let (b, f, g) = typed_lams zs (flat_long (to_typed true (closed constants metas) o (arrows zs t) p) flat_types q) in
+      subst (λ z. Flat (scoped ls (closed constants metas)) z t)
+      (determined (flex_value (length ls) given k (closed constants metas) (scoped ls (closed constants metas)) zs b t (scoped_out ls (closed constants metas)) d.fitting (h ∙ ap (λ o. Some o) f) (lams_typed zs g)) (subst (λ q. Instantiated (length ls) given (atomic q) y) d.neutral i))
+      (flat_value zs t d.fitting u b g (flat_lams zs (closed constants metas) b t (subst (λ z. Flat (closed constants metas) z (arrows zs t)) f q))))
       (cases_of (given k))
     where
       own : metas k ≡ Some (arrows zs t)
@@ -156,33 +158,42 @@ kept_typed g (kept_fst q) t k f n p = (p.0, kept_typed g q (simple_with t p.0) k
 kept_typed g (kept_snd q) t k f n p = (p.0, kept_typed g q (simple_with p.0 t) k f n p.1)
 
 module _ (constants metas : Types) (given : Instantiation) (typed : TypedInstantiation (closed constants metas) (closed constants metas) given)
-  (flat_types : FlatTypes (closed constants metas))
-  (flat : (k : ℕ) (o : PlainObject) (a : SimpleType) → given k ≡ Some o → metas k ≡ Some a → SimplyTyped (closed constants metas) o a × Flat (closed constants metas) o a) where
+    (flat_types : FlatTypes (closed constants metas))
+    (flat : (k : ℕ) (o : PlainObject) (a : SimpleType) → given k ≡ Some o → metas k ≡ Some a → SimplyTyped (closed constants metas) o a × Flat (closed constants metas) o a) where
   stay : (ls : Locals) (o x : PlainObject) (a : SimpleType) → SimplyTyped (scoped ls (closed constants metas)) o a → Instantiated (length ls) given o x → SimplyTyped (scoped ls (closed constants metas)) x a
   stay ls o x a p i = stays_typed constants metas given typed ls o x a p i
 
   mutual
     pub flat_put : (x : PlainObject) (ls : Locals) (t : SimpleType) (y : PlainObject) → Flat (scoped ls (closed constants metas)) x t → SimplyTyped (scoped ls (closed constants metas)) x t → Instantiated (length ls) given x y → Flat (scoped ls (closed constants metas)) y t
-    flat_put (lam m b) ls t y (d, c, e, f) p i = let (x, h, k) = body i in subst (λ z. Flat (scoped ls (closed constants metas)) z t) (sym h)
-        (d, c, e, flat_put b ((m, d) ∷ ls) c x f
-            (subst (λ a. SimplyTyped (extended a (scoped ls (closed constants metas))) b c) (from_type (sym e ∙ p.2)) (subst (λ a. SimplyTyped (extended p.0 (scoped ls (closed constants metas))) b a) (to_type (sym e ∙ p.2)) p.3))
-            (subst (λ s. Substituted s b x) (under_instant (length ls) given) k))
+    flat_put (lam m b) ls t y (d, c, e, f) p i = let (x, h, k) = body i in subst (λ z. Flat (scoped ls (closed constants metas)) z t) (sym h) (
+      d,
+      c,
+      e,
+      flat_put b ((m, d) ∷ ls) c x f
+          (subst (λ a. SimplyTyped (extended a (scoped ls (closed constants metas))) b c) (from_type (sym e ∙ p.2)) (subst (λ a. SimplyTyped (extended p.0 (scoped ls (closed constants metas))) b a) (to_type (sym e ∙ p.2)) p.3))
+          (subst (λ s. Substituted s b x) (under_instant (length ls) given) k),
+    )
     flat_put (pair l r) ls t y (c, d, e, f, h) p i = let (x, w, k, j, u) = parts i in subst (λ z. Flat (scoped ls (closed constants metas)) z t) (sym k)
         (c, d, e, flat_put l ls c x f (subst (SimplyTyped (scoped ls (closed constants metas)) l) (first_type (sym e ∙ p.2)) p.3) j, flat_put r ls d w h (subst (SimplyTyped (scoped ls (closed constants metas)) r) (second_type (sym e ∙ p.2)) p.4) u)
     flat_put unit ls t y f p i = subst (λ z. Flat (scoped ls (closed constants metas)) z t) (determined through_unit i) tt
     flat_put (monadic e) ls t y f p i = absurd f
     flat_put (atomic n) ls t y f p i = ⊎_elim
         (λ h. let (x, e, k) = keeps_head (length ls) given h.0 i in subst (λ z. Flat (scoped ls (closed constants metas)) z t) (sym e)
-            (inl (ap is_metavariable (kept_head k (keeps_others (length ls) given) h.0) ∙ h.0, flat_put_below n ls t x h.0 h.1 p.1 k)))
+        (inl (ap is_metavariable (kept_head k (keeps_others (length ls) given) h.0) ∙ h.0, flat_put_below n ls t x h.0 h.1 p.1 k)))
         (λ h. flat_put_flexible constants metas given typed flat_types flat ls n h.0 h.1 t h.2 h.3 y i)
         f
     flat_put hole ls t y f p i = absurd f
 
     pub flat_put_below : (n : PlainNeutral) (ls : Locals) (t : SimpleType) (y : PlainNeutral) → is_metavariable (head_of n) ≡ false → FlatBelow (scoped ls (closed constants metas)) n → SimplyTypedNeutral (scoped ls (closed constants metas)) n t → KeepsHead (under (length ls) (instant given)) n y → FlatBelow (scoped ls (closed constants metas)) y
     flat_put_below (head_alone h) ls t y e f p (kept_bare k) = tt
-    flat_put_below (app m r o) ls t y e (f, (d, c, q, k)) p (kept_app {x = x} {y = w} i j) =
-        ( flat_put_below r ls (arrow m p.0 t) x e f p.1 i
-        , (d, c, kept_typed (scoped ls (closed constants metas)) i (arrow m d c) (keeps_others (length ls) given) (stay ls) e q
-            , flat_put o ls d w k (subst (SimplyTyped (scoped ls (closed constants metas)) o) (from_type (neutral_has_one_type (no_holes true) (scoped ls (closed constants metas)) r (arrow m d c) (arrow m p.0 t) q p.1)) p.2) j))
+    flat_put_below (app m r o) ls t y e (f, (d, c, q, k)) p (kept_app {x = x} {y = w} i j) = (
+      flat_put_below r ls (arrow m p.0 t) x e f p.1 i,
+      (
+        d,
+        c,
+        kept_typed (scoped ls (closed constants metas)) i (arrow m d c) (keeps_others (length ls) given) (stay ls) e q,
+        flat_put o ls d w k (subst (SimplyTyped (scoped ls (closed constants metas)) o) (from_type (neutral_has_one_type (no_holes true) (scoped ls (closed constants metas)) r (arrow m d c) (arrow m p.0 t) q p.1)) p.2) j,
+      ),
+    )
     flat_put_below (fst r) ls t y e f p (kept_fst {x = x} i) = flat_put_below r ls (simple_with t p.0) x e f p.1 i
     flat_put_below (snd r) ls t y e f p (kept_snd {x = x} i) = flat_put_below r ls (simple_with p.0 t) x e f p.1 i

@@ -73,7 +73,7 @@ head_on (p ∷ ps) r = head_on ps r
 pub foreign_cases : (n : ℕ) (ps : List Place) (d w : ℕ) → Foreign n ps d w ⊎ (Foreign n ps d w → ⊥)
 foreign_cases n ps d w = ⊎_elim
     (λ l. ⊎_elim (λ h. ⊎_elim (λ c. inr (λ f. f.3 c.0 (c.1 ∙ ap (λ v. Some v) (number f.0 f.1)))) (λ c. inl (w - d, back l, h, c)) (searched ps (w - d)))
-        (λ h. inr (λ f. high f.0 f.1 f.2 h)) (cut (w - d) n))
+    (λ h. inr (λ f. high f.0 f.1 f.2 h)) (cut (w - d) n))
     (λ l. inr (λ f. low f.0 f.1 l)) (cut2 d w)
   where
     cut : (a b : ℕ) → (a < b) ⊎ (b ≤ a)
@@ -144,9 +144,9 @@ module _ (g : Assignment) (ls : Locals) (m : ℕ) (ps : List Place) where
         (λ a. let (es, q, k, w, s, i, o) = a in (es, q, k, w, standing_left s, i, o))
         (λ a. let (es, q, k, zs, s, o) = a in (es, q, k, zs, standing_left s, o))
         (λ a. of_sides
-            (λ b. let (es, q, k, w, s, i, o) = b in (es, q, k, w, standing_right s, i, o))
-            (λ b. let (es, q, k, zs, s, o) = b in (es, q, k, zs, standing_right s, o))
-            (λ b. inr (inr (neither a.0 b.0, (c, d, refl, a.1, b.1)))) (look ds r d h))
+        (λ b. let (es, q, k, w, s, i, o) = b in (es, q, k, w, standing_right s, i, o))
+        (λ b. let (es, q, k, zs, s, o) = b in (es, q, k, zs, standing_right s, o))
+        (λ b. inr (inr (neither a.0 b.0, (c, d, refl, a.1, b.1)))) (look ds r d h))
         (look ds l c f))
     look ds unit t f = inr (inr (refl, tt))
     look ds (monadic e) t f = absurd f
@@ -167,9 +167,9 @@ module _ (g : Assignment) (ls : Locals) (m : ℕ) (ps : List Place) where
         (λ a. ⊎_elim (λ b. let (es, q, k, w, s, i, u) = b in inl (es, q, k, w, in_earlier s, i, u)) (λ b. inr b) a)
         (λ a. let (es, q, k, zs, s, u) = a in (es, q, k, zs, in_earlier s, u))
         (λ a. of_sides
-            (λ b. let (es, q, k, w, s, i, u) = b in inl (es, q, k, w, in_this c p s, i, u))
-            (λ b. let (es, q, k, zs, s, u) = b in (es, q, k, zs, in_this c p s, u))
-            (λ b. inr (inr (neither a.0 b.0, (a.1, (d, c, p, b.1))))) (look ds o d h))
+        (λ b. let (es, q, k, w, s, i, u) = b in inl (es, q, k, w, in_this c p s, i, u))
+        (λ b. let (es, q, k, zs, s, u) = b in (es, q, k, zs, in_this c p s, u))
+        (λ b. inr (inr (neither a.0 b.0, (a.1, (d, c, p, b.1))))) (look ds o d h))
         (look_below ds r e f)
     look_below ds (fst r) e f = of_sides
         (λ a. ⊎_elim (λ b. let (es, q, k, w, s, i, u) = b in inl (es, q, k, w, under_fst s, i, u)) (λ b. inr b) a)
@@ -189,9 +189,9 @@ pub flat_reach : (g : Assignment) (ls : Locals) (r : PlainNeutral) (m : ℕ) (ps
 flat_reach g ls r m ps a fin own o n f = ⊎_elim
     (λ h. rigid h.0 (look_below g ls m ps [] n h.0 h.1))
     (λ h. let (k, zs, d, u) = h in ⊎_elim
-        (λ e. same zs (subst (λ j. OnDistinct (scoped ls g) n j zs a) e d) u)
-        (λ e. free_reach (ap (mentions_neutral m) d.neutral ∙ on_silent m zs (head_alone (Meta k)) e) (inr (ap (λ j. is_metavariable (head_of j)) d.neutral ∙ ap is_metavariable (head_on zs (head_alone (Meta k))), inr (k, zs, d))))
-        (number_cases k m))
+    (λ e. same zs (subst (λ j. OnDistinct (scoped ls g) n j zs a) e d) u)
+    (λ e. free_reach (ap (mentions_neutral m) d.neutral ∙ on_silent m zs (head_alone (Meta k)) e) (inr (ap (λ j. is_metavariable (head_of j)) d.neutral ∙ ap is_metavariable (head_on zs (head_alone (Meta k))), inr (k, zs, d))))
+    (number_cases k m))
     f
   where
     same : (zs : List Place) → OnDistinct (scoped ls g) n m zs a → Ordered zs → InReach g ls r m ps a (atomic n)

@@ -47,9 +47,13 @@ fitting_mapped z r g (p ∷ ps) P f h c = (of (blank p.1) (λ e. h 0 p.2 e) c.0,
 mutual
   pub flat_renamed : (z : Assignment) (r : Renumbering) (g : Assignment) (x : PlainObject) (t : SimpleType) → Flat g x t → Suited (λ i. occurs i x ≡ true) z r g → Rises (λ i. occurs i x ≡ true) r → Flat z (ren r x) t
   flat_renamed z r g (lam m b) t (d, c, e, p) f o = (d, c, e, flat_renamed (extended d z) (lifted 1 r) (extended d g) b c p (suited_lifted (λ i. occurs i b ≡ true) d z r g f) (rises_lifted (λ i. occurs i b ≡ true) r o))
-  flat_renamed z r g (pair k l) t (c, d, e, p, q) f o = (c, d, e,
-      flat_renamed z r g k c p (f.0, f.1, (λ i h. f.2 i (or_first (occurs i k) (occurs i l) h))) (λ i j h u. o i j (or_first (occurs i k) (occurs i l) h) (or_first (occurs j k) (occurs j l) u)),
-      flat_renamed z r g l d q (f.0, f.1, (λ i h. f.2 i (or_second (occurs i k) (occurs i l) h))) (λ i j h u. o i j (or_second (occurs i k) (occurs i l) h) (or_second (occurs j k) (occurs j l) u)))
+  flat_renamed z r g (pair k l) t (c, d, e, p, q) f o = (
+    c,
+    d,
+    e,
+    flat_renamed z r g k c p (f.0, f.1, (λ i h. f.2 i (or_first (occurs i k) (occurs i l) h))) (λ i j h u. o i j (or_first (occurs i k) (occurs i l) h) (or_first (occurs j k) (occurs j l) u)),
+    flat_renamed z r g l d q (f.0, f.1, (λ i h. f.2 i (or_second (occurs i k) (occurs i l) h))) (λ i j h u. o i j (or_second (occurs i k) (occurs i l) h) (or_second (occurs j k) (occurs j l) u)),
+  )
   flat_renamed z r g unit t p f o = tt
   flat_renamed z r g (monadic e) t p f o = absurd p
   flat_renamed z r g (atomic n) t p f o = ⊎_elim
@@ -63,8 +67,17 @@ mutual
 
       flexible : (n : PlainNeutral) → (k : ℕ) × (zs : List Place) × OnDistinct g n k zs t × Ordered zs → Suited (λ i. occurs_neutral i n ≡ true) z r g → Rises (λ i. occurs_neutral i n ≡ true) r
           → (k : ℕ) × (zs : List Place) × OnDistinct z (ren_neutral r n) k zs t × Ordered zs
-      flexible n (k, zs, d, u) f o = (k, mapped r zs, record { neutral = ap (ren_neutral r) d.neutral ∙ ren_on r zs (head_alone (Meta k)); type = f.1 k ∙ d.type ∙ ap (λ c. Some c) (sym (arrows_mapped r zs t))
-          ; fitting = fitting_mapped z r g zs (λ v. occurs_neutral v n ≡ true) f there d.fitting; distinct = distinct_of (mapped r zs) rising }, rising)
+      flexible n (k, zs, d, u) f o = (
+        k,
+        mapped r zs,
+        record {
+          neutral = ap (ren_neutral r) d.neutral ∙ ren_on r zs (head_alone (Meta k));
+          type = f.1 k ∙ d.type ∙ ap (λ c. Some c) (sym (arrows_mapped r zs t));
+          fitting = fitting_mapped z r g zs (λ v. occurs_neutral v n ≡ true) f there d.fitting;
+          distinct = distinct_of (mapped r zs) rising;
+        },
+        rising,
+      )
         where
           there : (i v : ℕ) → local_at zs i ≡ Some v → occurs_neutral v n ≡ true
           there i v e = subst (λ q. occurs_neutral v q ≡ true) (sym d.neutral) (place_occurs zs (head_alone (Meta k)) i v e)
@@ -76,9 +89,14 @@ mutual
 
   pub flat_renamed_below : (z : Assignment) (r : Renumbering) (g : Assignment) (n : PlainNeutral) → FlatBelow g n → Suited (λ i. occurs_neutral i n ≡ true) z r g → Rises (λ i. occurs_neutral i n ≡ true) r → FlatBelow z (ren_neutral r n)
   flat_renamed_below z r g (head_alone h) p f o = tt
-  flat_renamed_below z r g (app m q x) (p, (d, c, e, y)) f o =
-      ( flat_renamed_below z r g q p (f.0, f.1, (λ i h. f.2 i (or_first (occurs_neutral i q) (occurs i x) h))) (λ i j h u. o i j (or_first (occurs_neutral i q) (occurs i x) h) (or_first (occurs_neutral j q) (occurs j x) u))
-      , (d, c, of_neutral (typed_where_neutral z r (to_neutral true g q (arrow m d c) e) (f.0, f.1, (λ i h. f.2 i (or_first (occurs_neutral i q) (occurs i x) h))))
-        , flat_renamed z r g x d y (f.0, f.1, (λ i h. f.2 i (or_second (occurs_neutral i q) (occurs i x) h))) (λ i j h u. o i j (or_second (occurs_neutral i q) (occurs i x) h) (or_second (occurs_neutral j q) (occurs j x) u))))
+  flat_renamed_below z r g (app m q x) (p, (d, c, e, y)) f o = (
+    flat_renamed_below z r g q p (f.0, f.1, (λ i h. f.2 i (or_first (occurs_neutral i q) (occurs i x) h))) (λ i j h u. o i j (or_first (occurs_neutral i q) (occurs i x) h) (or_first (occurs_neutral j q) (occurs j x) u)),
+    (
+      d,
+      c,
+      of_neutral (typed_where_neutral z r (to_neutral true g q (arrow m d c) e) (f.0, f.1, (λ i h. f.2 i (or_first (occurs_neutral i q) (occurs i x) h)))),
+      flat_renamed z r g x d y (f.0, f.1, (λ i h. f.2 i (or_second (occurs_neutral i q) (occurs i x) h))) (λ i j h u. o i j (or_second (occurs_neutral i q) (occurs i x) h) (or_second (occurs_neutral j q) (occurs j x) u)),
+    ),
+  )
   flat_renamed_below z r g (fst q) p f o = flat_renamed_below z r g q p f o
   flat_renamed_below z r g (snd q) p f o = flat_renamed_below z r g q p f o

@@ -34,9 +34,11 @@ three i j = grind arith
 -- The inverted side of an equation of flat sides is flat.
 pub flat_inverted : (constants metas : Types) (ls : Locals) (r : PlainNeutral) (m : ℕ) (ps : List Place) (a : SimpleType) → OnDistinct (scoped ls (closed constants metas)) r m ps a → Ordered ps
     → (x : PlainObject) → Flat (scoped ls (closed constants metas)) x a → Covers ps x → Flat (closed constants metas) (inverted (length ls) ps x) (arrows ps a)
-flat_inverted constants metas ls r m ps a d u x f cov = lams_flat ps (closed constants metas) _ a (flat_renamed (beneath ps (closed constants metas)) (inverse (length ls) ps) (scoped ls (closed constants metas)) x a f
-    ((λ c. beneath_out ps (closed constants metas) (Const c) ∙ sym (scoped_out ls (closed constants metas) (Const c))), (λ k. beneath_out ps (closed constants metas) (Meta k) ∙ sym (scoped_out ls (closed constants metas) (Meta k)))
-    , (λ j o. sym (fitting_at (scoped ls (closed constants metas)) ps d.fitting (closed constants metas) (inverse (length ls) ps j) j (inverse_there (length ls) ps (cov j o).0 j (cov j o).1))))
+flat_inverted constants metas ls r m ps a d u x f cov = lams_flat ps (closed constants metas) _ a (flat_renamed (beneath ps (closed constants metas)) (inverse (length ls) ps) (scoped ls (closed constants metas)) x a f (
+  (λ c. beneath_out ps (closed constants metas) (Const c) ∙ sym (scoped_out ls (closed constants metas) (Const c))),
+  (λ k. beneath_out ps (closed constants metas) (Meta k) ∙ sym (scoped_out ls (closed constants metas) (Meta k))),
+  (λ j o. sym (fitting_at (scoped ls (closed constants metas)) ps d.fitting (closed constants metas) (inverse (length ls) ps j) j (inverse_there (length ls) ps (cov j o).0 j (cov j o).1))),
+)
     rises)
   where
     ordered : (i j : ℕ) → i < j → (k l : ℕ) → local_at ps k ≡ Some i → local_at ps l ≡ Some j → k < l

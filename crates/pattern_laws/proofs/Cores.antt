@@ -62,7 +62,7 @@ local_type z (p ∷ ps) [] g x l y i v e o = absurd g
 local_type z (p ∷ ps) (q ∷ qs) g x l y (suc i) v e o = local_type z ps qs g.1 x l.1 y i v e o
 local_type z (p ∷ ps) (q ∷ qs) g x l y zero v e o = let (b, h) = shown (blank p.1) p.2 v e in
     ⊎_elim (λ k. ⊎_elim (λ u. ap (λ j. z (Var j)) (sym h ∙ g.0.local) ∙ u ∙ ap (λ t. Some t) (sym k)) (λ u. absurd (not_both u b)) g.0.own)
-        (λ c. ⊎_elim (λ u. absurd (not_both u b)) (λ u. absurd (not_both o (subst (λ j. occurs j x ≡ false) h u))) c) l.0
+    (λ c. ⊎_elim (λ u. absurd (not_both u b)) (λ u. absurd (not_both o (subst (λ j. occurs j x ≡ false) h u))) c) l.0
 
 away_past : (v n : ℕ) → v < n → (i : ℕ) → away v (i + n) ≡ i + n
 away_past v n h i = stays_there v (i + n) (not_true (nat_eq (i + n) v) (λ e. far (same (i + n) v e)))
@@ -81,9 +81,11 @@ lacks_instance : (constants metas : Types) (ls : Locals) (ps qs : List Place) �
 lacks_instance constants metas ls [] [] g t x w l i = tt
 lacks_instance constants metas ls [] (q ∷ qs) g t x w l i = absurd g
 lacks_instance constants metas ls (p ∷ ps) [] g t x w l i = absurd g
-lacks_instance constants metas ls (p ∷ ps) (q ∷ qs) g t x w l i = (⊎_elim (λ h. inl h) (λ c. inr (⊎_elim (λ h. inl h)
-    (λ h. ⊎_elim (λ o. inr (absent_instance (length ls) t p.2 (subst (λ k. k < length ls) (sym g.0.local) (scoped_in constants metas metas ls q.2 q.1 o).0) x w h i)) (λ o. inl o) g.0.own) c)) l.0,
-    lacks_instance constants metas ls ps qs g.1 t x w l.1 i)
+lacks_instance constants metas ls (p ∷ ps) (q ∷ qs) g t x w l i = (
+  ⊎_elim (λ h. inl h) (λ c. inr (⊎_elim (λ h. inl h)
+      (λ h. ⊎_elim (λ o. inr (absent_instance (length ls) t p.2 (subst (λ k. k < length ls) (sym g.0.local) (scoped_in constants metas metas ls q.2 q.1 o).0) x w h i)) (λ o. inl o) g.0.own) c)) l.0,
+  lacks_instance constants metas ls ps qs g.1 t x w l.1 i,
+)
 
 lacks_joined : (ps qs : List Place) (x y : PlainObject) → Joined x y → LacksMisfits ps qs x → LacksMisfits ps qs y
 lacks_joined [] qs x y j l = tt
@@ -120,7 +122,7 @@ given_body constants metas parameters t f m ps a e = let (o, g, p) = f m (arrows
     (b, g ∙ ap (λ o. Some o) h, lams_typed ps q, q)
 
 module _ (constants metas parameters : Types) (t : Instantiation) (f : Instantiates constants metas parameters t) (ls : Locals) (r : PlainNeutral) (m : ℕ) (ps qs : List Place) (a : SimpleType)
-  (d : OnLocals (scoped ls (closed constants metas)) r m ps qs a) where
+    (d : OnLocals (scoped ls (closed constants metas)) r m ps qs a) where
   pub meta_type : metas m ≡ Some (arrows ps a)
   meta_type = sym (scoped_meta ls (closed constants metas) m) ∙ d.type
 
@@ -129,9 +131,13 @@ module _ (constants metas parameters : Types) (t : Instantiation) (f : Instantia
   stand [] [] g = tt
   stand [] (q ∷ qs) g = absurd g
   stand (p ∷ ps) [] g = absurd g
-  stand (p ∷ ps) (q ∷ qs) g = let (x, i, tx) = instance constants metas parameters t f ls (eta q.1 (head_alone (Var q.2))) p.1 g.0.typed in
-      (g.0.mode, g.0.local, subst (λ o. Typed false (scoped ls (over constants parameters)) o p.1) (determined i (kept_place (under (length ls) (instant t)) (keeps_variables (length ls) t) q.1 q.2)) (typed_over constants parameters ls x p.1 tx)
-      , ⊎_elim (λ o. inl (scoped_in constants metas parameters ls q.2 q.1 o).1) (λ o. inr o) g.0.own, stand ps qs g.1)
+  stand (p ∷ ps) (q ∷ qs) g = let (x, i, tx) = instance constants metas parameters t f ls (eta q.1 (head_alone (Var q.2))) p.1 g.0.typed in (
+    g.0.mode,
+    g.0.local,
+    subst (λ o. Typed false (scoped ls (over constants parameters)) o p.1) (determined i (kept_place (under (length ls) (instant t)) (keeps_variables (length ls) t) q.1 q.2)) (typed_over constants parameters ls x p.1 tx),
+    ⊎_elim (λ o. inl (scoped_in constants metas parameters ls q.2 q.1 o).1) (λ o. inr o) g.0.own,
+    stand ps qs g.1,
+  )
 
   -- the instance of the metavariable on the locals
   flex_instance : (b : PlainObject) → t m ≡ Some (lams ps b) → Typed false (over constants parameters) (lams ps b) (arrows ps a) → Ready (scoped ls (over constants parameters)) ps qs b → Instantiated (length ls) t (atomic r) (ren (applied (length ls) ps) b)
@@ -181,13 +187,16 @@ module _ (constants metas parameters : Types) (t : Instantiation) (f : Instantia
       → Solves (instant t) (record { locals = ls; left = atomic r; right = x; type = a })
   solution_found x tx l cov o w e s c = let (b, g, q, p) = given_body constants metas parameters t f m ps a meta_type in
       let (u, h, i) = of_lams t ps s in let (y, iy, ty) = instance constants metas parameters t f ls x a tx in
-      let j = joined_bodies ps (subst (λ z. Joined z (lams ps u)) (the_object (sym e ∙ g)) (subst (λ z. Joined o z) h c)) in
-      (ren (applied (length ls) ps) b, y,
-      flex_instance b g q (ready_where (scoped ls (over constants parameters)) ps qs (stand ps qs d.places) x l (over constants parameters) b a p (λ k v n z. absent_joined k (joined_is_equivalence.1 b u j) (unused u i k v n z))), iy,
-      subst (λ z. Joined (ren (applied (length ls) ps) b) z)
-      (determined (subst (λ z. Instantiated (length ls) t z (ren (applied (length ls) ps) u)) (undone (applied (length ls) ps) (inverse (length ls) ps) x (λ j oc. applied_inverse (length ls) ps (cov j oc).0 j (cov j oc).1))
-          (renamed (applied (length ls) ps) (applied (length ls) ps) (under (length ls) (instant t)) (fits_instant t (length ps) (length ls) (applied (length ls) ps) (applied_past (length ls) ps)) i)) iy)
-      (renamed_joined (applied (length ls) ps) j))
+      let j = joined_bodies ps (subst (λ z. Joined z (lams ps u)) (the_object (sym e ∙ g)) (subst (λ z. Joined o z) h c)) in (
+        ren (applied (length ls) ps) b,
+        y,
+        flex_instance b g q (ready_where (scoped ls (over constants parameters)) ps qs (stand ps qs d.places) x l (over constants parameters) b a p (λ k v n z. absent_joined k (joined_is_equivalence.1 b u j) (unused u i k v n z))),
+        iy,
+        subst (λ z. Joined (ren (applied (length ls) ps) b) z)
+            (determined (subst (λ z. Instantiated (length ls) t z (ren (applied (length ls) ps) u)) (undone (applied (length ls) ps) (inverse (length ls) ps) x (λ j oc. applied_inverse (length ls) ps (cov j oc).0 j (cov j oc).1))
+            (renamed (applied (length ls) ps) (applied (length ls) ps) (under (length ls) (instant t)) (fits_instant t (length ps) (length ls) (applied (length ls) ps) (applied_past (length ls) ps)) i)) iy)
+            (renamed_joined (applied (length ls) ps) j),
+      )
     where
       the_object : {o v : PlainObject} → Some o ≡ Some v → o ≡ v
       the_object e = cc
@@ -199,7 +208,7 @@ module _ (constants metas parameters : Types) (t : Instantiation) (f : Instantia
       unused : (u : PlainObject) → Instantiated (length ps) t (ren (inverse (length ls) ps) x) u → (k v : ℕ) → local_at ps k ≡ Some v → occurs v x ≡ false → occurs k u ≡ false
       unused u i k v n z = absent_instance (length ps) t k (local_within ps k v n) (ren (inverse (length ls) ps) x) u
           (not_true (occurs k (ren (inverse (length ls) ps) x)) (λ o. let (j, g, oc) = source (inverse (length ls) ps) x k o in
-              not_both oc (subst (λ i. occurs i x ≡ false) (the_number (sym n ∙ ap (local_at ps) (sym g) ∙ inverse_there (length ls) ps (cov j oc).0 j (cov j oc).1)) z))) i
+          not_both oc (subst (λ i. occurs i x ≡ false) (the_number (sym n ∙ ap (local_at ps) (sym g) ∙ inverse_there (length ls) ps (cov j oc).0 j (cov j oc).1)) z))) i
 
 pub beneath_out : (ps : List Place) (y : Assignment) (h : Head) → beneath ps y (ren_head (up (length ps)) h) ≡ y h
 beneath_out [] y (Const c) = refl
@@ -226,9 +235,11 @@ beneath_meta (p ∷ ps) constants parameters c = beneath_meta ps constants param
 -- The inverted side is closed and has the metavariable's type.
 pub inverted_typed : (constants metas : Types) (ls : Locals) (r : PlainNeutral) (m : ℕ) (ps qs : List Place) (a : SimpleType) → OnLocals (scoped ls (closed constants metas)) r m ps qs a
     → (x : PlainObject) → SimplyTyped (scoped ls (closed constants metas)) x a → LacksMisfits ps qs x → Covers ps x → SimplyTyped (closed constants metas) (inverted (length ls) ps x) (arrows ps a)
-inverted_typed constants metas ls r m ps qs a d x tx l cov = of_typed (lams_typed ps (typed_where (beneath ps (closed constants metas)) (inverse (length ls) ps) (to_typed true (scoped ls (closed constants metas)) x a tx)
-    ((λ c. below_const ps c ∙ sym (scoped_const ls c)), (λ k. below_meta ps k ∙ sym (scoped_meta ls (closed constants metas) k)),
-    (λ j oc. sym (local_type (scoped ls (closed constants metas)) ps qs d.places x l (closed constants metas) (inverse (length ls) ps j) j (inverse_there (length ls) ps (cov j oc).0 j (cov j oc).1) oc)))))
+inverted_typed constants metas ls r m ps qs a d x tx l cov = of_typed (lams_typed ps (typed_where (beneath ps (closed constants metas)) (inverse (length ls) ps) (to_typed true (scoped ls (closed constants metas)) x a tx) (
+  (λ c. below_const ps c ∙ sym (scoped_const ls c)),
+  (λ k. below_meta ps k ∙ sym (scoped_meta ls (closed constants metas) k)),
+  (λ j oc. sym (local_type (scoped ls (closed constants metas)) ps qs d.places x l (closed constants metas) (inverse (length ls) ps j) j (inverse_there (length ls) ps (cov j oc).0 j (cov j oc).1) oc)),
+)))
   where
     below_const : (ps : List Place) (c : ℕ) → beneath ps (closed constants metas) (Const c) ≡ constants c
     below_const [] c = refl
@@ -248,9 +259,10 @@ pub narrowed : (constants parameters : Types) (v : Instantiation) (k : ℕ) (ps 
     → ((j : ℕ) → j < length ps → occurs j b ≡ true → (i : ℕ) × (local_at qs i ≡ Some j))
     → v k ≡ Some (inverted (length ps) qs b)
     → Substituted (instant v) (lams ps (atomic (on qs (head_alone (Meta k))))) (lams ps b) × SimplyTyped (over constants parameters) (inverted (length ps) qs b) (arrows qs a)
-narrowed constants parameters v k ps qs a b t f d w cov e =
-    ( pruned_by v k (over constants parameters) (beneath ps (over constants parameters)) ps qs a b (inverse (length ps) qs) (beneath_out ps (over constants parameters)) f e shape back
-    , eta_is_typed.1 (over constants parameters) (lams qs (ren (inverse (length ps) qs) b)) (arrows qs a) (of_typed shape))
+narrowed constants parameters v k ps qs a b t f d w cov e = (
+  pruned_by v k (over constants parameters) (beneath ps (over constants parameters)) ps qs a b (inverse (length ps) qs) (beneath_out ps (over constants parameters)) f e shape back,
+  eta_is_typed.1 (over constants parameters) (lams qs (ren (inverse (length ps) qs) b)) (arrows qs a) (of_typed shape),
+)
   where
     back : (j : ℕ) → occurs j b ≡ true → applied (length ps) qs (inverse (length ps) qs j) ≡ j
     back j oc = ⊎_elim (λ h. let (i, g) = cov j h oc in applied_inverse (length ps) qs i j g)
@@ -263,7 +275,7 @@ narrowed constants parameters v k ps qs a b t f d w cov e =
     same : (j : ℕ) → occurs j b ≡ true → beneath qs (over constants parameters) (Var (inverse (length ps) qs j)) ≡ beneath ps (over constants parameters) (Var j)
     same j oc = ⊎_elim (λ h. let (i, g) = cov j h oc in sym (fitting_at (beneath ps (over constants parameters)) qs f (over constants parameters) (inverse (length ps) qs j) j (inverse_there (length ps) qs i j g)))
         (λ h. subst (λ i. beneath qs (over constants parameters) (Var (inverse (length ps) qs i)) ≡ beneath ps (over constants parameters) (Var i)) (again h)
-            (ap (λ i. beneath qs (over constants parameters) (Var i)) (inverse_past (length ps) qs w (j - length ps)) ∙ beneath_out qs (over constants parameters) (Var (j - length ps)) ∙ sym (beneath_out ps (over constants parameters) (Var (j - length ps)))))
+        (ap (λ i. beneath qs (over constants parameters) (Var i)) (inverse_past (length ps) qs w (j - length ps)) ∙ beneath_out qs (over constants parameters) (Var (j - length ps)) ∙ sym (beneath_out ps (over constants parameters) (Var (j - length ps)))))
         (cut j (length ps))
       where
         again : length ps ≤ j → j - length ps + length ps ≡ j

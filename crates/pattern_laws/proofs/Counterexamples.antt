@@ -15,28 +15,30 @@ use Rattle.pattern_laws.specs.Equations.{scoped, Solves}
 use Rattle.pattern_laws.proofs.Spines.{flex_value}
 use Rattle.pattern_laws.proofs.Instances.{scoped_out}
 
-
 -- `?0 !x !y = ?0 !y !x`, a circle: an object that uses both locals in steps that can be exchanged is a solution.
 shape : (m : Mode) → Typed false (over (λ c. Some (arrow m (base 0) (lax simple_end))) (λ i. None)) (lam m (lam m (monadic (step [] (app m (head_alone (Const 0)) (atomic (head_alone (Var 0)))) (step [] (app m (head_alone (Const 0)) (atomic (head_alone (Var 1)))) (done empty)))))) (arrow m (base 0) (arrow m (base 0) (lax simple_end)))
 shape m = typed_lam (typed_lam (typed_monadic (typed_step {ts = simple_end} (typed_app (typed_bare refl) (typed_atomic (typed_bare refl))) refl (typed_step {ts = simple_end} (typed_app (typed_bare refl) (typed_atomic (typed_bare refl))) refl (typed_done typed_empty)))))
 
 pub circle_solved : (m : Mode) → Solves (instant (λ k. Some (lam m (lam m (monadic (step [] (app m (head_alone (Const 0)) (atomic (head_alone (Var 0)))) (step [] (app m (head_alone (Const 0)) (atomic (head_alone (Var 1)))) (done empty))))))))
-    (record { locals = (m, base 0) ∷ (m, base 0) ∷ []
-    ; left = atomic (app m (app m (head_alone (Meta 0)) (atomic (head_alone (Var 1)))) (atomic (head_alone (Var 0))))
-    ; right = atomic (app m (app m (head_alone (Meta 0)) (atomic (head_alone (Var 0)))) (atomic (head_alone (Var 1))))
-    ; type = lax simple_end })
-circle_solved m =
-    ( monadic (step [] (app m (head_alone (Const 0)) (atomic (head_alone (Var 0)))) (step [] (app m (head_alone (Const 0)) (atomic (head_alone (Var 1)))) (done empty)))
-    , monadic (step [] (app m (head_alone (Const 0)) (atomic (head_alone (Var 1)))) (step [] (app m (head_alone (Const 0)) (atomic (head_alone (Var 0)))) (done empty)))
-    , flex_value 2 (λ k. Some (lam m (lam m (monadic (step [] (app m (head_alone (Const 0)) (atomic (head_alone (Var 0)))) (step [] (app m (head_alone (Const 0)) (atomic (head_alone (Var 1)))) (done empty))))))) 0
-        (over (λ c. Some (arrow m (base 0) (lax simple_end))) (λ i. None)) (scoped ((m, base 0) ∷ (m, base 0) ∷ []) (over (λ c. Some (arrow m (base 0) (lax simple_end))) (λ i. None)))
-        ((m, base 0, 0) ∷ (m, base 0, 1) ∷ []) (monadic (step [] (app m (head_alone (Const 0)) (atomic (head_alone (Var 0)))) (step [] (app m (head_alone (Const 0)) (atomic (head_alone (Var 1)))) (done empty)))) (lax simple_end)
-        (scoped_out ((m, base 0) ∷ (m, base 0) ∷ []) (over (λ c. Some (arrow m (base 0) (lax simple_end))) (λ i. None))) (inl refl, (inl refl, tt)) refl (shape m)
-    , flex_value 2 (λ k. Some (lam m (lam m (monadic (step [] (app m (head_alone (Const 0)) (atomic (head_alone (Var 0)))) (step [] (app m (head_alone (Const 0)) (atomic (head_alone (Var 1)))) (done empty))))))) 0
-        (over (λ c. Some (arrow m (base 0) (lax simple_end))) (λ i. None)) (scoped ((m, base 0) ∷ (m, base 0) ∷ []) (over (λ c. Some (arrow m (base 0) (lax simple_end))) (λ i. None)))
-        ((m, base 0, 1) ∷ (m, base 0, 0) ∷ []) (monadic (step [] (app m (head_alone (Const 0)) (atomic (head_alone (Var 0)))) (step [] (app m (head_alone (Const 0)) (atomic (head_alone (Var 1)))) (done empty)))) (lax simple_end)
-        (scoped_out ((m, base 0) ∷ (m, base 0) ∷ []) (over (λ c. Some (arrow m (base 0) (lax simple_end))) (λ i. None))) (inl refl, (inl refl, tt)) refl (shape m)
-    , next (in_monadic (exchange refl refl refl)) stop )
+    (record {
+      locals = (m, base 0) ∷ (m, base 0) ∷ [];
+      left = atomic (app m (app m (head_alone (Meta 0)) (atomic (head_alone (Var 1)))) (atomic (head_alone (Var 0))));
+      right = atomic (app m (app m (head_alone (Meta 0)) (atomic (head_alone (Var 0)))) (atomic (head_alone (Var 1))));
+      type = lax simple_end;
+    })
+circle_solved m = (
+  monadic (step [] (app m (head_alone (Const 0)) (atomic (head_alone (Var 0)))) (step [] (app m (head_alone (Const 0)) (atomic (head_alone (Var 1)))) (done empty))),
+  monadic (step [] (app m (head_alone (Const 0)) (atomic (head_alone (Var 1)))) (step [] (app m (head_alone (Const 0)) (atomic (head_alone (Var 0)))) (done empty))),
+  flex_value 2 (λ k. Some (lam m (lam m (monadic (step [] (app m (head_alone (Const 0)) (atomic (head_alone (Var 0)))) (step [] (app m (head_alone (Const 0)) (atomic (head_alone (Var 1)))) (done empty))))))) 0
+      (over (λ c. Some (arrow m (base 0) (lax simple_end))) (λ i. None)) (scoped ((m, base 0) ∷ (m, base 0) ∷ []) (over (λ c. Some (arrow m (base 0) (lax simple_end))) (λ i. None)))
+      ((m, base 0, 0) ∷ (m, base 0, 1) ∷ []) (monadic (step [] (app m (head_alone (Const 0)) (atomic (head_alone (Var 0)))) (step [] (app m (head_alone (Const 0)) (atomic (head_alone (Var 1)))) (done empty)))) (lax simple_end)
+      (scoped_out ((m, base 0) ∷ (m, base 0) ∷ []) (over (λ c. Some (arrow m (base 0) (lax simple_end))) (λ i. None))) (inl refl, (inl refl, tt)) refl (shape m),
+  flex_value 2 (λ k. Some (lam m (lam m (monadic (step [] (app m (head_alone (Const 0)) (atomic (head_alone (Var 0)))) (step [] (app m (head_alone (Const 0)) (atomic (head_alone (Var 1)))) (done empty))))))) 0
+      (over (λ c. Some (arrow m (base 0) (lax simple_end))) (λ i. None)) (scoped ((m, base 0) ∷ (m, base 0) ∷ []) (over (λ c. Some (arrow m (base 0) (lax simple_end))) (λ i. None)))
+      ((m, base 0, 1) ∷ (m, base 0, 0) ∷ []) (monadic (step [] (app m (head_alone (Const 0)) (atomic (head_alone (Var 0)))) (step [] (app m (head_alone (Const 0)) (atomic (head_alone (Var 1)))) (done empty)))) (lax simple_end)
+      (scoped_out ((m, base 0) ∷ (m, base 0) ∷ []) (over (λ c. Some (arrow m (base 0) (lax simple_end))) (λ i. None))) (inl refl, (inl refl, tt)) refl (shape m),
+  next (in_monadic (exchange refl refl refl)) stop,
+)
 
 -- A tree can be the eta-long form of a variable at the variable's type and stand at another simple type: where a domain is blank.
 -- So an argument has to be asked whether its variable has the simple type of the place.

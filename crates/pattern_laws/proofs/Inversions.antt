@@ -40,10 +40,11 @@ pub forced : (n : ℕ) (t : Instantiation) (ps : List Place) (x w v b : PlainObj
     → ((j : ℕ) → occurs j b ≡ true → i (applied n ps j) ≡ j)
     → Instantiated n t x w → Joined v w
     → (o : PlainObject) × Substituted (instant t) (lams ps (ren i x)) o × Joined (lams ps b) o
-forced n t ps x w v b i e past back p c =
-    ( lams ps (ren i w)
-    , through_lams t ps (renamed i i (under (length ps) (instant t)) (fits_instant t n (length ps) i past) p)
-    , lams_joined ps (subst (λ u. Joined u (ren i w)) (undone i (applied n ps) b back) (renamed_joined i (subst (λ u. Joined u w) e c))))
+forced n t ps x w v b i e past back p c = (
+  lams ps (ren i w),
+  through_lams t ps (renamed i i (under (length ps) (instant t)) (fits_instant t n (length ps) i past) p),
+  lams_joined ps (subst (λ u. Joined u (ren i w)) (undone i (applied n ps) b back) (renamed_joined i (subst (λ u. Joined u w) e c))),
+)
 
 -- Pruning: where what is below the lambdas mentions only the variables that are kept, the metavariable is one on these alone.
 pub pruned_by : (t : Instantiation) (k : ℕ) (y z : Assignment) (ps qs : List Place) (a : SimpleType) (b : PlainObject) (i : Renumbering)

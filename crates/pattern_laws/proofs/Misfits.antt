@@ -198,8 +198,8 @@ applied_form z d t m b y x w p q s c = ⊎_elim (λ e. inl (blank_stays s e)) (�
     inner k l v n f h (inr a) = let (b2, e2, tb) = lam_typed false p in
         let (t2, tn) = typed_inside v (extended d z) (app k (ren_neutral (up 1) n) (eta l (head_alone (Var 0)))) t (subst (λ o. Typed false (extended d z) o t) (same_body e2 ∙ f) tb) a in
         ⊎_elim (λ r. let (x2, kh, _) = r in inr (v, x2, determined s (subst (λ o. Substituted (single y 0) o (eta v x2)) (sym f) (eta_kept v (single y 0) kh)), the_head (head_kept kh) (kept_there n h), a))
-            (λ r. absurd (let (o, hp) = head_put r.1 in no_put (kept_there n h) hp))
-            (total_neutral false (rank d) (λ j i. all_total false j) z (single y 0) tn (single_env false d z y q))
+        (λ r. absurd (let (o, hp) = head_put r.1 in no_put (kept_there n h) hp))
+        (total_neutral false (rank d) (λ j i. all_total false j) z (single y 0) tn (single_env false d z y q))
       where
         same_body : {c : PlainObject} → lam m b ≡ lam m c → c ≡ b
         same_body e = cc

@@ -34,7 +34,7 @@ mutual
   pub target_expression : (r : Renumbering) (o : PlainExpression) (j : ℕ) → occurs_expression j o ≡ true → occurs_expression (r j) (ren_expression r o) ≡ true
   target_expression r (step ms x y) j e = ⊎_elim (λ k. or_first (occurs_neutral (r j) (ren_neutral r x)) (occurs_expression (r j + length ms) (ren_expression (lifted (length ms) r) y)) (target_neutral r x j k))
       (λ k. or_second (occurs_neutral (r j) (ren_neutral r x)) (occurs_expression (r j + length ms) (ren_expression (lifted (length ms) r) y))
-          (subst (λ i. occurs_expression i (ren_expression (lifted (length ms) r) y) ≡ true) (lift_up (length ms) r j) (target_expression (lifted (length ms) r) y (j + length ms) k)))
+      (subst (λ i. occurs_expression i (ren_expression (lifted (length ms) r) y) ≡ true) (lift_up (length ms) r j) (target_expression (lifted (length ms) r) y (j + length ms) k)))
       (either (occurs_neutral j x) (occurs_expression (j + length ms) y) e)
   target_expression r (done t) j e = target_tuple r t j e
 

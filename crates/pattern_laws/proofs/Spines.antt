@@ -139,8 +139,10 @@ pub placed : (z : Assignment) (d u : SimpleType) (y : ℕ) (o : PlainObject) →
     → Substituted (single (eta u (head_alone (Var y))) 0) o (ren (becoming 0 y) o) × Typed false z (ren (becoming 0 y) o) a
 placed z d u y o c a t = ⊎_elim
     (λ e. (subst (λ v. Substituted (single (eta v (head_alone (Var y))) 0) o (ren (becoming 0 y) o)) (sym e.1) (eta_renames (extended d z) z 0 y d refl (suits z d y e.0) o a t), renamed_typed z (becoming 0 y) t (suits z d y e.0)))
-    (λ h. (subst (λ v. Substituted (single (eta u (head_alone (Var y))) 0) v (ren (becoming 0 y) o)) (composed (raise 1 0) (becoming 0 y) o ∙ agreeing (λ j. raise 1 0 (becoming 0 y j)) (λ j. j) o (λ j e. raised_back y j (positive h j e)) ∙ identity o) (spared (eta u (head_alone (Var y))) 0 (ren (becoming 0 y) o))
-        , typed_where z (becoming 0 y) t ((λ c. refl), (λ m. refl), (λ j e. becoming_suits z d y j (positive h j e))))) c
+    (λ h. (
+      subst (λ v. Substituted (single (eta u (head_alone (Var y))) 0) v (ren (becoming 0 y) o)) (composed (raise 1 0) (becoming 0 y) o ∙ agreeing (λ j. raise 1 0 (becoming 0 y j)) (λ j. j) o (λ j e. raised_back y j (positive h j e)) ∙ identity o) (spared (eta u (head_alone (Var y))) 0 (ren (becoming 0 y) o)),
+      typed_where z (becoming 0 y) t ((λ c. refl), (λ m. refl), (λ j e. becoming_suits z d y j (positive h j e))),
+    )) c
   where
     positive : occurs 0 o ≡ false → (j : ℕ) → occurs j o ≡ true → 0 < j
     positive h zero e = absurd (not_both e h)
@@ -165,15 +167,23 @@ absent_first r c h = not_true (occurs 0 (ren (lifted 1 r) c)) (λ e. let (j, f, 
 
 pub ready_renamed : (z : Assignment) (r : Renumbering) (ps qs : List Place) (c : PlainObject) → Ready z ps qs c → Ready z ps qs (ren (lifted (length ps) r) c)
 ready_renamed z r [] [] c u = tt
-ready_renamed z r (p ∷ ps) (q ∷ qs) c u = (u.0, u.1, ⊎_elim (λ e. inl e) (λ h. inr (subst (λ f. occurs 0 (ren f c) ≡ false) (lift_over (length ps) r) (absent_first (lifted (length ps) r) c h))) u.2,
-    subst (λ f. Ready z ps qs (lam p.0 (ren f c))) (lift_over (length ps) r) (ready_renamed z r ps qs (lam p.0 c) u.3))
+ready_renamed z r (p ∷ ps) (q ∷ qs) c u = (
+  u.0,
+  u.1,
+  ⊎_elim (λ e. inl e) (λ h. inr (subst (λ f. occurs 0 (ren f c) ≡ false) (lift_over (length ps) r) (absent_first (lifted (length ps) r) c h))) u.2,
+  subst (λ f. Ready z ps qs (lam p.0 (ren f c))) (lift_over (length ps) r) (ready_renamed z r ps qs (lam p.0 c) u.3),
+)
 ready_renamed z r [] (q ∷ qs) c u = absurd u
 ready_renamed z r (p ∷ ps) [] c u = absurd u
 
 pub ready_back : (z : Assignment) (r : Renumbering) (ps qs : List Place) (c : PlainObject) → Ready z ps qs (ren (lifted (length ps) r) c) → Ready z ps qs c
 ready_back z r [] [] c u = tt
-ready_back z r (p ∷ ps) (q ∷ qs) c u = (u.0, u.1, ⊎_elim (λ e. inl e) (λ h. inr (not_true (occurs 0 c) (λ o. not_both (first_there o) h))) u.2,
-    ready_back z r ps qs (lam p.0 c) (subst (λ f. Ready z ps qs (lam p.0 (ren f c))) (sym (lift_over (length ps) r)) u.3))
+ready_back z r (p ∷ ps) (q ∷ qs) c u = (
+  u.0,
+  u.1,
+  ⊎_elim (λ e. inl e) (λ h. inr (not_true (occurs 0 c) (λ o. not_both (first_there o) h))) u.2,
+  ready_back z r ps qs (lam p.0 c) (subst (λ f. Ready z ps qs (lam p.0 (ren f c))) (sym (lift_over (length ps) r)) u.3),
+)
   where
     first_there : occurs 0 c ≡ true → occurs 0 (ren (lifted (suc (length ps)) r) c) ≡ true
     first_there o = subst (λ f. occurs 0 (ren f c) ≡ true) (lift_over (length ps) r) (subst (λ i. occurs i (ren (lifted 1 (lifted (length ps) r)) c) ≡ true) (lift_first (lifted (length ps) r)) (target (lifted 1 (lifted (length ps) r)) c 0 o))

@@ -66,7 +66,9 @@ TwoTypes = (m : Mode) (g : Assignment) → (eta (arrow m simple_top (base 0)) (h
 -- With a circle an object that uses both locals can be a solution: of `?0 !x !y = ?0 !y !x`, the locals in two steps that can be exchanged.
 abbrev pub CircleSolved : Type 0
 CircleSolved = (m : Mode) → Solves (instant (λ k. Some (lam m (lam m (monadic (step [] (app m (head_alone (Const 0)) (atomic (head_alone (Var 0)))) (step [] (app m (head_alone (Const 0)) (atomic (head_alone (Var 1)))) (done empty))))))))
-    (record { locals = (m, base 0) ∷ (m, base 0) ∷ []
-    ; left = atomic (app m (app m (head_alone (Meta 0)) (atomic (head_alone (Var 1)))) (atomic (head_alone (Var 0))))
-    ; right = atomic (app m (app m (head_alone (Meta 0)) (atomic (head_alone (Var 0)))) (atomic (head_alone (Var 1))))
-    ; type = lax simple_end })
+    (record {
+      locals = (m, base 0) ∷ (m, base 0) ∷ [];
+      left = atomic (app m (app m (head_alone (Meta 0)) (atomic (head_alone (Var 1)))) (atomic (head_alone (Var 0))));
+      right = atomic (app m (app m (head_alone (Meta 0)) (atomic (head_alone (Var 0)))) (atomic (head_alone (Var 1))));
+      type = lax simple_end;
+    })

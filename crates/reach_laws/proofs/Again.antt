@@ -68,19 +68,21 @@ module _ (constants metas parameters : Types) (t : Instantiation) (f : Instantia
       at_old : (n y : PlainObject) → s k ≡ Some n → Substituted (instant (set m x (λ i. None))) n y → InstanceAt t k y
       at_old n y e i = let (u, w, h, l, j) = agrees_s k n e in let (b, tb, tn) = gives_s k n e in
           let (q, r) = instance_of y b ((result_is_typed true no_families (closed constants metas) (closed constants metas) (instant (set m x (λ i. None)))
-              ((instant_is_environment (closed constants metas)).0 (closed constants metas) (set m x (λ i. None)) (gives_typed (closed constants metas) (set m x (λ i. None)) gives_only))).object n y b tn i) in
+          ((instant_is_environment (closed constants metas)).0 (closed constants metas) (set m x (λ i. None)) (gives_typed (closed constants metas) (set m x (λ i. None)) gives_only))).object n y b tn i) in
           (u, q, h, r, trail j (joined_after (set m x (λ i. None)) agrees_only gives_only n y w q b tn i l r))
 
 pub put_in_again : PutInAgain
-put_in_again constants metas given s p typed m o x a n e to put free whole =
-    ( next (closed constants metas) given s p.put_in gives m o x a n e put to tx free whole typed
-    , record
-      { put_in = closed_again (closed constants metas) given s p.put_in gives m o x a n e put to tx free whole typed
-      ; assigns = gives_typed (closed constants metas) (next (closed constants metas) given s p.put_in gives m o x a n e put to tx free whole typed) (next_gives (closed constants metas) given s p.put_in gives m o x a n e put to tx free whole typed)
-      ; instances = (λ parameters t f g. instances_again constants metas parameters t f given s (p.instances parameters t f (agrees_fewer t given m o n g)) gives m o x a e to tx put g
-          (next (closed constants metas) given s p.put_in gives m o x a n e put to tx free whole typed)
-          (next_gives (closed constants metas) given s p.put_in gives m o x a n e put to tx free whole typed)
-          (composed_next (closed constants metas) given s p.put_in gives m o x a n e put to tx free whole typed)) })
+put_in_again constants metas given s p typed m o x a n e to put free whole = (
+  next (closed constants metas) given s p.put_in gives m o x a n e put to tx free whole typed,
+  record {
+    put_in = closed_again (closed constants metas) given s p.put_in gives m o x a n e put to tx free whole typed;
+    assigns = gives_typed (closed constants metas) (next (closed constants metas) given s p.put_in gives m o x a n e put to tx free whole typed) (next_gives (closed constants metas) given s p.put_in gives m o x a n e put to tx free whole typed);
+    instances = (λ parameters t f g. instances_again constants metas parameters t f given s (p.instances parameters t f (agrees_fewer t given m o n g)) gives m o x a e to tx put g
+        (next (closed constants metas) given s p.put_in gives m o x a n e put to tx free whole typed)
+        (next_gives (closed constants metas) given s p.put_in gives m o x a n e put to tx free whole typed)
+        (composed_next (closed constants metas) given s p.put_in gives m o x a n e put to tx free whole typed));
+  },
+)
   where
     gives : Gives (closed constants metas) s
     gives = put_in_types constants metas given s p typed

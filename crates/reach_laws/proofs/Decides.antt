@@ -12,6 +12,7 @@ use Rattle.pattern_laws.specs.Patterns.{Place, Foreign}
 use Rattle.pattern_laws.specs.Equations.{scoped, Locals}
 use Rattle.reach_laws.specs.Reach.{Standing, standing_here, standing_body, standing_left, standing_right, standing_below, StandingBelow, in_this, in_earlier, under_fst, under_snd}
 use Rattle.subst_laws.proofs.Variables.{neutral_has_one_type}
+
 -- where it is decided of a neutral whether it is a metavariable on distinct locals.
 
 from_type : {m k : Mode} {d c e f : SimpleType} → arrow m d c ≡ arrow k e f → e ≡ d
@@ -88,18 +89,22 @@ module _ (base : Assignment) (ls : Locals) (P : Locals → PlainNeutral → Simp
     pub decide_at : (x : PlainObject) (ds : Locals) (t : SimpleType) → SimplyTyped (scoped (ds ++ ls) base) x t → Some_at ds x t ⊎ (Some_at ds x t → ⊥)
     decide_at (lam m b) ds t (d, c, e, p) = ⊎_elim
         (λ a. let (es, q, k, s, h) = a in inl (es ++ (m, d) ∷ [], q, k, subst (Standing (scoped (ds ++ ls) base) (es ++ (m, d) ∷ []) q k (lam m b)) (sym e) (standing_body s), subst (λ l. P l q k) (moved es ds (m, d)) h))
-        (λ f. inr (λ a. let (es, q, k, s, h) = a in let (d', e', fs, u, v, w) = of_body s in f (fs, q, k,
-            subst (λ y. Standing (extended y (scoped (ds ++ ls) base)) fs q k b c) (from_type (sym e ∙ u)) (subst (λ y. Standing (extended d' (scoped (ds ++ ls) base)) fs q k b y) (to_type (sym e ∙ u)) w),
-            subst (λ y. P (fs ++ (m, y) ∷ ds) q k) (from_type (sym e ∙ u)) (subst (λ l. P l q k) (sym (moved fs ds (m, d'))) (subst (λ l. P (l ++ ds) q k) v h)))))
+        (λ f. inr (λ a. let (es, q, k, s, h) = a in let (d', e', fs, u, v, w) = of_body s in f (
+          fs,
+          q,
+          k,
+          subst (λ y. Standing (extended y (scoped (ds ++ ls) base)) fs q k b c) (from_type (sym e ∙ u)) (subst (λ y. Standing (extended d' (scoped (ds ++ ls) base)) fs q k b y) (to_type (sym e ∙ u)) w),
+          subst (λ y. P (fs ++ (m, y) ∷ ds) q k) (from_type (sym e ∙ u)) (subst (λ l. P l q k) (sym (moved fs ds (m, d'))) (subst (λ l. P (l ++ ds) q k) v h)),
+        )))
         (decide_at b ((m, d) ∷ ds) c p)
     decide_at (pair l r) ds t (c, d, e, p, o) = ⊎_elim
         (λ a. let (es, q, k, s, h) = a in inl (es, q, k, subst (Standing (scoped (ds ++ ls) base) es q k (pair l r)) (sym e) (standing_left s), h))
         (λ f. ⊎_elim
-            (λ a. let (es, q, k, s, h) = a in inl (es, q, k, subst (Standing (scoped (ds ++ ls) base) es q k (pair l r)) (sym e) (standing_right s), h))
-            (λ g. inr (λ a. let (es, q, k, s, h) = a in let (c', d', u, w) = of_pair s in ⊎_elim
-                (λ s. f (es, q, k, subst (Standing (scoped (ds ++ ls) base) es q k l) (first_type (sym e ∙ u)) s, h))
-                (λ s. g (es, q, k, subst (Standing (scoped (ds ++ ls) base) es q k r) (second_type (sym e ∙ u)) s, h)) w))
-            (decide_at r ds d o))
+        (λ a. let (es, q, k, s, h) = a in inl (es, q, k, subst (Standing (scoped (ds ++ ls) base) es q k (pair l r)) (sym e) (standing_right s), h))
+        (λ g. inr (λ a. let (es, q, k, s, h) = a in let (c', d', u, w) = of_pair s in ⊎_elim
+        (λ s. f (es, q, k, subst (Standing (scoped (ds ++ ls) base) es q k l) (first_type (sym e ∙ u)) s, h))
+        (λ s. g (es, q, k, subst (Standing (scoped (ds ++ ls) base) es q k r) (second_type (sym e ∙ u)) s, h)) w))
+        (decide_at r ds d o))
         (decide_at l ds c p)
     decide_at unit ds t p = inr (λ a. of_unit a.3)
     decide_at (monadic e) ds t p = inr (λ a. none a.3)
@@ -114,11 +119,11 @@ module _ (base : Assignment) (ls : Locals) (P : Locals → PlainNeutral → Simp
     decide_below (app m r o) ds t p = ⊎_elim
         (λ a. let (es, q, k, s, h) = a in inl (es, q, k, in_earlier s, h))
         (λ f. ⊎_elim
-            (λ a. let (es, q, k, s, h) = a in inl (es, q, k, in_this t p.1 s, h))
-            (λ g. inr (λ a. let (es, q, k, s, h) = a in ⊎_elim
-                (λ u. g (es, q, k, subst (Standing (scoped (ds ++ ls) base) es q k o) (from_type (neutral_has_one_type (no_holes true) (scoped (ds ++ ls) base) r (arrow m p.0 t) (arrow m u.0 u.1) p.1 u.2)) u.3, h))
-                (λ u. f (es, q, k, u, h)) (of_app s)))
-            (decide_at o ds p.0 p.2))
+        (λ a. let (es, q, k, s, h) = a in inl (es, q, k, in_this t p.1 s, h))
+        (λ g. inr (λ a. let (es, q, k, s, h) = a in ⊎_elim
+        (λ u. g (es, q, k, subst (Standing (scoped (ds ++ ls) base) es q k o) (from_type (neutral_has_one_type (no_holes true) (scoped (ds ++ ls) base) r (arrow m p.0 t) (arrow m u.0 u.1) p.1 u.2)) u.3, h))
+        (λ u. f (es, q, k, u, h)) (of_app s)))
+        (decide_at o ds p.0 p.2))
         (decide_below r ds (arrow m p.0 t) p.1)
     decide_below (fst r) ds t p = ⊎_elim (λ a. let (es, q, k, s, h) = a in inl (es, q, k, under_fst s, h)) (λ f. inr (λ a. let (es, q, k, s, h) = a in f (es, q, k, of_fst s, h))) (decide_below r ds (simple_with t p.0) p.1)
     decide_below (snd r) ds t p = ⊎_elim (λ a. let (es, q, k, s, h) = a in inl (es, q, k, under_snd s, h)) (λ f. inr (λ a. let (es, q, k, s, h) = a in f (es, q, k, of_snd s, h))) (decide_below r ds (simple_with p.0 t) p.1)

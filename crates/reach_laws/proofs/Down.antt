@@ -29,6 +29,5 @@ down_more constants metas l k c = down_further constants metas l (l ++ k) (λ d 
 pub down_behind : (constants metas : Types) (l k : List Equation) {e : Equation} → ComesDown constants metas k e → ComesDown constants metas (l ++ k) e
 down_behind constants metas l k c = down_further constants metas k (l ++ k) (λ d m. down_listed (listed_behind d l k m)) c
 
-
 pub down_further_law : DownFurther
 down_further_law constants metas l k f e c = down_further constants metas l k f c

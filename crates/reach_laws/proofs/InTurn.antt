@@ -135,27 +135,28 @@ module _ (constants metas : Types) (s : Instantiation) (assigns : IsAssignment c
   down_under left final f (down_lam {ls = ls} {m = m} {b = b} {c = c} {d = d} {a = a} h) p x y i k = let (v, e, j) = body i in let (w, g, l) = body k in
       subst (λ z. ComesDown constants metas final (record { locals = ls; left = z; right = y; type = arrow m d a })) (sym e) (subst (λ z. ComesDown constants metas final (record { locals = ls; left = lam m v; right = z; type = arrow m d a })) (sym g)
       (down_lam (down_under left final f h (part_typed constants metas (part_body {ls = ls} {m = m} {b = b} {c = c} {d = d} {a = a} part_itself) p) v w
-          (subst (λ z. Substituted z b v) (under_instant (length ls) s) j) (subst (λ z. Substituted z c w) (under_instant (length ls) s) l))))
+      (subst (λ z. Substituted z b v) (under_instant (length ls) s) j) (subst (λ z. Substituted z c w) (under_instant (length ls) s) l))))
   down_under left final f (down_pair {ls = ls} {l = l} {k = k} {r = r} {s = q} {c = c} {d = d} h g) p x y i j = let (v, v', e, iv, iv') = parts i in let (w, w', n, iw, iw') = parts j in
       subst (λ z. ComesDown constants metas final (record { locals = ls; left = z; right = y; type = simple_with c d })) (sym e) (subst (λ z. ComesDown constants metas final (record { locals = ls; left = pair v v'; right = z; type = simple_with c d })) (sym n)
       (down_pair (down_under left final f h (part_typed constants metas (part_left {ls = ls} {l = l} {k = k} {c = c} r q d part_itself) p) v w iv iw)
-          (down_under left final f g (part_typed constants metas (part_right {ls = ls} {r = r} {s = q} {d = d} l k c part_itself) p) v' w' iv' iw')))
+      (down_under left final f g (part_typed constants metas (part_right {ls = ls} {r = r} {s = q} {d = d} l k c part_itself) p) v' w' iv' iw')))
   down_under left final f (down_neutral {ls = ls} {r = r} {n = n} {f = a} h g) p x y i j = let (v, e, kr) = keeps_head (length ls) s (shape_heads h).0 i in let (w, l, kn) = keeps_head (length ls) s (shape_heads h).1 j in
       subst (λ z. ComesDown constants metas final (record { locals = ls; left = z; right = y; type = base a })) (sym e) (subst (λ z. ComesDown constants metas final (record { locals = ls; left = atomic v; right = z; type = base a })) (sym l)
       (down_neutral (shape_under h (keeps_others (length ls) s) kr kn)
-          (λ o u c q. let (o', u', q', io, iu) = part_before (scoped ls (closed constants metas)) (kept ls) q kr kn (base a) p.0.1 in
-              down_under left final f (g o' u' c q') (part_typed constants metas (part_argument {ls = ls} {o = o'} {u = u'} {c = c} r n a part_itself h q') p) o u io iu)))
+      (λ o u c q. let (o', u', q', io, iu) = part_before (scoped ls (closed constants metas)) (kept ls) q kr kn (base a) p.0.1 in
+      down_under left final f (g o' u' c q') (part_typed constants metas (part_argument {ls = ls} {o = o'} {u = u'} {c = c} r n a part_itself h q') p) o u io iu)))
 
 -- an equation after an assignment, in words
 renewed : (constants metas : Types) (s : Instantiation) (final : List Equation) (e d : Equation) → EquationUnder s e d → ComesDown constants metas final (record { locals = e.locals; left = d.left; right = d.right; type = e.type }) → ComesDown constants metas final d
 renewed constants metas s final e d u c = subst (λ ls. ComesDown constants metas final (record { locals = ls; left = d.left; right = d.right; type = d.type })) (sym u.locals) (subst (λ t. ComesDown constants metas final (record { locals = e.locals; left = d.left; right = d.right; type = t })) (sym u.type) c)
 
 pub rests_in_turn : RestsInTurn
-rests_in_turn constants metas s assigns es us left more vs ws final typed first under_es under_left under_more second = record
-    { down = (λ d l. ⊎_elim (of_first d) (of_more d) (listed_cases us ws d l))
-    ; met = (λ d l. let (c, k, p) = second.met d l in ⊎_elim (met_first d c p) (met_more d c p) (listed_cases vs ws c k))
-    ; stuck = second.stuck
-    ; unjoined = second.unjoined }
+rests_in_turn constants metas s assigns es us left more vs ws final typed first under_es under_left under_more second = record {
+  down = (λ d l. ⊎_elim (of_first d) (of_more d) (listed_cases us ws d l));
+  met = (λ d l. let (c, k, p) = second.met d l in ⊎_elim (met_first d c p) (met_more d c p) (listed_cases vs ws c k));
+  stuck = second.stuck;
+  unjoined = second.unjoined;
+}
   where
     again : (e : Equation) → Listed e left → (x y : PlainObject) → Instantiated (length e.locals) s e.left x → Instantiated (length e.locals) s e.right y → ComesDown constants metas final (record { locals = e.locals; left = x; right = y; type = e.type })
     again e l x y i k = let (d, m, u) = listed_under s e l vs under_left in
@@ -181,8 +182,13 @@ traced_in_turn start middle metas before given g f traced again k a e = ⊎_elim
     (λ u. inr u) (again k a e)
   where
     later : (j : ℕ) → CameFrom middle before k j → CameFrom metas given k j
-    later j c = record
-        { places = c.places; mask = c.mask; result = c.result; before = c.before; final = c.final
-        ; older = g j (arrows c.places c.result) c.older
-        ; newer = g k (arrows (masked 0 c.mask c.places) c.result) c.newer
-        ; solution = f j _ c.solution }
+    later j c = record {
+      places = c.places;
+      mask = c.mask;
+      result = c.result;
+      before = c.before;
+      final = c.final;
+      older = g j (arrows c.places c.result) c.older;
+      newer = g k (arrows (masked 0 c.mask c.places) c.result) c.newer;
+      solution = f j _ c.solution;
+    }

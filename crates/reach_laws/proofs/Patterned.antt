@@ -73,13 +73,17 @@ parts_of m (part_argument {ls = ls} {o = o} {u = u} {c = c} r n f p h q) = ⊎_e
 
 -- the pattern is in reach
 reached : (m : Mode) → Reaches (closed (ones m) (ones m)) ((m, base 0) ∷ []) (base 0) (pattern m).left (pattern m).right
-reached m = record
-    { neutral = app m (head_alone (Meta 0)) (atomic (head_alone (Var 0))); meta = 0; places = (m, base 0, 0) ∷ []; own = (m, base 0, 0) ∷ []
-    ; is_neutral = refl
-    ; on_locals = on_locals (scoped ((m, base 0) ∷ []) (closed (ones m) (ones m))) (app m (head_alone (Meta 0)) (atomic (head_alone (Var 0)))) 0 ((m, base 0, 0) ∷ []) (base 0)
-        (record { neutral = refl; type = refl; fitting = (inl refl, tt); distinct = one_place })
-    ; lacks = lacks_same ((m, base 0, 0) ∷ []) (atomic (head_alone (Var 0)))
-    ; in_reach = free_reach refl (inl (refl, not_foreign)) }
+reached m = record {
+  neutral = app m (head_alone (Meta 0)) (atomic (head_alone (Var 0)));
+  meta = 0;
+  places = (m, base 0, 0) ∷ [];
+  own = (m, base 0, 0) ∷ [];
+  is_neutral = refl;
+  on_locals = on_locals (scoped ((m, base 0) ∷ []) (closed (ones m) (ones m))) (app m (head_alone (Meta 0)) (atomic (head_alone (Var 0)))) 0 ((m, base 0, 0) ∷ []) (base 0)
+      (record { neutral = refl; type = refl; fitting = (inl refl, tt); distinct = one_place });
+  lacks = lacks_same ((m, base 0, 0) ∷ []) (atomic (head_alone (Var 0)));
+  in_reach = free_reach refl (inl (refl, not_foreign));
+}
   where
     one_place : (i j v : ℕ) → local_at ((m, base 0, 0) ∷ []) i ≡ Some v → local_at ((m, base 0, 0) ∷ []) j ≡ Some v → i ≡ j
     one_place zero zero v e f = refl

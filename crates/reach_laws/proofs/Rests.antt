@@ -50,12 +50,13 @@ down_solved constants metas parameters t i left f (down_neutral {ls = ls} {r = r
 
 pub rest_solves : (constants metas parameters : Types) (t : Instantiation) → Instantiates constants metas parameters t → (es left : List Equation) → TypedEquations constants metas es → Rest constants metas es left
     → (SolvesEach (instant t) es → SolvesEach (instant t) left) × (SolvesEach (instant t) left → SolvesEach (instant t) es)
-rest_solves constants metas parameters t i es left p r =
-    ( (λ s. solves_listed t left (λ e l. let (d, k, q) = r.met e l in part_solved constants metas t q (listed_solved t d es k s)))
-    , (λ s. solves_listed t es (λ e l. down_solved constants metas parameters t i left (λ d k. listed_solved t d left k s) (r.down e l) (typed_listed constants metas e es l p))))
+rest_solves constants metas parameters t i es left p r = (
+  (λ s. solves_listed t left (λ e l. let (d, k, q) = r.met e l in part_solved constants metas t q (listed_solved t d es k s))),
+  (λ s. solves_listed t es (λ e l. down_solved constants metas parameters t i left (λ d k. listed_solved t d left k s) (r.down e l) (typed_listed constants metas e es l p))),
+)
 
 module _ (constants metas parameters : Types) (s t : Instantiation) (i : Instantiates constants metas parameters t) (agrees : Agrees t s)
-  (typed : (m : ℕ) (x : PlainObject) → s m ≡ Some x → (a : SimpleType) × (metas m ≡ Some a) × SimplyTyped (closed constants metas) x a) where
+    (typed : (m : ℕ) (x : PlainObject) → s m ≡ Some x → (a : SimpleType) × (metas m ≡ Some a) × SimplyTyped (closed constants metas) x a) where
   -- An equation is solved exactly where it is solved with the solutions put in.
   under_solved : (e d : Equation) → TypedEquation constants metas e → EquationUnder s e d → (Solves (instant t) e → Solves (instant t) d) × (Solves (instant t) d → Solves (instant t) e)
   under_solved e d p u = (forth, back)
@@ -70,16 +71,24 @@ module _ (constants metas parameters : Types) (s t : Instantiation) (i : Instant
       there = record { locals = e.locals; left = d.left; right = d.right; type = e.type }
 
       forth : Solves (instant t) e → Solves (instant t) d
-      forth h = let (v, w, g, k, j) = h in let (v', g', _) = instance constants metas parameters t i e.locals d.left e.type typed_left in let (w', k', _) = instance constants metas parameters t i e.locals d.right e.type typed_right in
-          (v', w', subst (λ ls. Instantiated (length ls) t d.left v') (sym u.locals) g', subst (λ ls. Instantiated (length ls) t d.right w') (sym u.locals) k'
-          , trail (joined_is_equivalence.1 v v' (put_in constants metas parameters s t i agrees typed e.locals e.left d.left v v' e.type p.0 u.left g g'))
-            (trail j (put_in constants metas parameters s t i agrees typed e.locals e.right d.right w w' e.type p.1 u.right k k')))
+      forth h = let (v, w, g, k, j) = h in let (v', g', _) = instance constants metas parameters t i e.locals d.left e.type typed_left in let (w', k', _) = instance constants metas parameters t i e.locals d.right e.type typed_right in (
+        v',
+        w',
+        subst (λ ls. Instantiated (length ls) t d.left v') (sym u.locals) g',
+        subst (λ ls. Instantiated (length ls) t d.right w') (sym u.locals) k',
+        trail (joined_is_equivalence.1 v v' (put_in constants metas parameters s t i agrees typed e.locals e.left d.left v v' e.type p.0 u.left g g'))
+            (trail j (put_in constants metas parameters s t i agrees typed e.locals e.right d.right w w' e.type p.1 u.right k k')),
+      )
 
       back : Solves (instant t) d → Solves (instant t) e
-      back h = let (v', w', g', k', j) = h in let (v, g, _) = instance constants metas parameters t i e.locals e.left e.type p.0 in let (w, k, _) = instance constants metas parameters t i e.locals e.right e.type p.1 in
-          (v, w, g, k
-          , trail (put_in constants metas parameters s t i agrees typed e.locals e.left d.left v v' e.type p.0 u.left g (subst (λ ls. Instantiated (length ls) t d.left v') u.locals g'))
-            (trail j (joined_is_equivalence.1 w w' (put_in constants metas parameters s t i agrees typed e.locals e.right d.right w w' e.type p.1 u.right k (subst (λ ls. Instantiated (length ls) t d.right w') u.locals k')))))
+      back h = let (v', w', g', k', j) = h in let (v, g, _) = instance constants metas parameters t i e.locals e.left e.type p.0 in let (w, k, _) = instance constants metas parameters t i e.locals e.right e.type p.1 in (
+        v,
+        w,
+        g,
+        k,
+        trail (put_in constants metas parameters s t i agrees typed e.locals e.left d.left v v' e.type p.0 u.left g (subst (λ ls. Instantiated (length ls) t d.left v') u.locals g'))
+            (trail j (joined_is_equivalence.1 w w' (put_in constants metas parameters s t i agrees typed e.locals e.right d.right w w' e.type p.1 u.right k (subst (λ ls. Instantiated (length ls) t d.right w') u.locals k')))),
+      )
 
   pub each_solved : (es ds : List Equation) → TypedEquations constants metas es → EachUnder s es ds → (SolvesEach (instant t) es → SolvesEach (instant t) ds) × (SolvesEach (instant t) ds → SolvesEach (instant t) es)
   each_solved [] [] p u = ((λ h. h), (λ h. h))
@@ -117,9 +126,10 @@ typed_under constants metas s f (e ∷ es) (d ∷ ds) p u = ((at d.left (stays_t
 -- The solutions with the equations left have exactly the solutions that were there.
 pub left_keeps : (constants : Types) (start now : Problem) (left : List Equation) → Unified constants start now left
     → KeepsSolutions constants start (record { metas = now.metas; given = now.given; equations = left })
-left_keeps constants start now left u = let (s, es, e) = u.ends in
-    ( (λ parameters t h. let (v, g, k) = u.keeps.0 parameters t h in (v, g, (k.0, k.1, (solves s es e parameters v k.0 k.1).0 (subst (SolvesEach (instant v)) u.adds.same k.2))))
-    , (λ parameters t h. u.keeps.1 parameters t (h.0, h.1, subst (SolvesEach (instant t)) (sym u.adds.same) ((solves s es e parameters t h.0 h.1).1 h.2))))
+left_keeps constants start now left u = let (s, es, e) = u.ends in (
+  (λ parameters t h. let (v, g, k) = u.keeps.0 parameters t h in (v, g, (k.0, k.1, (solves s es e parameters v k.0 k.1).0 (subst (SolvesEach (instant v)) u.adds.same k.2)))),
+  (λ parameters t h. u.keeps.1 parameters t (h.0, h.1, subst (SolvesEach (instant t)) (sym u.adds.same) ((solves s es e parameters t h.0 h.1).1 h.2))),
+)
   where
     typed_start : TypedEquations constants now.metas start.equations
     typed_start = subst (TypedEquations constants now.metas) u.adds.same u.adds.typed.0

@@ -57,18 +57,23 @@ module _ (constants metas : Types) (es : List Equation) (s : Instantiation) (ass
           → ((y : PlainObject) × Instantiated (length f.part.locals) s f.part.left y × SimplyTyped (scoped f.part.locals (closed constants metas)) y f.part.type)
           → ((z : PlainObject) × Instantiated (length f.part.locals) s f.part.right z × SimplyTyped (scoped f.part.locals (closed constants metas)) z f.part.type)
           → MadeOfSide constants metas es s x
-      of (v, iv, tv) (w, iw, tw) (y, iy, ty) (z, iz, tz) = record
-          { equation = f.equation
-          ; after = record { locals = f.after.locals; left = v; right = w; type = f.after.type }
-          ; part = record { locals = f.part.locals; left = y; right = z; type = f.part.type }
-          ; listed = f.listed
-          ; is_under = record { locals = f.is_under.locals; type = f.is_under.type
-              ; left = side_under f.equation.left f.after.left v typed_equation.0 f.is_under.left iv; right = side_under f.equation.right f.after.right w typed_equation.1 f.is_under.right iw }
-          ; is_part = part_under constants metas s assigns f.is_part typed_after v w iv iw y z iy iz
-          ; places = f.places
-          ; made = ⊎_elim
-              (λ e. inl (determined i (subst (λ n. Substituted (instant s) n (inverted (length f.part.locals) f.places y)) (sym e) (inverted_under s (length f.part.locals) f.places f.within f.part.left y iy))))
-              (λ e. inr (determined i (subst (λ n. Substituted (instant s) n (inverted (length f.part.locals) f.places z)) (sym e) (inverted_under s (length f.part.locals) f.places f.within f.part.right z iz)))) f.solution }
+      of (v, iv, tv) (w, iw, tw) (y, iy, ty) (z, iz, tz) = record {
+        equation = f.equation;
+        after = record { locals = f.after.locals; left = v; right = w; type = f.after.type };
+        part = record { locals = f.part.locals; left = y; right = z; type = f.part.type };
+        listed = f.listed;
+        is_under = record {
+          locals = f.is_under.locals;
+          type = f.is_under.type;
+          left = side_under f.equation.left f.after.left v typed_equation.0 f.is_under.left iv;
+          right = side_under f.equation.right f.after.right w typed_equation.1 f.is_under.right iw;
+        };
+        is_part = part_under constants metas s assigns f.is_part typed_after v w iv iw y z iy iz;
+        places = f.places;
+        made = ⊎_elim
+            (λ e. inl (determined i (subst (λ n. Substituted (instant s) n (inverted (length f.part.locals) f.places y)) (sym e) (inverted_under s (length f.part.locals) f.places f.within f.part.left y iy))))
+            (λ e. inr (determined i (subst (λ n. Substituted (instant s) n (inverted (length f.part.locals) f.places z)) (sym e) (inverted_under s (length f.part.locals) f.places f.within f.part.right z iz)))) f.solution;
+      }
 
 pub side_put_in : SidePutIn
 side_put_in constants metas es s assigns typed o x f i = made_of_side constants metas es s assigns typed o f x i
@@ -83,9 +88,9 @@ pub absorbed_again : AbsorbedAgain
 absorbed_again constants metas earlier s only next first second third absorbed composed m a e = ⊎_elim
     (λ u. inl (u.0, refl))
     (λ u. ⊎_elim
-        (λ v. absurd (no_object v.0 u.3))
-        (λ v. inr (u.0, v.1, u.2, v.3, both u.0 u.1 v.1 (typed_first u.0 u.2) u.4 (subst (λ n. Substituted (instant only) n v.1) (one_object v.2 u.3) v.4)))
-        (composed m a e))
+    (λ v. absurd (no_object v.0 u.3))
+    (λ v. inr (u.0, v.1, u.2, v.3, both u.0 u.1 v.1 (typed_first u.0 u.2) u.4 (subst (λ n. Substituted (instant only) n v.1) (one_object v.2 u.3) v.4)))
+    (composed m a e))
     (absorbed m a e)
   where
     typed_first : (n : PlainObject) → earlier m ≡ Some n → SimplyTyped (closed constants metas) n a

@@ -95,14 +95,25 @@ tight constants start now w stays traced s all typed typed_now list holds m x k 
     typed_k = mentioned (to_typed true (closed constants now.metas) x typed_x.0 typed_x.1) k h
 
     new : now.given k ≡ None → start.metas k ≡ None → StandsIn constants now.metas list s k
-    new g n = let (u, tu) = typed_k in let (i, b, sb, d, (j, nj, cf)) = new_one_stands start now traced s all k u tu n (all.unsolved k g) in record
-        { meta = i; type = arrows d.places d.result; tree = lams d.places (atomic (on d.kept (head_alone (Meta k))))
-        ; listed = unsolved i b sb j nj cf; typed = d.own; given = d.value
-        ; binders = types_of d.places; neutral = on d.kept (head_alone (Meta k)); places = d.kept; result = d.result
-        ; standing = standing_lams (closed constants now.metas) d.places [] (on d.kept (head_alone (Meta k))) d.result d.result (atomic (on d.kept (head_alone (Meta k)))) standing_here
-        ; on_distinct = record { neutral = refl; type = scoped_there d.places ∙ d.there
-            ; fitting = subst (λ z. Fitting z d.kept) (sym (scoped_beneath d.places (closed constants now.metas))) (fitting_of (beneath d.places (closed constants now.metas)) d.kept (d.fits (closed constants now.metas)))
-            ; distinct = distinct_of d.kept d.ordered } }
+    new g n = let (u, tu) = typed_k in let (i, b, sb, d, (j, nj, cf)) = new_one_stands start now traced s all k u tu n (all.unsolved k g) in record {
+      meta = i;
+      type = arrows d.places d.result;
+      tree = lams d.places (atomic (on d.kept (head_alone (Meta k))));
+      listed = unsolved i b sb j nj cf;
+      typed = d.own;
+      given = d.value;
+      binders = types_of d.places;
+      neutral = on d.kept (head_alone (Meta k));
+      places = d.kept;
+      result = d.result;
+      standing = standing_lams (closed constants now.metas) d.places [] (on d.kept (head_alone (Meta k))) d.result d.result (atomic (on d.kept (head_alone (Meta k)))) standing_here;
+      on_distinct = record {
+        neutral = refl;
+        type = scoped_there d.places ∙ d.there;
+        fitting = subst (λ z. Fitting z d.kept) (sym (scoped_beneath d.places (closed constants now.metas))) (fitting_of (beneath d.places (closed constants now.metas)) d.kept (d.fits (closed constants now.metas)));
+        distinct = distinct_of d.kept d.ordered;
+      };
+    }
       where
         scoped_there : (ps : List Place) → scoped (types_of ps) (closed constants now.metas) (Meta k) ≡ now.metas k
         scoped_there [] = refl

@@ -154,12 +154,18 @@ one_type e = cc
 module _ (metas : Types) (given s : Instantiation) (all : PutIn given s) (k : ℕ) (left : s k ≡ None) where
   -- the metavariable that k came from
   first : (j : ℕ) → CameFrom metas given k j → Descends metas s k j
-  first j f = let ps = f.places in let bs = f.mask in let (x, e, i) = all.solved j (lams f.places (atomic (on (masked 0 f.mask f.places) (head_alone (Meta k))))) f.solution in record
-      { places = ps; kept = masked 0 bs ps; result = f.result; final = f.final; own = f.older; there = f.newer
-      ; fits = (λ y. masked_fits (beneath ps y) 0 bs ps (along y ps))
-      ; below = masked_below (length ps) 0 bs ps (omega arith)
-      ; ordered = masked_ordered bs ps
-      ; value = e ∙ ap (λ o. Some o) (determined i (left_alone s k left ps (masked 0 bs ps))) }
+  first j f = let ps = f.places in let bs = f.mask in let (x, e, i) = all.solved j (lams f.places (atomic (on (masked 0 f.mask f.places) (head_alone (Meta k))))) f.solution in record {
+    places = ps;
+    kept = masked 0 bs ps;
+    result = f.result;
+    final = f.final;
+    own = f.older;
+    there = f.newer;
+    fits = (λ y. masked_fits (beneath ps y) 0 bs ps (along y ps));
+    below = masked_below (length ps) 0 bs ps (omega arith);
+    ordered = masked_ordered bs ps;
+    value = e ∙ ap (λ o. Some o) (determined i (left_alone s k left ps (masked 0 bs ps)));
+  }
 
   -- one step up
   up_from : (j i : ℕ) → Descends metas s k j → (ps : List Place) (bs : List Bool) (c : SimpleType) → IsFinal c → metas i ≡ Some (arrows ps c) → metas j ≡ Some (arrows (masked 0 bs ps) c) → given i ≡ Some (lams ps (atomic (on (masked 0 bs ps) (head_alone (Meta j))))) → Descends metas s k i
@@ -172,14 +178,19 @@ module _ (metas : Types) (given s : Instantiation) (all : PutIn given s) (k : �
       kept_number v h = ap (filled (masked 0 bs ps)) (lift_in (length (masked 0 bs ps)) (up (length ps)) v h)
 
       build : SameTypes d.places (masked 0 bs ps) × (d.result ≡ c) → (x : PlainObject) × (s i ≡ Some x) × Substituted (instant s) (lams ps (atomic (on (masked 0 bs ps) (head_alone (Meta j))))) x → Descends metas s k i
-      build same made = record
-          { places = ps; kept = mapped (applied (length ps) (masked 0 bs ps)) d.kept; result = c; final = fc; own = ei
-          ; there = d.there ∙ ap (λ t. Some t) (ap (arrows d.kept) same.1 ∙ sym (arrows_mapped (applied (length ps) (masked 0 bs ps)) d.kept c))
-          ; fits = (λ y. mapped_fits (applied (length ps) (masked 0 bs ps)) (length d.places) (beneath d.places y) (beneath ps y)
-              (λ v h. ap (λ n. beneath ps y (Var n)) (kept_number v (longer h)) ∙ masked_type (beneath ps y) y 0 bs ps (along y ps) v (longer h) ∙ ap (λ a. a (Var v)) (sym (same_beneath d.places (masked 0 bs ps) same.0 y))) d.kept d.below (d.fits y))
-          ; below = mapped_below (applied (length ps) (masked 0 bs ps)) (length d.places) (length ps) (λ v h. subst (λ n. n < length ps) (sym (kept_number v (longer h))) (most v (longer h))) d.kept d.below
-          ; ordered = rising
-          ; value = made.1 ∙ ap (λ o. Some o) (determined made.2 (through_lams s ps (subst (λ n. Instantiated (length ps) s (atomic (on (masked 0 bs ps) (head_alone (Meta j)))) (atomic n)) (ren_on (applied (length ps) (masked 0 bs ps)) d.kept (head_alone (Meta k))) below_lambdas))) }
+      build same made = record {
+        places = ps;
+        kept = mapped (applied (length ps) (masked 0 bs ps)) d.kept;
+        result = c;
+        final = fc;
+        own = ei;
+        there = d.there ∙ ap (λ t. Some t) (ap (arrows d.kept) same.1 ∙ sym (arrows_mapped (applied (length ps) (masked 0 bs ps)) d.kept c));
+        fits = (λ y. mapped_fits (applied (length ps) (masked 0 bs ps)) (length d.places) (beneath d.places y) (beneath ps y)
+            (λ v h. ap (λ n. beneath ps y (Var n)) (kept_number v (longer h)) ∙ masked_type (beneath ps y) y 0 bs ps (along y ps) v (longer h) ∙ ap (λ a. a (Var v)) (sym (same_beneath d.places (masked 0 bs ps) same.0 y))) d.kept d.below (d.fits y));
+        below = mapped_below (applied (length ps) (masked 0 bs ps)) (length d.places) (length ps) (λ v h. subst (λ n. n < length ps) (sym (kept_number v (longer h))) (most v (longer h))) d.kept d.below;
+        ordered = rising;
+        value = made.1 ∙ ap (λ o. Some o) (determined made.2 (through_lams s ps (subst (λ n. Instantiated (length ps) s (atomic (on (masked 0 bs ps) (head_alone (Meta j)))) (atomic n)) (ren_on (applied (length ps) (masked 0 bs ps)) d.kept (head_alone (Meta k))) below_lambdas)));
+      }
         where
           longer : {v : ℕ} → v < length d.places → v < length (masked 0 bs ps)
           longer {v} h = subst (λ n. v < n) (same_length d.places (masked 0 bs ps) same.0) h

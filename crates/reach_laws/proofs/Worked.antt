@@ -75,10 +75,11 @@ apart : {e : PlainExpression} {n : PlainNeutral} → Matches (monadic e) (atomic
 apart x = elim x [ ]
 
 pub corner_at_monad : CornerAtMonad
-corner_at_monad = record
-    { becomes = becomes_corner
-    ; unjoined = (λ m ts j. apart (argument_match (like_to (alike (corner m (eta (lax ts) (head_alone (Meta 1))))) j)))
-    ; solved = (λ m ts g t o p i. (corner m o, corner m o, both m t (eta (lax ts) (head_alone (Meta 1))) o (eta_expands g (under 1 (instant t)) (head_alone (Meta 1)) o (lax ts) p i), both m t (atomic (head_alone (Meta 1))) o i, stop)) }
+corner_at_monad = record {
+  becomes = becomes_corner;
+  unjoined = (λ m ts j. apart (argument_match (like_to (alike (corner m (eta (lax ts) (head_alone (Meta 1))))) j)));
+  solved = (λ m ts g t o p i. (corner m o, corner m o, both m t (eta (lax ts) (head_alone (Meta 1))) o (eta_expands g (under 1 (instant t)) (head_alone (Meta 1)) o (lax ts) p i), both m t (atomic (head_alone (Meta 1))) o i, stop));
+}
   where
     both : (m : Mode) (t : Instantiation) (n o : PlainObject) → Instantiated 1 t n o → Instantiated 1 t (corner m n) (corner m o)
     both m t n o i = through_kept (kept_app (kept_bare (keeps_variables 1 t 0)) i)

@@ -24,7 +24,7 @@ another m k g s e f = ⊎_elim (λ h. absurd (none_some (sym (ap g h) ∙ f) e))
 pub agrees_more : (t given : Instantiation) (m : ℕ) (s : PlainObject) → Agrees t given → (o x : PlainObject) × (t m ≡ Some o) × Substituted (instant t) s x × Joined o x → Agrees t (set m s given)
 agrees_more t given m s f g k u e = ⊎_elim
     (λ h. subst (λ k. (o x : PlainObject) × (t k ≡ Some o) × Substituted (instant t) u x × Joined o x) (sym h)
-        (subst (λ u. (o x : PlainObject) × (t m ≡ Some o) × Substituted (instant t) u x × Joined o x) (the_same (sym (set_there m s given) ∙ sym (ap (set m s given) h) ∙ e)) g))
+    (subst (λ u. (o x : PlainObject) × (t m ≡ Some o) × Substituted (instant t) u x × Joined o x) (the_same (sym (set_there m s given) ∙ sym (ap (set m s given) h) ∙ e)) g))
     (λ h. f k u (sym (set_else m k s given h) ∙ e))
     (number_cases k m)
   where
@@ -39,9 +39,10 @@ pub assign_step : (constants metas : Types) (given : Instantiation) (es : List E
     → Consequence constants (record { metas = metas; given = given; equations = es }) (record { locals = ls; left = atomic r; right = x; type = a })
     → OnLocals (scoped ls (closed constants metas)) r m ps qs a → LacksMisfits ps qs x → given m ≡ None
     → KeepsSolutions constants (record { metas = metas; given = given; equations = es }) (record { metas = metas; given = set m (inverted (length ls) ps x) given; equations = es })
-assign_step constants metas given es ls r m ps qs a x con d l n =
-    ( (λ parameters t s. (t, (λ k b e. refl), (s.0, agrees_more t given m (inverted (length ls) ps x) s.1 (solution_forced constants metas parameters t s.0 ls r m ps qs a d x l (con parameters t s)), s.2)))
-    , (λ parameters t s. (s.0, agrees_fewer t given m (inverted (length ls) ps x) n s.1, s.2)))
+assign_step constants metas given es ls r m ps qs a x con d l n = (
+  (λ parameters t s. (t, (λ k b e. refl), (s.0, agrees_more t given m (inverted (length ls) ps x) s.1 (solution_forced constants metas parameters t s.0 ls r m ps qs a d x l (con parameters t s)), s.2))),
+  (λ parameters t s. (s.0, agrees_fewer t given m (inverted (length ls) ps x) n s.1, s.2)),
+)
 
 -- After it the equation holds by the solutions alone, where each variable of the other side stands at a place.
 pub assign_done : (constants metas : Types) (given : Instantiation) (ls : Locals) (r : PlainNeutral) (m : ℕ) (ps qs : List Place) (a : SimpleType) (x : PlainObject)

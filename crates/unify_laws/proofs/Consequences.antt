@@ -66,7 +66,7 @@ no_families : Families
 no_families f = None
 
 module _ (constants metas parameters : Types) (given t : Instantiation) (f : Instantiates constants metas parameters t) (agrees : Agrees t given)
-  (typed : (m : ℕ) (s : PlainObject) → given m ≡ Some s → (a : SimpleType) × (metas m ≡ Some a) × SimplyTyped (closed constants metas) s a) where
+    (typed : (m : ℕ) (s : PlainObject) → given m ≡ Some s → (a : SimpleType) × (metas m ≡ Some a) × SimplyTyped (closed constants metas) s a) where
   -- what t makes of the solution of a metavariable, or what it gives the metavariable
   abbrev pick : (m : ℕ) (o : Option PlainObject) → given m ≡ o → Option PlainObject
   pick m None e = t m
@@ -104,9 +104,12 @@ module _ (constants metas parameters : Types) (given t : Instantiation) (f : Ins
     where
       of_pick : (o : Option PlainObject) (h : given m ≡ o) → (n : PlainObject) × (pick m o h ≡ Some n) × SimplyTyped (over constants parameters) n a
       of_pick None h = f m a e
-      of_pick (Some s) h = let (b, g, p) = typed m s h in let (o, x, k, i, j) = agrees m s h in
-          ((agrees m s h).1, refl, subst (λ c. SimplyTyped (over constants parameters) (agrees m s h).1 c) (one_type (sym g ∙ e))
-          ((result_is_typed true no_families (closed constants metas) (over constants parameters) (instant t) (keeps_closed constants metas parameters t f)).object s (agrees m s h).1 b p (agrees m s h).3))
+      of_pick (Some s) h = let (b, g, p) = typed m s h in let (o, x, k, i, j) = agrees m s h in (
+        (agrees m s h).1,
+        refl,
+        subst (λ c. SimplyTyped (over constants parameters) (agrees m s h).1 c) (one_type (sym g ∙ e))
+            ((result_is_typed true no_families (closed constants metas) (over constants parameters) (instant t) (keeps_closed constants metas parameters t f)).object s (agrees m s h).1 b p (agrees m s h).3),
+      )
 
   keeps_given : (ls : Locals) → TypedEnvironment true (scoped ls (closed constants metas)) (scoped ls (closed constants metas)) (under (length ls) (instant given))
   keeps_given = typed_scoped (closed constants metas) (closed constants metas) given ((instant_is_environment (closed constants metas)).0 (closed constants metas) given given_typed)
@@ -121,9 +124,9 @@ module _ (constants metas parameters : Types) (given t : Instantiation) (f : Ins
   pub put_in : (ls : Locals) (o x y z : PlainObject) (a : SimpleType) → SimplyTyped (scoped ls (closed constants metas)) o a → Instantiated (length ls) given o x → Instantiated (length ls) t o y → Instantiated (length ls) t x z → Joined y z
   put_in ls o x y z a p i k l = joined_is_equivalence.1 z y
       ((respects_all no_families (scoped ls (closed constants metas)) (scoped ls (over constants parameters)) (under (length ls) (instant after)) (under (length ls) (instant t))
-          (keeps_under constants metas parameters after after_instantiates ls) (keeps_under constants metas parameters t f ls) (joined_under ls)).object o o z y a p stop
-          ((composition no_families (scoped ls (closed constants metas)) (scoped ls (closed constants metas)) (scoped ls (over constants parameters)) (under (length ls) (instant given)) (under (length ls) (instant t)) (under (length ls) (instant after))
-              (keeps_given ls) (keeps_under constants metas parameters t f ls) (composed_under ls)).object o x z a p i l) k)
+      (keeps_under constants metas parameters after after_instantiates ls) (keeps_under constants metas parameters t f ls) (joined_under ls)).object o o z y a p stop
+      ((composition no_families (scoped ls (closed constants metas)) (scoped ls (closed constants metas)) (scoped ls (over constants parameters)) (under (length ls) (instant given)) (under (length ls) (instant t)) (under (length ls) (instant after))
+      (keeps_given ls) (keeps_under constants metas parameters t f ls) (composed_under ls)).object o x z a p i l) k)
 
   -- it stays typed
   pub put_in_typed : (ls : Locals) (o x : PlainObject) (a : SimpleType) → SimplyTyped (scoped ls (closed constants metas)) o a → Instantiated (length ls) given o x → SimplyTyped (scoped ls (closed constants metas)) x a
@@ -135,6 +138,11 @@ pub of_given : (constants : Types) (p : Problem) → WellTyped constants p → (
     → Consequence constants p (record { locals = ls; left = o; right = u; type = a }) → Consequence constants p (record { locals = ls; left = x; right = y; type = a })
 of_given constants p typed ls o u x y a q i k c parameters t s = let (v, w, g, h, j) = c parameters t s in
     let (v', g', _) = instance constants p.metas parameters t s.0 ls x a (put_in_typed constants p.metas parameters p.given t s.0 s.1 typed.1 ls o x a q.0 i) in
-    let (w', h', _) = instance constants p.metas parameters t s.0 ls y a (put_in_typed constants p.metas parameters p.given t s.0 s.1 typed.1 ls u y a q.1 k) in
-    (v', w', g', h', trail (joined_is_equivalence.1 v v' (put_in constants p.metas parameters p.given t s.0 s.1 typed.1 ls o x v v' a q.0 i g g'))
-        (trail j (put_in constants p.metas parameters p.given t s.0 s.1 typed.1 ls u y w w' a q.1 k h h')))
+    let (w', h', _) = instance constants p.metas parameters t s.0 ls y a (put_in_typed constants p.metas parameters p.given t s.0 s.1 typed.1 ls u y a q.1 k) in (
+      v',
+      w',
+      g',
+      h',
+      trail (joined_is_equivalence.1 v v' (put_in constants p.metas parameters p.given t s.0 s.1 typed.1 ls o x v v' a q.0 i g g'))
+          (trail j (put_in constants p.metas parameters p.given t s.0 s.1 typed.1 ls u y w w' a q.1 k h h')),
+    )

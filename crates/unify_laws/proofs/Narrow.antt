@@ -52,40 +52,46 @@ same_solves constants metas parameters t v f g (e ∷ es) p s = let (x, y, i, k,
     ((x, y, same_instance constants metas parameters t v f g e.locals e.left x e.type p.0.0 i, same_instance constants metas parameters t v f g e.locals e.right y e.type p.0.1 k, j), same_solves constants metas parameters t v f g es p.1 s.1)
 
 module _ (constants metas : Types) (given : Instantiation) (es : List Equation) (k k' : ℕ) (ps qs : List Place) (a : SimpleType)
-  (typed : WellTyped constants (record { metas = metas; given = given; equations = es }))
-  (type_of : metas k ≡ Some (arrows ps a)) (open_ : given k ≡ None) (new : metas k' ≡ None)
-  (fitting : (parameters : Types) → Fitting (beneath ps (over constants parameters)) qs) (distinct : Distinct qs) (within : Within (length ps) qs)
-  (spared : (parameters : Types) (t : Instantiation) → IsSolution constants parameters t (record { metas = metas; given = given; equations = es }) → (b : PlainObject) → t k ≡ Some (lams ps b) → Typed false (beneath ps (over constants parameters)) b a
+    (typed : WellTyped constants (record { metas = metas; given = given; equations = es }))
+    (type_of : metas k ≡ Some (arrows ps a)) (open_ : given k ≡ None) (new : metas k' ≡ None)
+    (fitting : (parameters : Types) → Fitting (beneath ps (over constants parameters)) qs) (distinct : Distinct qs) (within : Within (length ps) qs)
+    (spared : (parameters : Types) (t : Instantiation) → IsSolution constants parameters t (record { metas = metas; given = given; equations = es }) → (b : PlainObject) → t k ≡ Some (lams ps b) → Typed false (beneath ps (over constants parameters)) b a
     → (j : ℕ) → j < length ps → occurs j b ≡ true → (i : ℕ) × (local_at qs i ≡ Some j))
   where
-  -- The metavariable is given a new one on the arguments that are kept.
-  pub narrow_step : KeepsSolutions constants (record { metas = metas; given = given; equations = es })
-      (record { metas = set k' (arrows qs a) metas; given = set k (lams ps (atomic (on qs (head_alone (Meta k'))))) given; equations = es })
-  narrow_step = (forth, back)
-    where
-      forth : (parameters : Types) (t : Instantiation) → IsSolution constants parameters t (record { metas = metas; given = given; equations = es })
-          → (v : Instantiation) × Extends metas t v × IsSolution constants parameters v (record { metas = set k' (arrows qs a) metas; given = set k (lams ps (atomic (on qs (head_alone (Meta k'))))) given; equations = es })
-      forth parameters t s = let (b, e, q, p) = given_body constants metas parameters t s.0 k ps a type_of in
-          let (w, u) = narrowed constants parameters (set k' (inverted (length ps) qs b) t) k' ps qs a b p (fitting parameters) distinct within (spared parameters t s b e p) (set_there k' (inverted (length ps) qs b) t) in
-          (set k' (inverted (length ps) qs b) t, further b, (instantiates b u, agrees_more (set k' (inverted (length ps) qs b) t) given k (lams ps (atomic (on qs (head_alone (Meta k'))))) (agrees b) (lams ps b, lams ps b, further b k (arrows ps a) type_of ∙ e, w, stop),
-              same_solves constants metas parameters t (set k' (inverted (length ps) qs b) t) s.0 (further b) es typed.0 s.2))
-        where
-          further : (b : PlainObject) → Extends metas t (set k' (inverted (length ps) qs b) t)
-          further b m c e = set_else k' m (inverted (length ps) qs b) t (another k' m metas c new e)
+    -- The metavariable is given a new one on the arguments that are kept.
+    pub narrow_step : KeepsSolutions constants (record { metas = metas; given = given; equations = es })
+        (record { metas = set k' (arrows qs a) metas; given = set k (lams ps (atomic (on qs (head_alone (Meta k'))))) given; equations = es })
+    narrow_step = (forth, back)
+      where
+        forth : (parameters : Types) (t : Instantiation) → IsSolution constants parameters t (record { metas = metas; given = given; equations = es })
+            → (v : Instantiation) × Extends metas t v × IsSolution constants parameters v (record { metas = set k' (arrows qs a) metas; given = set k (lams ps (atomic (on qs (head_alone (Meta k'))))) given; equations = es })
+        forth parameters t s = let (b, e, q, p) = given_body constants metas parameters t s.0 k ps a type_of in
+            let (w, u) = narrowed constants parameters (set k' (inverted (length ps) qs b) t) k' ps qs a b p (fitting parameters) distinct within (spared parameters t s b e p) (set_there k' (inverted (length ps) qs b) t) in (
+              set k' (inverted (length ps) qs b) t,
+              further b,
+              (
+                instantiates b u,
+                agrees_more (set k' (inverted (length ps) qs b) t) given k (lams ps (atomic (on qs (head_alone (Meta k'))))) (agrees b) (lams ps b, lams ps b, further b k (arrows ps a) type_of ∙ e, w, stop),
+                same_solves constants metas parameters t (set k' (inverted (length ps) qs b) t) s.0 (further b) es typed.0 s.2,
+              ),
+            )
+          where
+            further : (b : PlainObject) → Extends metas t (set k' (inverted (length ps) qs b) t)
+            further b m c e = set_else k' m (inverted (length ps) qs b) t (another k' m metas c new e)
 
-          instantiates : (b : PlainObject) → SimplyTyped (over constants parameters) (inverted (length ps) qs b) (arrows qs a) → Instantiates constants (set k' (arrows qs a) metas) parameters (set k' (inverted (length ps) qs b) t)
-          instantiates b u m c e = ⊎_elim
-              (λ h. (inverted (length ps) qs b, ap (set k' (inverted (length ps) qs b) t) h ∙ set_there k' (inverted (length ps) qs b) t, subst (λ d. SimplyTyped (over constants parameters) (inverted (length ps) qs b) d) (one_type (sym (set_there k' (arrows qs a) metas) ∙ sym (ap (set k' (arrows qs a) metas) h) ∙ e)) u))
-              (λ h. let (o, g, p) = s.0 m c (sym (set_else k' m (arrows qs a) metas h) ∙ e) in (o, set_else k' m (inverted (length ps) qs b) t h ∙ g, p))
-              (number_cases m k')
-            where
-              one_type : {c d : SimpleType} → Some c ≡ Some d → c ≡ d
-              one_type e = cc
+            instantiates : (b : PlainObject) → SimplyTyped (over constants parameters) (inverted (length ps) qs b) (arrows qs a) → Instantiates constants (set k' (arrows qs a) metas) parameters (set k' (inverted (length ps) qs b) t)
+            instantiates b u m c e = ⊎_elim
+                (λ h. (inverted (length ps) qs b, ap (set k' (inverted (length ps) qs b) t) h ∙ set_there k' (inverted (length ps) qs b) t, subst (λ d. SimplyTyped (over constants parameters) (inverted (length ps) qs b) d) (one_type (sym (set_there k' (arrows qs a) metas) ∙ sym (ap (set k' (arrows qs a) metas) h) ∙ e)) u))
+                (λ h. let (o, g, p) = s.0 m c (sym (set_else k' m (arrows qs a) metas h) ∙ e) in (o, set_else k' m (inverted (length ps) qs b) t h ∙ g, p))
+                (number_cases m k')
+              where
+                one_type : {c d : SimpleType} → Some c ≡ Some d → c ≡ d
+                one_type e = cc
 
-          agrees : (b : PlainObject) → Agrees (set k' (inverted (length ps) qs b) t) given
-          agrees b m o e = let (u, x, g, i, j) = s.1 m o e in let (c, h, p) = typed.1 m o e in
-              (u, x, further b m c h ∙ g, same_closed constants metas parameters t (set k' (inverted (length ps) qs b) t) s.0 (further b) o x c p i, j)
+            agrees : (b : PlainObject) → Agrees (set k' (inverted (length ps) qs b) t) given
+            agrees b m o e = let (u, x, g, i, j) = s.1 m o e in let (c, h, p) = typed.1 m o e in
+                (u, x, further b m c h ∙ g, same_closed constants metas parameters t (set k' (inverted (length ps) qs b) t) s.0 (further b) o x c p i, j)
 
-      back : (parameters : Types) (t : Instantiation) → IsSolution constants parameters t (record { metas = set k' (arrows qs a) metas; given = set k (lams ps (atomic (on qs (head_alone (Meta k'))))) given; equations = es })
-          → IsSolution constants parameters t (record { metas = metas; given = given; equations = es })
-      back parameters t s = ((λ m c e. s.0 m c (set_else k' m (arrows qs a) metas (another k' m metas c new e) ∙ e)), agrees_fewer t given k (lams ps (atomic (on qs (head_alone (Meta k'))))) open_ s.1, s.2)
+        back : (parameters : Types) (t : Instantiation) → IsSolution constants parameters t (record { metas = set k' (arrows qs a) metas; given = set k (lams ps (atomic (on qs (head_alone (Meta k'))))) given; equations = es })
+            → IsSolution constants parameters t (record { metas = metas; given = given; equations = es })
+        back parameters t s = ((λ m c e. s.0 m c (set_else k' m (arrows qs a) metas (another k' m metas c new e) ∙ e)), agrees_fewer t given k (lams ps (atomic (on qs (head_alone (Meta k'))))) open_ s.1, s.2)

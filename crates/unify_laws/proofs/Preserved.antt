@@ -72,8 +72,13 @@ more_scoped constants metas more (d ∷ ls) f = more_bound d.1 (scoped ls (close
 
 pub equations_more : (constants metas more : Types) → Grows metas more → (es : List Equation) → TypedEquations constants metas es → TypedEquations constants more es
 equations_more constants metas more f [] p = p
-equations_more constants metas more f (e ∷ es) p = ((simply_more (scoped e.locals (closed constants metas)) (scoped e.locals (closed constants more)) e.left e.type (more_scoped constants metas more e.locals f) p.0.0
-    , simply_more (scoped e.locals (closed constants metas)) (scoped e.locals (closed constants more)) e.right e.type (more_scoped constants metas more e.locals f) p.0.1), equations_more constants metas more f es p.1)
+equations_more constants metas more f (e ∷ es) p = (
+  (
+    simply_more (scoped e.locals (closed constants metas)) (scoped e.locals (closed constants more)) e.left e.type (more_scoped constants metas more e.locals f) p.0.0,
+    simply_more (scoped e.locals (closed constants metas)) (scoped e.locals (closed constants more)) e.right e.type (more_scoped constants metas more e.locals f) p.0.1,
+  ),
+  equations_more constants metas more f es p.1,
+)
 
 pub grows_new : (metas : Types) (k : ℕ) (a : SimpleType) → metas k ≡ None → Grows metas (set k a metas)
 grows_new metas k a n m b e = set_else k m a metas (another k m metas b n e) ∙ e
@@ -161,40 +166,47 @@ pub progress_start : (constants : Types) (p : Problem) → WellTyped constants p
 progress_start constants p w = record { same = refl; typed = w; grows = (λ m a e. e); stays = (λ m o e. e); keeps = keeps_same constants p; traced = (λ k a e. inl (a, e)) }
 
 traced_set : (metas more : Types) (given : Instantiation) (m : ℕ) (s : PlainObject) (k j : ℕ) → Grows metas more → given m ≡ None → CameFrom metas given k j → CameFrom more (set m s given) k j
-traced_set metas more given m s k j g n c = record
-    { places = c.places; mask = c.mask; result = c.result; before = c.before; final = c.final
-    ; older = g j (arrows c.places c.result) c.older
-    ; newer = g k (arrows (masked 0 c.mask c.places) c.result) c.newer
-    ; solution = set_else m j s given (another m j given (lams c.places (atomic (on (masked 0 c.mask c.places) (head_alone (Meta k))))) n c.solution) ∙ c.solution }
+traced_set metas more given m s k j g n c = record {
+  places = c.places;
+  mask = c.mask;
+  result = c.result;
+  before = c.before;
+  final = c.final;
+  older = g j (arrows c.places c.result) c.older;
+  newer = g k (arrows (masked 0 c.mask c.places) c.result) c.newer;
+  solution = set_else m j s given (another m j given (lams c.places (atomic (on (masked 0 c.mask c.places) (head_alone (Meta k))))) n c.solution) ∙ c.solution;
+}
 
 -- A metavariable is solved.
 pub progress_assign : (constants : Types) (start : Problem) (metas : Types) (given : Instantiation) (es : List Equation) (m : ℕ) (s : PlainObject) (a : SimpleType)
     → Progress constants start (record { metas = metas; given = given; equations = es }) → given m ≡ None → metas m ≡ Some a → SimplyTyped (closed constants metas) s a
     → KeepsSolutions constants (record { metas = metas; given = given; equations = es }) (record { metas = metas; given = set m s given; equations = es })
     → Progress constants start (record { metas = metas; given = set m s given; equations = es })
-progress_assign constants start metas given es m s a p n e t k = record
-    { same = p.same
-    ; typed = typed_set constants metas given es m s a p.typed e t
-    ; grows = p.grows
-    ; stays = (λ i o h. set_else m i s given (another m i given o n (p.stays i o h)) ∙ p.stays i o h)
-    ; keeps = keeps_then constants start (record { metas = metas; given = given; equations = es }) (record { metas = metas; given = set m s given; equations = es }) p.grows p.keeps k
-    ; traced = (λ i b h. ⊎_elim (λ u. inl u) (λ u. inr (u.0, traced_set metas metas given m s i u.0 (λ m a e. e) n u.1)) (p.traced i b h)) }
+progress_assign constants start metas given es m s a p n e t k = record {
+  same = p.same;
+  typed = typed_set constants metas given es m s a p.typed e t;
+  grows = p.grows;
+  stays = (λ i o h. set_else m i s given (another m i given o n (p.stays i o h)) ∙ p.stays i o h);
+  keeps = keeps_then constants start (record { metas = metas; given = given; equations = es }) (record { metas = metas; given = set m s given; equations = es }) p.grows p.keeps k;
+  traced = (λ i b h. ⊎_elim (λ u. inl u) (λ u. inr (u.0, traced_set metas metas given m s i u.0 (λ m a e. e) n u.1)) (p.traced i b h));
+}
 
 -- A metavariable becomes a new one on some of its arguments.
 pub progress_narrow : (constants : Types) (start : Problem) (metas : Types) (given : Instantiation) (es : List Equation) (k k' : ℕ) (bs : List Bool) (ps : List Place) (a : SimpleType)
     → Progress constants start (record { metas = metas; given = given; equations = es }) → given k ≡ None → metas k ≡ Some (arrows ps a) → metas k' ≡ None → k < k' → IsFinal a
     → KeepsSolutions constants (record { metas = metas; given = given; equations = es }) (narrowed_by metas given es k k' bs ps a)
     → Progress constants start (narrowed_by metas given es k k' bs ps a)
-progress_narrow constants start metas given es k k' bs ps a p n e f l may q = record
-    { same = p.same
-    ; typed = typed_set constants (set k' (arrows (masked 0 bs ps) a) metas) given es k (lams ps (atomic (on (masked 0 bs ps) (head_alone (Meta k'))))) (arrows ps a)
-        (typed_grown constants metas (set k' (arrows (masked 0 bs ps) a) metas) given es (grows_new metas k' (arrows (masked 0 bs ps) a) f) (final_new metas k' (arrows (masked 0 bs ps) a) (final_arrows (masked 0 bs ps) a (final_result a may)) p.typed.2) p.typed)
-        (grows_new metas k' (arrows (masked 0 bs ps) a) f k (arrows ps a) e)
-        (narrowed_typed constants (set k' (arrows (masked 0 bs ps) a) metas) k' bs ps a may (set_there k' (arrows (masked 0 bs ps) a) metas))
-    ; grows = (λ m b h. grows_new metas k' (arrows (masked 0 bs ps) a) f m b (p.grows m b h))
-    ; stays = (λ i o h. set_else k i (lams ps (atomic (on (masked 0 bs ps) (head_alone (Meta k'))))) given (another k i given o n (p.stays i o h)) ∙ p.stays i o h)
-    ; keeps = keeps_then constants start (record { metas = metas; given = given; equations = es }) (narrowed_by metas given es k k' bs ps a) p.grows p.keeps q
-    ; traced = at }
+progress_narrow constants start metas given es k k' bs ps a p n e f l may q = record {
+  same = p.same;
+  typed = typed_set constants (set k' (arrows (masked 0 bs ps) a) metas) given es k (lams ps (atomic (on (masked 0 bs ps) (head_alone (Meta k'))))) (arrows ps a)
+      (typed_grown constants metas (set k' (arrows (masked 0 bs ps) a) metas) given es (grows_new metas k' (arrows (masked 0 bs ps) a) f) (final_new metas k' (arrows (masked 0 bs ps) a) (final_arrows (masked 0 bs ps) a (final_result a may)) p.typed.2) p.typed)
+      (grows_new metas k' (arrows (masked 0 bs ps) a) f k (arrows ps a) e)
+      (narrowed_typed constants (set k' (arrows (masked 0 bs ps) a) metas) k' bs ps a may (set_there k' (arrows (masked 0 bs ps) a) metas));
+  grows = (λ m b h. grows_new metas k' (arrows (masked 0 bs ps) a) f m b (p.grows m b h));
+  stays = (λ i o h. set_else k i (lams ps (atomic (on (masked 0 bs ps) (head_alone (Meta k'))))) given (another k i given o n (p.stays i o h)) ∙ p.stays i o h);
+  keeps = keeps_then constants start (record { metas = metas; given = given; equations = es }) (narrowed_by metas given es k k' bs ps a) p.grows p.keeps q;
+  traced = at;
+}
   where
     more : Grows metas (set k' (arrows (masked 0 bs ps) a) metas)
     more = grows_new metas k' (arrows (masked 0 bs ps) a) f

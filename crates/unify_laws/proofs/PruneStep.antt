@@ -40,12 +40,12 @@ pub prune_step : (constants metas : Types) (given : Instantiation) (es : List Eq
     → given k ≡ None → metas k' ≡ None
     → ((u w : ℕ) → local_at zs u ≡ Some w → Foreign (length ls) ps n w ⊎ (mask_at bs u ≡ true))
     → KeepsSolutions constants (record { metas = metas; given = given; equations = es })
-        (narrowed_by metas given es k k' bs zs c)
+    (narrowed_by metas given es k k' bs zs c)
 prune_step constants metas given es ls r m ps qs a x con typed d lacks inner n q k k' zs c bs l e st open_ new sorted =
     narrow_step constants metas given es k k' zs (masked 0 bs zs) c typed (sym (scoped_meta inner (closed constants metas) k) ∙ e.type) open_ new
     (λ parameters. masked_fitting (over constants parameters) bs zs) (masked_distinct bs zs) (masked_within bs zs)
     (λ parameters t s b g p. unused_spared constants parameters bs zs b c p
-        (λ u w h. ⊎_elim (λ f. inl (foreign_unused constants metas parameters t s.0 ls r m ps qs a d x lacks (con parameters t s) inner n q k zs c l e st u w h f b g (lams_typed zs p))) (λ f. inr f) (sorted u w h)))
+    (λ u w h. ⊎_elim (λ f. inl (foreign_unused constants metas parameters t s.0 ls r m ps qs a d x lacks (con parameters t s) inner n q k zs c l e st u w h f b g (lams_typed zs p))) (λ f. inr f) (sorted u w h)))
 
 -- The same metavariable on both sides: arguments from which the way comes to an end are taken from it.
 pub same_step : (constants metas : Types) (given : Instantiation) (es : List Equation) (ls : Locals) (r r' : PlainNeutral) (m : ℕ) (ps qs zs ws : List Place) (a : SimpleType)
@@ -55,12 +55,12 @@ pub same_step : (constants metas : Types) (given : Instantiation) (es : List Equ
     → (m' : ℕ) (bs : List Bool) → given m ≡ None → metas m' ≡ None
     → ((u w : ℕ) → local_at ps u ≡ Some w → Ends ps zs u ⊎ (mask_at bs u ≡ true))
     → KeepsSolutions constants (record { metas = metas; given = given; equations = es })
-        (narrowed_by metas given es m m' bs ps a)
+    (narrowed_by metas given es m m' bs ps a)
 same_step constants metas given es ls r r' m ps qs zs ws a con typed d d' lacks lacks' same m' bs open_ new sorted =
     narrow_step constants metas given es m m' ps (masked 0 bs ps) a typed (sym (scoped_meta ls (closed constants metas) m) ∙ d.type) open_ new
     (λ parameters. masked_fitting (over constants parameters) bs ps) (masked_distinct bs ps) (masked_within bs ps)
     (λ parameters t s b g p. unused_spared constants parameters bs ps b a p
-        (λ u w h. ⊎_elim (λ f. inl (ends_unused constants metas parameters t s.0 ls r r' m ps qs zs ws a d d' lacks lacks' same (con parameters t s) b g (lams_typed ps p) p f)) (λ f. inr f) (sorted u w h)))
+    (λ u w h. ⊎_elim (λ f. inl (ends_unused constants metas parameters t s.0 ls r r' m ps qs zs ws a d d' lacks lacks' same (con parameters t s) b g (lams_typed ps p) p f)) (λ f. inr f) (sorted u w h)))
 
 -- A foreign local is a head at a rigid place: no solution.
 pub head_clash_step : (constants metas : Types) (given : Instantiation) (es : List Equation) (ls : Locals) (r : PlainNeutral) (m : ℕ) (ps qs : List Place) (a : SimpleType) (x : PlainObject)

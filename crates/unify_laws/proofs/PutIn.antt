@@ -27,7 +27,7 @@ no_families : Families
 no_families f = None
 
 module _ (constants metas : Types) (given s : Instantiation) (all : PutIn given s)
-  (typed_given : TypedInstantiation (closed constants metas) (closed constants metas) given) (typed : TypedInstantiation (closed constants metas) (closed constants metas) s) where
+    (typed_given : TypedInstantiation (closed constants metas) (closed constants metas) given) (typed : TypedInstantiation (closed constants metas) (closed constants metas) s) where
   one_type : {X : Type 0} {c d : X} {o : Option X} → o ≡ Some c → o ≡ Some d → c ≡ d
   one_type e f = cc
 

@@ -31,8 +31,7 @@ out_of : (inner : Locals) (n : ℕ) → length inner ≡ n → (y : Assignment) 
 out_of inner n e y h = subst (λ k. scoped inner y (ren_head (up k) h) ≡ y h) e (scoped_out inner y h)
 
 module _ (constants metas parameters : Types) (t : Instantiation) (f : Instantiates constants metas parameters t) (ls : Locals) (r : PlainNeutral) (m : ℕ) (ps qs : List Place) (a : SimpleType)
-  (d : OnLocals (scoped ls (closed constants metas)) r m ps qs a) (x : PlainObject) (lacks : LacksMisfits ps qs x) (s : Solves (instant t) (record { locals = ls; left = atomic r; right = x; type = a })) where
-
+    (d : OnLocals (scoped ls (closed constants metas)) r m ps qs a) (x : PlainObject) (lacks : LacksMisfits ps qs x) (s : Solves (instant t) (record { locals = ls; left = atomic r; right = x; type = a })) where
   -- what the metavariable holds, and its instance joined with that of the side
   sides : (b : PlainObject) × Typed false (beneath ps (over constants parameters)) b a × ((w : PlainObject) × Instantiated (length ls) t x w × Joined (ren (applied (length ls) ps) b) w)
   sides = let (b, e, q, p) = given_body constants metas parameters t f m ps a (meta_type constants metas parameters t f ls r m ps qs a d) in let (v, w, i, k, j) = s in

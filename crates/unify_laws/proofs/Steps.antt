@@ -25,9 +25,10 @@ pub keeps_same : (constants : Types) (p : Problem) → KeepsSolutions constants 
 keeps_same constants p = ((λ parameters t s. (t, (λ m a e. refl), s)), (λ parameters t s. s))
 
 pub keeps_then : (constants : Types) (p q r : Problem) → Grows p.metas q.metas → KeepsSolutions constants p q → KeepsSolutions constants q r → KeepsSolutions constants p r
-keeps_then constants p q r g k l =
-    ( (λ parameters t s. let (v, e, u) = k.0 parameters t s in let (w, f, x) = l.0 parameters v u in (w, (λ m a h. f m a (g m a h) ∙ e m a h), x))
-    , (λ parameters t s. k.1 parameters t (l.1 parameters t s)))
+keeps_then constants p q r g k l = (
+  (λ parameters t s. let (v, e, u) = k.0 parameters t s in let (w, f, x) = l.0 parameters v u in (w, (λ m a h. f m a (g m a h) ∙ e m a h), x)),
+  (λ parameters t s. k.1 parameters t (l.1 parameters t s)),
+)
 
 -- What comes of a problem without solutions had none.
 pub none_back : (constants : Types) (p q : Problem) → KeepsSolutions constants p q → HasNone constants q → HasNone constants p
@@ -37,32 +38,43 @@ none_back constants p q k h parameters t s = let (v, e, u) = k.0 parameters t s 
 pub by_equations : (constants metas : Types) (given : Instantiation) (es fs : List Equation)
     → ((parameters : Types) (t : Instantiation) → Instantiates constants metas parameters t → (SolvesEach (instant t) es → SolvesEach (instant t) fs) × (SolvesEach (instant t) fs → SolvesEach (instant t) es))
     → KeepsSolutions constants (record { metas = metas; given = given; equations = es }) (record { metas = metas; given = given; equations = fs })
-by_equations constants metas given es fs f =
-    ( (λ parameters t s. (t, (λ m a e. refl), (s.0, s.1, (f parameters t s.0).0 s.2)))
-    , (λ parameters t s. (s.0, s.1, (f parameters t s.0).1 s.2)))
+by_equations constants metas given es fs f = (
+  (λ parameters t s. (t, (λ m a e. refl), (s.0, s.1, (f parameters t s.0).0 s.2))),
+  (λ parameters t s. (s.0, s.1, (f parameters t s.0).1 s.2)),
+)
 
 -- Lambdas are joined exactly where their bodies are.
 pub lam_part : (t : Instantiation) (ls : Locals) (d : SimpleType) (m : Mode) (b c : PlainObject) (a e : SimpleType)
     → (Solves (instant t) (record { locals = ls; left = lam m b; right = lam m c; type = a }) → Solves (instant t) (record { locals = (m, d) ∷ ls; left = b; right = c; type = e }))
     × (Solves (instant t) (record { locals = (m, d) ∷ ls; left = b; right = c; type = e }) → Solves (instant t) (record { locals = ls; left = lam m b; right = lam m c; type = a }))
-lam_part t ls d m b c a e =
-    ( (λ s. let (x, y, p, q, j) = s in let (u, f, g) = body p in let (v, h, i) = body q in
-        (u, v, subst (λ z. Substituted z b u) (under_instant (length ls) t) g, subst (λ z. Substituted z c v) (under_instant (length ls) t) i,
-        bodies (subst (λ z. Joined z (lam m v)) f (subst (λ z. Joined x z) h j))))
-    , (λ s. let (x, y, p, q, j) = s in
-        (lam m x, lam m y, through_lam (subst (λ z. Substituted z b x) (sym (under_instant (length ls) t)) p), through_lam (subst (λ z. Substituted z c y) (sym (under_instant (length ls) t)) q),
-        carried (lam m) (λ _ _ z. in_lam z) j)))
+lam_part t ls d m b c a e = (
+  (λ s. let (x, y, p, q, j) = s in let (u, f, g) = body p in let (v, h, i) = body q in (
+    u,
+    v,
+    subst (λ z. Substituted z b u) (under_instant (length ls) t) g,
+    subst (λ z. Substituted z c v) (under_instant (length ls) t) i,
+    bodies (subst (λ z. Joined z (lam m v)) f (subst (λ z. Joined x z) h j)),
+  )),
+  (λ s. let (x, y, p, q, j) = s in (
+    lam m x,
+    lam m y,
+    through_lam (subst (λ z. Substituted z b x) (sym (under_instant (length ls) t)) p),
+    through_lam (subst (λ z. Substituted z c y) (sym (under_instant (length ls) t)) q),
+    carried (lam m) (λ _ _ z. in_lam z) j,
+  )),
+)
 
 -- Pairs are joined exactly where their parts are.
 pub pair_parts : (t : Instantiation) (ls : Locals) (l k r s : PlainObject) (a c d : SimpleType)
     → (Solves (instant t) (record { locals = ls; left = pair l r; right = pair k s; type = a }) → Solves (instant t) (record { locals = ls; left = l; right = k; type = c }) × Solves (instant t) (record { locals = ls; left = r; right = s; type = d }))
     × (Solves (instant t) (record { locals = ls; left = l; right = k; type = c }) × Solves (instant t) (record { locals = ls; left = r; right = s; type = d }) → Solves (instant t) (record { locals = ls; left = pair l r; right = pair k s; type = a }))
-pair_parts t ls l k r s a c d =
-    ( (λ e. let (x, y, p, q, j) = e in let (x1, x2, f, g, h) = parts p in let (y1, y2, f', g', h') = parts q in
-        let w = firsts (subst (λ z. Joined z (pair y1 y2)) f (subst (λ z. Joined x z) f' j)) in
-        ((x1, y1, g, g', w.0), (x2, y2, h, h', w.1)))
-    , (λ e. let (x, y, p, q, j) = e.0 in let (x', y', p', q', j') = e.1 in
-        (pair x x', pair y y', through_pair p p', through_pair q q', trail (carried (λ z. pair z x') (λ _ _ z. in_left z) j) (carried (λ z. pair y z) (λ _ _ z. in_right z) j'))))
+pair_parts t ls l k r s a c d = (
+  (λ e. let (x, y, p, q, j) = e in let (x1, x2, f, g, h) = parts p in let (y1, y2, f', g', h') = parts q in
+      let w = firsts (subst (λ z. Joined z (pair y1 y2)) f (subst (λ z. Joined x z) f' j)) in
+      ((x1, y1, g, g', w.0), (x2, y2, h, h', w.1))),
+  (λ e. let (x, y, p, q, j) = e.0 in let (x', y', p', q', j') = e.1 in
+      (pair x x', pair y y', through_pair p p', through_pair q q', trail (carried (λ z. pair z x') (λ _ _ z. in_left z) j) (carried (λ z. pair y z) (λ _ _ z. in_right z) j'))),
+)
 
 joined_match : {x y : PlainObject} → Joined x y → Matches x y
 joined_match {x = x} j = like_to (alike x) j

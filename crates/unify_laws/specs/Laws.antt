@@ -42,7 +42,7 @@ PruneKeeps = (constants metas : Types) (given : Instantiation) (es : List Equati
     → given k ≡ None → metas k' ≡ None
     → ((u w : ℕ) → local_at zs u ≡ Some w → Foreign (length ls) ps n w ⊎ (mask_at bs u ≡ true))
     → KeepsSolutions constants (record { metas = metas; given = given; equations = es })
-        (narrowed_by metas given es k k' bs zs c)
+    (narrowed_by metas given es k k' bs zs c)
 
 -- The same metavariable on distinct locals on both sides: arguments from which the way comes to an end are taken from it.
 abbrev pub SameKeeps : Type 0
@@ -53,7 +53,7 @@ SameKeeps = (constants metas : Types) (given : Instantiation) (es : List Equatio
     → (m' : ℕ) (bs : List Bool) → given m ≡ None → metas m' ≡ None
     → ((u w : ℕ) → local_at ps u ≡ Some w → Ends ps zs u ⊎ (mask_at bs u ≡ true))
     → KeepsSolutions constants (record { metas = metas; given = given; equations = es })
-        (narrowed_by metas given es m m' bs ps a)
+    (narrowed_by metas given es m m' bs ps a)
 
 -- A foreign local that is a head at a rigid place leaves no solution.
 abbrev pub HeadClashes : Type 0
