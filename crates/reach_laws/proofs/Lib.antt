@@ -1,0 +1,12 @@
+pub mod Reached
+pub mod Down
+pub mod PartsUnder
+pub mod Rests
+pub mod Tightness
+pub mod Tight
+pub mod Again
+pub mod Decides
+pub mod Worked
+pub mod InTurn
+pub mod Sources
+pub mod Patterned

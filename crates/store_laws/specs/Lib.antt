@@ -1,0 +1,10 @@
+pub use Rattle.clf_syntax.specs.Tree
+pub use Rattle.clf_syntax.specs.TypeTree
+pub use Rattle.clf_syntax.specs.Simple
+pub use Rattle.hered_subst.specs.Substitution
+pub use Rattle.subst_laws.specs.Environments
+pub mod Mentions
+pub mod Additions
+pub mod PutIn
+pub mod Store
+pub mod Laws
