@@ -16,8 +16,4 @@ mod signature;
 #[cfg(test)]
 mod source;
 #[cfg(test)]
-mod substitution;
-#[cfg(test)]
-mod traces;
-#[cfg(test)]
 mod trees;

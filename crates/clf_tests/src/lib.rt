@@ -1,0 +1,7 @@
+//! The tests of substitution and of equality, through their public calls.
+#![tactic(auto)]
+
+#[cfg(test)]
+mod substitution;
+#[cfg(test)]
+mod traces;
