@@ -28,7 +28,7 @@ use Rattle.pattern_laws.proofs.Spines.{applied, keeps_variables, flex_value, bod
 use Rattle.pattern_laws.proofs.Inverse.{applied_local, place_cases, typed_lams, lams_typed, fitting_at}
 use Rattle.pattern_laws.proofs.Typings.{blank_absent}
 use Rattle.pattern_laws.proofs.Instances.{scoped_out, scoped_meta}
-use Rattle.pattern_laws.proofs.Cores.{beneath_out}
+use Rattle.inversion_laws.proofs.Cores.{beneath_out}
 use Rattle.pattern_laws.proofs.Places.{occurring}
 use Rattle.unify_laws.proofs.RigidPlaces.{parts, keeps_head, KeepsOthers, keeps_others}
 use Rattle.reach_laws.proofs.Tightness.{on_kept}

@@ -11,8 +11,8 @@ use Rattle.pattern_laws.specs.Instantiations.{Types, closed}
 use Rattle.pattern_laws.specs.Equations.{scoped, Locals}
 use Rattle.pattern_laws.proofs.Inverse.{inverse_at, inverse_there, fitting_at}
 use Rattle.pattern_laws.proofs.Instances.{scoped_out}
-use Rattle.pattern_laws.proofs.Cores.{beneath_out}
-use Rattle.pattern_laws.proofs.Masks.{masked_fitting}
+use Rattle.inversion_laws.proofs.Cores.{beneath_out}
+use Rattle.inversion_laws.proofs.Masks.{masked_fitting}
 use Rattle.reach_laws.proofs.Tightness.{masked_ordered}
 use Rattle.reach_laws.proofs.Tight.{distinct_of}
 use Rattle.flat_laws.specs.Flat.{Flat}

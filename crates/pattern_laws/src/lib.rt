@@ -3,4 +3,4 @@
 
 mod laws;
 
-pub use laws::{inverting, reading};
+pub use laws::reading;

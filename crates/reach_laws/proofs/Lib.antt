@@ -6,7 +6,3 @@ pub mod Tightness
 pub mod Tight
 pub mod Again
 pub mod Decides
-pub mod Worked
-pub mod InTurn
-pub mod Sources
-pub mod Patterned

@@ -18,8 +18,8 @@ use Rattle.pattern_laws.specs.Patterns.{Place, on, lams, arrows, filled, blank, 
 use Rattle.store_laws.specs.PutIn.{PutIn}
 use Rattle.pattern_laws.proofs.Spines.{KeepsVariables, keeps_variables, applied, through_lams, flex_value}
 use Rattle.pattern_laws.proofs.Inverse.{local_filled, local_within, lams_typed, same_lams, same_length, same_beneath}
-use Rattle.pattern_laws.proofs.Cores.{beneath_out}
-use Rattle.pattern_laws.proofs.Masks.{masked_fitting}
+use Rattle.inversion_laws.proofs.Cores.{beneath_out}
+use Rattle.inversion_laws.proofs.Masks.{masked_fitting}
 use Rattle.pattern_laws.proofs.Places.{same_types}
 use Rattle.unify_laws.specs.Problems.{Problem}
 use Rattle.unify_laws.specs.Progress.{Progress, CameFrom, Traced}

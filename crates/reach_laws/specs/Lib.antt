@@ -7,4 +7,3 @@ pub mod Rest
 pub mod Sources
 pub mod Unified
 pub mod Laws
-pub mod Worked

@@ -3,4 +3,4 @@
 
 mod laws;
 
-pub use laws::{ending, examples, in_turn, putting_in};
+pub use laws::{ending, putting_in};

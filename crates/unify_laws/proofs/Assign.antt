@@ -11,7 +11,7 @@ use Rattle.trace_equal.specs.Exchange.{Joined}
 use Rattle.pattern_laws.specs.Patterns.{Place, OnDistinct, Covers, inverted, OnLocals, LacksMisfits}
 use Rattle.pattern_laws.specs.Instantiations.{Types, closed, Agrees, set}
 use Rattle.pattern_laws.specs.Equations.{scoped, Equation, Locals}
-use Rattle.pattern_laws.proofs.Cores.{solution_forced, solution_found}
+use Rattle.inversion_laws.proofs.Cores.{solution_forced, solution_found}
 use Rattle.unify_laws.specs.Problems.{KeepsSolutions, Consequence}
 
 -- What is there already is another number.

@@ -19,7 +19,7 @@ use Rattle.pattern_laws.specs.Patterns.{Place, on, lams, arrows, Fitting, local_
 use Rattle.pattern_laws.specs.Equations.{scoped, Equation, SolvesEach, TypedEquations, Locals}
 use Rattle.pattern_laws.proofs.Inverse.{Within}
 use Rattle.pattern_laws.proofs.Instances.{keeps as keeps_closed, keeps_under, scoped_meta}
-use Rattle.pattern_laws.proofs.Cores.{given_body, narrowed}
+use Rattle.inversion_laws.proofs.Cores.{given_body, narrowed}
 use Rattle.unify_laws.specs.Problems.{IsSolution, Extends, KeepsSolutions, WellTyped}
 use Rattle.unify_laws.proofs.Assign.{another, agrees_more, agrees_fewer}
 

@@ -15,7 +15,7 @@ use Rattle.pattern_laws.specs.Equations.{scoped, Equation, Locals}
 use Rattle.pattern_laws.proofs.Inverse.{place_cases, lams_typed}
 use Rattle.pattern_laws.proofs.Typings.{blank_absent}
 use Rattle.pattern_laws.proofs.Instances.{scoped_meta}
-use Rattle.pattern_laws.proofs.Masks.{masked_within, masked_distinct, masked_fitting, kept_place}
+use Rattle.inversion_laws.proofs.Masks.{masked_within, masked_distinct, masked_fitting, kept_place}
 use Rattle.unify_laws.specs.Rigid.{Stands, StandsBelow}
 use Rattle.unify_laws.specs.Problems.{KeepsSolutions, HasNone, WellTyped, Consequence}
 use Rattle.unify_laws.specs.Narrowing.{narrowed_by}

@@ -19,10 +19,10 @@ use Rattle.pattern_laws.specs.Instantiations.{Instantiated, Types, closed, over,
 use Rattle.pattern_laws.specs.Patterns.{Place, lams, arrows, local_at, OnDistinct, beneath, SameTypes, Foreign, Ends, ends_here, ends_later, OnLocals, LacksMisfits}
 use Rattle.pattern_laws.specs.Equations.{scoped, Solves, Locals}
 use Rattle.pattern_laws.proofs.Spines.{applied}
-use Rattle.pattern_laws.proofs.Inversions.{follows}
+use Rattle.inversion_laws.proofs.Inversions.{follows}
 use Rattle.pattern_laws.proofs.Inverse.{not_applied, applied_back, applied_local, same_lams, same_beneath}
 use Rattle.pattern_laws.proofs.Instances.{scoped_out, scoped_meta}
-use Rattle.pattern_laws.proofs.Cores.{fitting_over, within, given_body, meta_type, solved_value}
+use Rattle.inversion_laws.proofs.Cores.{fitting_over, within, given_body, meta_type, solved_value}
 use Rattle.unify_laws.specs.Rigid.{Stands, StandsBelow}
 use Rattle.unify_laws.proofs.RigidPlaces.{foreign_argument, foreign_head, within_itself}
 

@@ -1,7 +1,6 @@
 use Rattle.reach_laws.proofs.Again.{put_in_again}
 use Rattle.reach_laws.proofs.PartsUnder.{parts_stay}
 use Rattle.reach_laws.proofs.Down.{down_further_law}
-use Rattle.reach_laws.proofs.Sources.{side_put_in, absorbed_again}
 use Rattle.reach_laws.proofs.laws.putting_in.Goals as goal
 
 pub returns-clause-put_in_again : goal.returns-clause-put_in_again
@@ -12,9 +11,3 @@ returns-clause-parts_stay c = parts_stay
 
 pub returns-clause-down_further : goal.returns-clause-down_further
 returns-clause-down_further c = down_further_law
-
-pub returns-clause-side_put_in : goal.returns-clause-side_put_in
-returns-clause-side_put_in c = side_put_in
-
-pub returns-clause-absorbed_again : goal.returns-clause-absorbed_again
-returns-clause-absorbed_again c = absorbed_again

@@ -28,7 +28,7 @@ use Rattle.unify_laws.specs.Problems.{Grows, Stays}
 use Rattle.unify_laws.specs.Progress.{CameFrom, Traced}
 use Rattle.unify_laws.proofs.RigidPlaces.{parts, keeps_head, keeps_others}
 use Rattle.unify_laws.proofs.Steps.{shape_heads}
-use Rattle.reach_laws.specs.Laws.{RestsInTurn, TracedInTurn}
+use Rattle.answer_laws.specs.Laws.{RestsInTurn, TracedInTurn}
 use Rattle.reach_laws.specs.Rest.{IsAssignment, ComesDown, down_joined, down_listed, down_lam, down_pair, down_neutral, PartOf, part_itself, part_body, part_left, part_right, part_argument, EquationUnder, EachUnder, Rest}
 use Rattle.reach_laws.proofs.PartsUnder.{part_typed, parts_stay, kept_neutral, shape_under, one_shape}
 use Rattle.reach_laws.proofs.Rests.{typed_listed}

@@ -15,7 +15,7 @@ use Rattle.pattern_laws.proofs.Owning.{on_locals, lacks_same}
 use Rattle.unify_laws.specs.Parts.{SameShape, PartAt, part_here, part_function}
 use Rattle.reach_laws.specs.Reach.{Reaches, IsFlexible, Stuck, free_reach}
 use Rattle.reach_laws.specs.Rest.{PartOf, part_itself, part_body, part_left, part_right, part_argument, Rest}
-use Rattle.reach_laws.specs.Worked.{ones, with_pattern, pattern, PatternIsNotLeft}
+use Rattle.answer_laws.specs.Worked.{ones, with_pattern, pattern, PatternIsNotLeft}
 
 left_of : {c d : Equation} → c ≡ d → c.left ≡ d.left
 left_of e = ap (λ (q : Equation). q.left) e

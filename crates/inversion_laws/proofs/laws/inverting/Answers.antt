@@ -1,7 +1,7 @@
-use Rattle.pattern_laws.proofs.Cores.{solution_forced, solution_found, inverted_typed}
+use Rattle.inversion_laws.proofs.Cores.{solution_forced, solution_found, inverted_typed}
 use Rattle.pattern_laws.proofs.Owning.{on_locals}
-use Rattle.pattern_laws.proofs.Counterexamples.{two_types, circle_solved}
-use Rattle.pattern_laws.proofs.laws.inverting.Goals as goal
+use Rattle.inversion_laws.proofs.Counterexamples.{two_types, circle_solved}
+use Rattle.inversion_laws.proofs.laws.inverting.Goals as goal
 
 pub returns-clause-two_types : goal.returns-clause-two_types
 returns-clause-two_types c = two_types

@@ -1,5 +1,5 @@
-use Rattle.reach_laws.proofs.InTurn.{rests_in_turn, traced_in_turn}
-use Rattle.reach_laws.proofs.laws.in_turn.Goals as goal
+use Rattle.answer_laws.proofs.InTurn.{rests_in_turn, traced_in_turn}
+use Rattle.answer_laws.proofs.laws.in_turn.Goals as goal
 
 pub returns-clause-rests : goal.returns-clause-rests
 returns-clause-rests c = rests_in_turn

@@ -1,6 +1,6 @@
-use Rattle.reach_laws.proofs.Worked.{circle_is_no_answer, clash_is_at_part, nothing_foreign_is_left, corner_at_monad}
-use Rattle.reach_laws.proofs.Patterned.{pattern_is_not_left}
-use Rattle.reach_laws.proofs.laws.examples.Goals as goal
+use Rattle.answer_laws.proofs.Worked.{circle_is_no_answer, clash_is_at_part, nothing_foreign_is_left, corner_at_monad}
+use Rattle.answer_laws.proofs.Patterned.{pattern_is_not_left}
+use Rattle.answer_laws.proofs.laws.examples.Goals as goal
 
 pub returns-clause-circle : goal.returns-clause-circle
 returns-clause-circle c = circle_is_no_answer

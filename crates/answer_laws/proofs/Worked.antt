@@ -23,7 +23,7 @@ use Rattle.pattern_laws.proofs.Spines.{keeps_variables, kept_place}
 use Rattle.unify_laws.specs.Parts.{shape_head, shape_app}
 use Rattle.unify_laws.specs.Rigid.{size}
 use Rattle.reach_laws.specs.Unified.{Unified, Clashed}
-use Rattle.reach_laws.specs.Worked.{circular, CircleIsNoAnswer, ClashIsAtPart, NothingForeignIsLeft, cornered, corner, CornerAtMonad}
+use Rattle.answer_laws.specs.Worked.{circular, CircleIsNoAnswer, ClashIsAtPart, NothingForeignIsLeft, cornered, corner, CornerAtMonad}
 
 of_meta : (s : Instantiation) (x y : PlainObject) → s 0 ≡ Some x → Substituted (instant s) (atomic (head_alone (Meta 0))) y → y ≡ x
 of_meta s x y e (through_kept (kept_bare k)) = absurd (no_keep (ap (image_or (Meta 0)) e) k)

@@ -20,7 +20,7 @@ use Rattle.eta_laws.specs.Eta.{eta, becoming}
 use Rattle.pattern_laws.specs.Patterns.{Place, on, lams, arrows, filled, blank, LacksMisfits}
 use Rattle.pattern_laws.proofs.Occurrences.{target}
 use Rattle.pattern_laws.proofs.Typings.{blank_absent}
-use Rattle.pattern_laws.proofs.Misfits.{PutsFor, misfit_absent}
+use Rattle.inversion_laws.proofs.Misfits.{PutsFor, misfit_absent}
 use Rattle.pattern_laws.proofs.Spines.{KeepsVariables, Ready, placed, kept_place, value_on, body_typed, becoming_next}
 
 -- Each place has a local whose eta-long form has the type of the place.

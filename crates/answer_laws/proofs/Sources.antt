@@ -17,7 +17,7 @@ use Rattle.pattern_laws.specs.Patterns.{Place, lams, inverse, inverted, local_at
 use Rattle.pattern_laws.proofs.Spines.{fits_instant, through_lams}
 use Rattle.pattern_laws.proofs.Inverse.{Within, inverse_past}
 use Rattle.pattern_laws.proofs.Instances.{typed_scoped, composed_scoped}
-use Rattle.reach_laws.specs.Laws.{SidePutIn, AbsorbedAgain}
+use Rattle.answer_laws.specs.Laws.{SidePutIn, AbsorbedAgain}
 use Rattle.reach_laws.specs.Rest.{PartOf, EquationUnder, IsAssignment}
 use Rattle.reach_laws.specs.Sources.{FromSide, MadeOfSide}
 use Rattle.reach_laws.proofs.PartsUnder.{part_typed, part_under, some_result, stays_typed}

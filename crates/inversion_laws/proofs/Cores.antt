@@ -24,10 +24,10 @@ use Rattle.pattern_laws.specs.Patterns.{Place, on, lams, arrows, Fitting, local_
 use Rattle.pattern_laws.specs.Equations.{scoped, Solves, Locals}
 use Rattle.pattern_laws.proofs.Occurrences.{away, stays_there, fixed, absent, absent_joined}
 use Rattle.pattern_laws.proofs.Typings.{typed_where, blank_absent}
-use Rattle.pattern_laws.proofs.Misfits.{head_kept}
+use Rattle.inversion_laws.proofs.Misfits.{head_kept}
 use Rattle.pattern_laws.proofs.Spines.{applied, applied_past, fits_instant, of_lams, flex_value_of, Ready, ready_back, keeps_variables, kept_place, ren_lams}
-use Rattle.pattern_laws.proofs.Readings.{Stand, ready_on}
-use Rattle.pattern_laws.proofs.Inversions.{renamed_joined, undone, forced, pruned_by}
+use Rattle.inversion_laws.proofs.Readings.{Stand, ready_on}
+use Rattle.inversion_laws.proofs.Inversions.{renamed_joined, undone, forced, pruned_by}
 use Rattle.pattern_laws.proofs.Inverse.{Within, inverse_past, inverse_applied, inverse_there, applied_inverse, typed_lams, lams_typed, joined_bodies, fitting_at, local_within}
 use Rattle.pattern_laws.proofs.Instances.{instance_typed, typed_over, scoped_out, scoped_in, scoped_meta, instance}
 

@@ -1,0 +1,4 @@
+pub mod Sources
+pub mod InTurn
+pub mod Worked
+pub mod Patterned
