@@ -1,6 +1,6 @@
 -- What stands at a place of a list that grows at its end, or in which one place is set.
-use Rattle.std.specs.Prelude.{ℕ, zero, suc, ◌<◌, ◌≤◌, ◌≡◌, ◌≢◌, ◌⊎◌, List, [], ◌∷◌, ◌++◌, length, take, Some, None, slice_get, slice_set, refl}
-use Rattle.std.proofs.Common.{ap, inl, inr, ⊎_elim, arith}
+use Rattle.std.specs.Prelude.{ℕ, zero, suc, ◌+◌, ◌<◌, ◌≤◌, ◌≡◌, ◌≢◌, ◌⊎◌, List, [], ◌∷◌, ◌++◌, length, take, Some, None, slice_get, slice_set, refl}
+use Rattle.std.proofs.Common.{ap, ◌∙◌, inl, inr, ⊎_elim, arith}
 
 pub get-front : {X : Type 0} (xs ys : List X) (p : ℕ) (x : X) → slice_get xs p ≡ Some x → slice_get (xs ++ ys) p ≡ Some x
 get-front [] ys p x e = absurd (cc)
@@ -39,3 +39,13 @@ take-take zero j xs h = refl
 take-take (suc i) zero xs h = absurd (omega arith)
 take-take (suc i) (suc j) [] h = refl
 take-take (suc i) (suc j) (x ∷ xs) h = ap (λ l. x ∷ l) (take-take i j xs (omega arith))
+
+pub get-behind : {X : Type 0} (xs ys : List X) (j : ℕ) → slice_get (xs ++ ys) (length xs + j) ≡ slice_get ys j
+get-behind [] ys j = ap (slice_get ys) (none_more j)
+  where
+    none_more : (j : ℕ) → 0 + j ≡ j
+    none_more j = omega arith
+get-behind (x ∷ xs) ys j = ap (slice_get (x ∷ (xs ++ ys))) (moved (length xs) j) ∙ get-behind xs ys j
+  where
+    moved : (n j : ℕ) → suc n + j ≡ suc (n + j)
+    moved n j = omega arith

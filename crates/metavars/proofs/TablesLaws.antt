@@ -210,11 +210,11 @@ no_solution : (xs : List Addition) (ts : List Simple) (m : ℕ) → length ts �
 no_solution [] ts m h n = refl
 no_solution (New ∷ xs) [] m h n = absurd (omega arith)
 no_solution (New ∷ xs) (u ∷ ts) m h n = no_solution xs ts m (omega arith) (λ p o e. n (suc p) o e)
-no_solution (Solved k u ∷ xs) ts m h n = picked (nat_eq m k) refl
+no_solution (Solved k u ∷ xs) ts m h n = picked (nat_eq m k) refl (no_solution xs ts m h (λ p o f. n (suc p) o f))
   where
-    picked : (b : Bool) → nat_eq m k ≡ b → (if b then Some (plain_obj u) else given (map plain_added (told xs ts)) m) ≡ None
-    picked true e = absurd (n 0 u (ap (λ j. Some (Solved j u)) (sym (eqb-true m k e))))
-    picked false e = no_solution xs ts m h (λ p o f. n (suc p) o f)
+    picked : (b : Bool) → nat_eq m k ≡ b → given (map plain_added (told xs ts)) m ≡ None → (if b then Some (plain_obj u) else given (map plain_added (told xs ts)) m) ≡ None
+    picked true e f = absurd (n 0 u (ap (λ j. Some (Solved j u)) (sym (eqb-true m k e))))
+    picked false e f = f
 
 one_solution : (xs : List Addition) (ts : List Simple) (m p : ℕ) (o : Obj) → length ts ≡ new_ones xs → slice_get xs p ≡ Some (Solved m o) → ((q : ℕ) (u : Obj) → slice_get xs q ≡ Some (Solved m u) → q ≡ p)
     → given (map plain_added (told xs ts)) m ≡ Some (plain_obj o)
@@ -222,14 +222,16 @@ one_solution [] ts m p o h e n = absurd (cc)
 one_solution (New ∷ xs) [] m p o h e n = absurd (omega arith)
 one_solution (New ∷ xs) (u ∷ ts) m zero o h e n = absurd (not_new (cc (e)))
 one_solution (New ∷ xs) (u ∷ ts) m (suc p) o h e n = one_solution xs ts m p o (omega arith) e (λ q v f. omega (arith, n (suc q) v f))
-one_solution (Solved k u ∷ xs) ts m p o h e n = picked p e n (nat_eq m k) refl
+one_solution (Solved k u ∷ xs) ts m zero o h e n = picked (nat_eq m k) refl
   where
-    picked : (p : ℕ) → slice_get (Solved k u ∷ xs) p ≡ Some (Solved m o) → ((q : ℕ) (v : Obj) → slice_get (Solved k u ∷ xs) q ≡ Some (Solved m v) → q ≡ p) → (b : Bool) → nat_eq m k ≡ b
-        → (if b then Some (plain_obj u) else given (map plain_added (told xs ts)) m) ≡ Some (plain_obj o)
-    picked zero e n true f = ap (λ v. Some (plain_obj v)) (cc (e))
-    picked zero e n false f = let same : k ≡ m = cc (e) in absurd (not_both (eq-eqb m k (sym same)) f)
-    picked (suc p) e n true f = absurd (omega (arith, n 0 u (ap (λ j. Some (Solved j u)) (sym (eqb-true m k f)))))
-    picked (suc p) e n false f = one_solution xs ts m p o h e (λ q v g. omega (arith, n (suc q) v g))
+    picked : (b : Bool) → nat_eq m k ≡ b → (if b then Some (plain_obj u) else given (map plain_added (told xs ts)) m) ≡ Some (plain_obj o)
+    picked true f = ap (λ v. Some (plain_obj v)) (cc (e))
+    picked false f = let same : k ≡ m = cc (e) in absurd (not_both (eq-eqb m k (sym same)) f)
+one_solution (Solved k u ∷ xs) ts m (suc p) o h e n = picked (nat_eq m k) refl (one_solution xs ts m p o h e (λ q v g. omega (arith, n (suc q) v g)))
+  where
+    picked : (b : Bool) → nat_eq m k ≡ b → given (map plain_added (told xs ts)) m ≡ Some (plain_obj o) → (if b then Some (plain_obj u) else given (map plain_added (told xs ts)) m) ≡ Some (plain_obj o)
+    picked true f g = absurd (omega (arith, n 0 u (ap (λ j. Some (Solved j u)) (sym (eqb-true m k f)))))
+    picked false f g = g
 
 inner : (x : Option (Option ℕ)) (p : ℕ) → inner_place x ≡ Some p → x ≡ Some (Some p)
 inner None p e = absurd (cc)
@@ -271,9 +273,9 @@ listed-types t h = told-types t.added t.metas h.typed
 
 -- ---- the front of what was told
 
-pub record IsFront (count : ℕ) (old new : Tables) : Type 0 where
+pub record IsFront (least : ℕ) (old new : Tables) : Type 0 where
   pub tables : AreTables new
-  pub count : count ≤ length new.added
+  pub count : least ≤ length new.added
   pub within : length new.added ≤ length old.added
   pub listed : listed new ≡ take (length new.added) (listed old)
 

@@ -14,3 +14,5 @@ pub mod Tables
 pub mod Becoming
 pub mod Outcomes
 pub mod Inside
+pub mod Scopes
+pub mod Laws

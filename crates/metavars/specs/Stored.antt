@@ -1,5 +1,7 @@
 -- What contracts see of a store: the simple types of the constants, and what was added, in order.
-use Rattle.std.specs.Prelude.{ℕ, ◌≡◌, List, [], ◌∷◌, ◌++◌, take, map}
+use Rattle.std.specs.Prelude.{ℕ, ◌≡◌, ◌⊎◌, List, [], ◌∷◌, ◌++◌, take, map, refl}
+use Rattle.std.proofs.Common.{inl, inr}
+use Rattle.std.specs.Coded.{Coded, code_by, coded_list, coded×, coded⊎, coded_ℕ}
 use Rattle.clf_syntax.specs.declared.tree.Simple.{Simple}
 use Rattle.clf_syntax.specs.declared.tree.Obj.{Obj}
 use Rattle.clf_syntax.specs.TypeTree.{SimpleType}
@@ -38,3 +40,22 @@ cut_to n s = record { constants = s.constants; added = take n s.added }
 -- The second has what the first has, and perhaps more additions behind.
 abbrev pub IsPart : Stored → Stored → Type 0
 IsPart s t = (t.constants ≡ s.constants) × ((more : List Added) × (t.added ≡ s.added ++ more))
+
+-- how both are stored, where the trees in them have codes
+abbrev pub as_sum : Added → Simple ⊎ (ℕ × Obj)
+as_sum (added_new t) = inl t
+as_sum (added_solved m o) = inr (m, o)
+
+abbrev pub of_sum : Simple ⊎ (ℕ × Obj) → Added
+of_sum (inl t) = added_new t
+of_sum (inr p) = added_solved p.0 p.1
+
+pub of_sum-as_sum : (a : Added) → of_sum (as_sum a) ≡ a
+of_sum-as_sum (added_new t) = refl
+of_sum-as_sum (added_solved m o) = refl
+
+abbrev pub added_code : Coded Simple → Coded Obj → Coded Added
+added_code s o = code_by (Simple ⊎ (ℕ × Obj)) (coded⊎ s (coded× coded_ℕ o)) as_sum of_sum of_sum-as_sum
+
+abbrev pub stored_code : Coded Simple → Coded Obj → Coded Stored
+stored_code s o = code_by (List Simple × List Added) (coded× (coded_list s) (coded_list (added_code s o))) (λ v. (v.constants, v.added)) (λ p. record { constants = p.0; added = p.1 }) (λ v. refl)

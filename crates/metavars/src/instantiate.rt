@@ -121,7 +121,7 @@ fn put_head<'a>(looking: &Looking<'a>, head: Head) -> Result<Outcome<'a>, PutFau
 /// A head that is kept.
 #[tactic(auto, using(clf_syntax::specs::Plain::plain_laws))]
 fn kept_head<'a>(alloc: Global, head: Head) -> Outcome<'a>
-    ensures { IsKept (head_alone head) result.entry }
+    ensures { IsKept (head_alone head) result }
 {
     Outcome::Kept(Neutral {
         head,

@@ -1,8 +1,10 @@
 //! Metavariables and their solutions.
 #![tactic(auto)]
 
+mod fresh;
 mod instance;
 mod instantiate;
+mod laws;
 mod rest;
 mod simple;
 mod store;
@@ -10,4 +12,5 @@ mod tables;
 mod types;
 mod value;
 
+pub use laws::new_metavariables;
 pub use store::{Store, StoreMark};

@@ -23,9 +23,13 @@ pub struct Store {
 }
 
 impl Model for Store {
-    ghost use Rattle.metavars.specs.Stored.{Stored};
+    ghost use Rattle.clf_syntax.specs.contracts.tree.Simple as simple;
+    ghost use Rattle.clf_syntax.specs.contracts.tree.Obj as obj;
+    ghost use Rattle.metavars.specs.Stored.{Stored, stored_code};
 
     ghost Value = { Stored };
+
+    ghost coded = { stored_code simple.the_row.coded obj.the_row.coded };
 
     ghost use Rattle.metavars.specs.Tables.{listed, AreTables};
 

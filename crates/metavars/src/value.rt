@@ -40,7 +40,7 @@ pub fn apply<'a>(
     value: Value<'a>,
     argument: &Obj,
 ) -> Result<Value<'a>, PutFault>
-    ensures { IfOk result (λ v. AppliedTo mode (plain_obj value.entry.obj) (plain_obj argument.now) (plain_obj v.entry.obj)) }
+    ensures { IfOk result (λ v. AppliedTo mode (plain_obj value.entry.obj) (plain_obj argument.now) (plain_obj v.obj)) }
 {
     let Value { obj, ty } = value;
     match ty {
@@ -81,7 +81,7 @@ fn apply_object(
 /// The first part of a value.
 #[tactic(auto, using(clf_syntax::specs::Plain::plain_laws))]
 pub fn first_part<'a>(value: Value<'a>) -> Result<Value<'a>, PutFault>
-    ensures { IfOk result (λ v. FirstOf (plain_obj value.entry.obj) (plain_obj v.entry.obj)) }
+    ensures { IfOk result (λ v. FirstOf (plain_obj value.entry.obj) (plain_obj v.obj)) }
 {
     let Value { obj, ty } = value;
     match ty {
@@ -98,7 +98,7 @@ pub fn first_part<'a>(value: Value<'a>) -> Result<Value<'a>, PutFault>
 /// The second part of a value.
 #[tactic(auto, using(clf_syntax::specs::Plain::plain_laws))]
 pub fn second_part<'a>(value: Value<'a>) -> Result<Value<'a>, PutFault>
-    ensures { IfOk result (λ v. SecondOf (plain_obj value.entry.obj) (plain_obj v.entry.obj)) }
+    ensures { IfOk result (λ v. SecondOf (plain_obj value.entry.obj) (plain_obj v.obj)) }
 {
     let Value { obj, ty } = value;
     match ty {
