@@ -1,6 +1,7 @@
 -- What trees become with all solutions put in, one form of tree after the other. A solution has no free variable, so nothing changes under binders.
-use Rattle.std.specs.Prelude.{ℕ, ◌+◌, ◌-◌, ◌<◌, ◌≡◌, nat_lt, if◌then◌else◌, false, List, [], ◌∷◌, ◌++◌, length, Option, Some, None, refl}
-use Rattle.std.proofs.Common.{ap, sym, subst, ◌∙◌, arith}
+use Rattle.std.specs.Prelude.{ℕ, ◌+◌, ◌-◌, ◌<◌, ◌≡◌, nat_lt, if◌then◌else◌, false, List, [], ◌∷◌, ◌++◌, length, map, take, Option, Some, None, Result, Ok, Err, IfOk, refl}
+use Rattle.std.proofs.Common.{ap, sym, subst, ◌∙◌, arith, get_or}
+use Rattle.std.proofs.lemmas.List.{map-append, take_more}
 use Rattle.clf_syntax.specs.declared.tree.Mode.{Mode}
 use Rattle.clf_syntax.specs.declared.tree.Head.{Head}
 use Rattle.clf_syntax.specs.declared.tree.Head.TheVariants.{Const, Var, Meta}
@@ -39,6 +40,24 @@ module _ (s : Instantiation) (h : IsClosed s) where
       at_head (Const c) = refl
       at_head (Var i) = grind arith
       at_head (Meta m) = stays-put n m (s m) refl
+
+-- ---- parts of pairs
+
+first_of_pair : (p x : PlainObject) → FirstOf p x → (y : PlainObject) × (p ≡ pair x y)
+first_of_pair (pair l r) x e = let q : l ≡ x = cc (e) in (r, ap (λ i. pair i r) q)
+first_of_pair (lam m b) x e = absurd (cc)
+first_of_pair unit x e = absurd (cc)
+first_of_pair (monadic b) x e = absurd (cc)
+first_of_pair (atomic n) x e = absurd (cc)
+first_of_pair hole x e = absurd (cc)
+
+second_of_pair : (p y : PlainObject) → SecondOf p y → (x : PlainObject) × (p ≡ pair x y)
+second_of_pair (pair l r) y e = let q : r ≡ y = cc (e) in (l, ap (pair l) q)
+second_of_pair (lam m b) y e = absurd (cc)
+second_of_pair unit y e = absurd (cc)
+second_of_pair (monadic b) y e = absurd (cc)
+second_of_pair (atomic n) y e = absurd (cc)
+second_of_pair hole y e = absurd (cc)
 
 -- ---- objects
 
@@ -117,11 +136,11 @@ module _ (store : Stored) where
 
   value-fst : (r : PlainNeutral) (f x : PlainObject) → Value store r f → FirstOf f x → Value store (fst r) x
   unfolding Value
-  value-fst r f x h (y, e) = λ s p c. value_fst (subst (HasValue (instant s) r) e (h s p c))
+  value-fst r f x h e = λ s p c. let (y, q) = first_of_pair f x e in value_fst (subst (HasValue (instant s) r) q (h s p c))
 
   value-snd : (r : PlainNeutral) (f x : PlainObject) → Value store r f → SecondOf f x → Value store (snd r) x
   unfolding Value
-  value-snd r f x h (y, e) = λ s p c. value_snd (subst (HasValue (instant s) r) e (h s p c))
+  value-snd r f x h e = λ s p c. let (y, q) = second_of_pair f x e in value_snd (subst (HasValue (instant s) r) q (h s p c))
 
   pub under-argument : (m : Mode) (r : PlainNeutral) (o y : PlainObject) (v w : Outcome) → BecomesOutcome store r v → Object store o y → UnderArgument m y v w → BecomesOutcome store (app m r o) w
   under-argument m r o y (KeptOutcome v) (KeptOutcome w) h k e = subst (Kept store (app m r o)) (sym e) (kept-app m r (plain_neutral v) o y h k)
@@ -217,5 +236,16 @@ module _ (store : Stored) where
 pub each-more : {X : Type 0} {R : X → X → Type 0} {xs ys : List X} {x y : X} → Each R xs ys → R x y → Each R (xs ++ x ∷ []) (ys ++ y ∷ [])
 each-more none r = next r none
 each-more (next q qs) r = next q (each-more qs r)
+
+pub each-next : {X P : Type 0} (v : X → P) (R : P → P → Type 0) (xs : List X) (i : ℕ) (x : X) (ys : List X) (y : X)
+    → Each R (map v (take i xs)) (map v ys) → i < length xs → x ≡ get_or xs i x → R (v x) (v y) → Each R (map v (take (i + 1) xs)) (map v (ys ++ y ∷ []))
+each-next v R xs i x ys y h l e r = subst (λ ps. Each R ps (map v (ys ++ y ∷ []))) (sym (ap (map v) (take_more xs i x l ∙ ap (λ z. take i xs ++ z ∷ []) (sym e)) ∙ map-append v (take i xs) (x ∷ [])))
+    (subst (Each R (map v (take i xs) ++ v x ∷ [])) (sym (map-append v ys (y ∷ []))) (each-more h r))
+
+-- ---- results
+
+pub if-ok-more : {X E : Type 0} (r : Result X E) (P Q : X → Type 0) → ((x : X) → P x → Q x) → IfOk r P → IfOk r Q
+if-ok-more (Ok x) P Q f p = f x p
+if-ok-more (Err e) P Q f p = p
 
 pub ruleset becoming_laws = (object-lam, object-pair, object-unit, object-hole, object-monadic, object-kept, object-value, entry-done, expression-done, type-family, type-function, type-both, type-top, type-monad, telescope-entries, typing-entry-done)

@@ -8,7 +8,9 @@ use Rattle.clf_syntax.specs.TypeTree.{SimpleType}
 use Rattle.metavars.specs.declared.fresh.Local.{Local as DeclaredLocal}
 use Rattle.store_laws.specs.Additions.{Addition, new, meta_types}
 use Rattle.store_laws.proofs.Lists.{types-append}
-use Rattle.metavars.specs.Fresh.{functions, applied_from}
+use Rattle.clf_syntax.specs.declared.tree.SimpleEntry.{SimpleEntry}
+use Rattle.clf_syntax.specs.PlainSimple.{plain_simple_entry}
+use Rattle.metavars.specs.Fresh.{scope_of, local, functions, applied_from}
 use Rattle.metavars.specs.Scopes.{plain_local, plain_scope, function_by, applied_by}
 use Rattle.metavars.specs.Stored.{Stored, Added, IsPart, with_addition}
 
@@ -25,6 +27,12 @@ functions-next ls i l t h e = ap (λ s. functions s t) (scope-next ls i l h e)
 pub applied-next : (ls : List DeclaredLocal) (i n : ℕ) (l : DeclaredLocal) (r : PlainNeutral) → i < length ls → l ≡ get_or ls i l
     → applied_from n (plain_scope (take (i + 1) ls)) r ≡ applied_by (plain_local l) n (applied_from (n + 1) (plain_scope (take i ls)) r)
 applied-next ls i n l r h e = ap (λ s. applied_from n s r) (scope-next ls i l h e)
+
+pub locals-next : (es : List SimpleEntry) (i : ℕ) (e : SimpleEntry) (ls : List DeclaredLocal) (l : DeclaredLocal) → i < length es → e ≡ get_or es i e
+    → plain_scope ls ≡ scope_of (map plain_simple_entry (reverse (take i es))) → plain_local l ≡ local (plain_simple_entry e)
+    → plain_scope (ls ++ l ∷ []) ≡ scope_of (map plain_simple_entry (reverse (take (i + 1) es)))
+locals-next es i e ls l h r f g = scope-more ls l ∙ ap (λ x. x ∷ plain_scope ls) g ∙ ap (λ s. local (plain_simple_entry e) ∷ s) f
+    ∙ sym (ap (λ ys. scope_of (map plain_simple_entry (reverse ys))) (take_more es i e h ∙ ap (λ x. take i es ++ x ∷ []) (sym r)) ∙ ap (λ ys. scope_of (map plain_simple_entry ys)) (reverse-append (take i es) (e ∷ [])))
 
 pub new-types : (ts : List SimpleType) → meta_types (map new ts) ≡ ts
 new-types [] = refl

@@ -1,9 +1,9 @@
 -- The tables of a store stay tables, and tell the list of additions.
-use Rattle.std.specs.Prelude.{ℕ, zero, suc, ◌+◌, ◌<◌, ◌≤◌, ◌≡◌, ◌≢◌, ◌⊎◌, nat_eq, Bool, true, false, if◌then◌else◌, List, [], ◌∷◌, ◌++◌, length, map, take, drop, Option, Some, None, slice_get, slice_set, refl}
+use Rattle.std.specs.Prelude.{ℕ, zero, suc, ◌+◌, ◌<◌, ◌≤◌, ◌≡◌, ◌≢◌, ◌⊎◌, nat_eq, Bool, true, false, if◌then◌else◌, List, [], ◌∷◌, ◌++◌, length, map, take, drop, Option, Some, None, MatchOption, slice_get, slice_set, refl}
 use Rattle.std.proofs.Common.{ap, sym, subst, inl, inr, ⊎_elim, ◌∙◌, arith}
 use Rattle.std.specs.Option.{option_map}
 use Rattle.std.proofs.Math.Seq.{take-append_seam, take-length}
-use Rattle.std.proofs.lemmas.List.{length-append, take-append-le, take-append-drop, length-set}
+use Rattle.std.proofs.lemmas.List.{length-append, take-append-le, take-append-drop, length-set, length-map}
 use Rattle.std.proofs.lemmas.Bool.{eq-eqb, eqb-true}
 use Rattle.std.proofs.lemmas.Option.{slice_get_within}
 use Rattle.clf_syntax.specs.declared.tree.Simple.{Simple}
@@ -15,7 +15,7 @@ use Rattle.metavars.specs.declared.tables.Addition.{Addition}
 use Rattle.metavars.specs.declared.tables.Addition.TheVariants.{New, Solved}
 use Rattle.metavars.specs.declared.tables.Tables.{Tables}
 use Rattle.store_laws.specs.Additions.{given, meta_types}
-use Rattle.metavars.specs.Stored.{Added, added_new, added_solved, plain_added}
+use Rattle.metavars.specs.Stored.{Stored, Added, added_new, added_solved, plain_added}
 use Rattle.metavars.specs.Tables.{told, listed, new_ones, AreTables, with_row, with_new, with_solved, place_in, inner_place, object_in, object_of}
 use Rattle.metavars.proofs.Gets.{get-front, get-last, get-split, get-set_same, get-set_other, slice_get_none, take-take}
 
@@ -200,6 +200,13 @@ module _ (t : Tables) (h : AreTables t) (xs : List Addition) where
         listed = sym (ap (take (length xs)) (ap (λ a. told a t.metas) e ∙ told-solved xs t.metas m o less.typed) ∙ ap (λ n. take n (told xs t.metas ++ added_solved m o ∷ [])) (sym (told-length xs t.metas less.typed)) ∙ take-append_seam (told xs t.metas) (added_solved m o ∷ []))
       }
 
+  -- the last rows are there
+  pub back-popped : (ts : List Simple) (rs : List (Option ℕ)) → t.added ≡ xs ++ New ∷ [] → (u : Option Simple) → MatchOption u ((t.metas ≡ []) × (ts ≡ [])) (λ v. t.metas ≡ ts ++ v ∷ [])
+      → (q : Option (Option ℕ)) → MatchOption q ((t.solved_at ≡ []) × (rs ≡ [])) (λ v. t.solved_at ≡ rs ++ v ∷ []) → IsBack t (record { added = xs; metas = ts; solved_at = rs })
+  back-popped ts rs e None f q g = absurd (omega (arith, h.typed, ap length f.0, ap new_ones e, new_ones-append xs (New ∷ [])))
+  back-popped ts rs e (Some u) f None g = absurd (omega (arith, h.typed, h.placed, ap length g.0, ap new_ones e, new_ones-append xs (New ∷ [])))
+  back-popped ts rs e (Some u) f (Some q) g = back-new ts u rs q e f g
+
   -- so the last row is there
   pub solved-within : (m : ℕ) (o : Obj) → t.added ≡ xs ++ Solved m o ∷ [] → m < length t.solved_at
   solved-within m o e = slice_get_within t.solved_at m (Some (length xs)) (h.there (length xs) m o (ap (λ a. slice_get a (length xs)) e ∙ get-last xs (Solved m o)))
@@ -216,11 +223,14 @@ no_solution (Solved k u ∷ xs) ts m h n = picked (nat_eq m k) refl (no_solution
     picked true e f = absurd (n 0 u (ap (λ j. Some (Solved j u)) (sym (eqb-true m k e))))
     picked false e f = f
 
+no_such : {m : ℕ} {o : Obj} → Some New ≡ Some (Solved m o) → ⊥
+no_such e = cc
+
 one_solution : (xs : List Addition) (ts : List Simple) (m p : ℕ) (o : Obj) → length ts ≡ new_ones xs → slice_get xs p ≡ Some (Solved m o) → ((q : ℕ) (u : Obj) → slice_get xs q ≡ Some (Solved m u) → q ≡ p)
     → given (map plain_added (told xs ts)) m ≡ Some (plain_obj o)
 one_solution [] ts m p o h e n = absurd (cc)
 one_solution (New ∷ xs) [] m p o h e n = absurd (omega arith)
-one_solution (New ∷ xs) (u ∷ ts) m zero o h e n = absurd (not_new (cc (e)))
+one_solution (New ∷ xs) (u ∷ ts) m zero o h e n = absurd (no_such e)
 one_solution (New ∷ xs) (u ∷ ts) m (suc p) o h e n = one_solution xs ts m p o (omega arith) e (λ q v f. omega (arith, n (suc q) v f))
 one_solution (Solved k u ∷ xs) ts m zero o h e n = picked (nat_eq m k) refl
   where
@@ -267,6 +277,13 @@ told-types [] (u ∷ ts) h = absurd (omega arith)
 told-types (New ∷ xs) [] h = absurd (omega arith)
 told-types (New ∷ xs) (u ∷ ts) h = ap (λ l. plain_simple u ∷ l) (told-types xs ts (omega arith))
 told-types (Solved k u ∷ xs) ts h = told-types xs ts h
+
+pub types-count : (t : Tables) → AreTables t → length (meta_types (map plain_added (listed t))) ≡ length t.metas
+types-count t h = ap length (told-types t.added t.metas h.typed) ∙ length-map plain_simple t.metas
+
+-- what is seen of a store
+abbrev pub seen : List Simple → List Added → Stored
+seen c l = record { constants = c; added = l }
 
 pub listed-types : (t : Tables) → AreTables t → meta_types (map plain_added (listed t)) ≡ map plain_simple t.metas
 listed-types t h = told-types t.added t.metas h.typed

@@ -1,8 +1,8 @@
 -- Inner: what becomes of neutrals and of steps, as contracts see it.
-use Rattle.std.specs.Prelude.{◌≡◌, List, [], ◌∷◌, length, map, reverse, ℕ}
+use Rattle.std.specs.Prelude.{◌≡◌, List, [], ◌∷◌, length, map, reverse, ℕ, Option, Some, None}
 use Rattle.clf_syntax.specs.declared.tree.Mode.{Mode}
 use Rattle.clf_syntax.specs.declared.tree.Head.TheVariants.{Meta}
-use Rattle.clf_syntax.specs.Tree.{PlainObject, lam, pair, monadic, atomic, PlainNeutral, app, fst, snd, PlainExpression, step, done, steps_on, tuple_of, head_of}
+use Rattle.clf_syntax.specs.Tree.{PlainObject, lam, pair, unit, monadic, atomic, hole, PlainNeutral, app, fst, snd, PlainExpression, step, done, steps_on, tuple_of, head_of}
 use Rattle.clf_syntax.specs.Plain.{plain_obj, plain_neutral, plain_step, plain_entry}
 use Rattle.hered_subst.specs.Substitution.{single, Substituted, Flattened}
 use Rattle.metavars.specs.declared.rest.Rest.{Rest}
@@ -18,11 +18,27 @@ plain_rest r = steps_on (map plain_step (reverse r.reversed)) (done (tuple_of (m
 abbrev pub AppliedTo : Mode → PlainObject → PlainObject → PlainObject → Type 0
 AppliedTo m f y x = (b : PlainObject) × (f ≡ lam m b) × Substituted (single y 0) b x
 
+abbrev pub first_part_of : PlainObject → Option PlainObject
+first_part_of (pair x y) = Some x
+first_part_of (lam m b) = None
+first_part_of unit = None
+first_part_of (monadic e) = None
+first_part_of (atomic n) = None
+first_part_of hole = None
+
+abbrev pub second_part_of : PlainObject → Option PlainObject
+second_part_of (pair x y) = Some y
+second_part_of (lam m b) = None
+second_part_of unit = None
+second_part_of (monadic e) = None
+second_part_of (atomic n) = None
+second_part_of hole = None
+
 abbrev pub FirstOf : PlainObject → PlainObject → Type 0
-FirstOf p x = (y : PlainObject) × (p ≡ pair x y)
+FirstOf p x = first_part_of p ≡ Some x
 
 abbrev pub SecondOf : PlainObject → PlainObject → Type 0
-SecondOf p y = (x : PlainObject) × (p ≡ pair x y)
+SecondOf p y = second_part_of p ≡ Some y
 
 abbrev pub BecomesOutcome : Stored → PlainNeutral → Outcome → Type 0
 BecomesOutcome store n (Kept x) = becoming.Kept store n (plain_neutral x)

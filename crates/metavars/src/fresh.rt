@@ -7,16 +7,17 @@ ghost use Rattle.clf_syntax.specs.PlainSimple.{plain_simple, plain_simple_entry}
 ghost use Rattle.clf_syntax.specs.Wide.{IsWant};
 ghost use Rattle.eta_laws.specs.Eta.{eta};
 ghost use Rattle.store_laws.specs.Additions.{new, meta_types};
-ghost use Rattle.metavars.specs.Fresh.{scope_of, binder, functions, applied_from, on_scope, new_types, fresh_object};
+ghost use Rattle.metavars.specs.Fresh.{scope_of, local, binder, functions, applied_from, on_scope, new_types, fresh_object};
+ghost use Rattle.metavars.specs.Fresh as fresh;
 ghost use Rattle.metavars.specs.Scopes.{plain_local, plain_scope, function_by, applied_by};
 ghost use Rattle.metavars.specs.Stored.{constants, additions, IsPart};
 
 use crate::simple::copy_simple;
 use crate::store::Store;
-use crate::value::with_elimination;
+use crate::value::{bare, with_elimination};
 use clf_simple::eta;
 use clf_syntax::{Elim, Head, Mode, Neutral, Obj, Or, Simple, SimpleEntry, Want};
-use sqlite_items::{Boxed, Items};
+use sqlite_items::Boxed;
 use std::alloc::{AllocError, Global};
 
 /// A variable in scope, and whether new metavariables are applied to it.
@@ -70,13 +71,27 @@ fn scope_of_locals<'a>(
 {
     let mut scope = Vec::new(alloc);
     for local in locals {
-        scope.push(Local {
-            mode: local.mode,
-            ty: &local.ty,
-            applied: matches!(local.mode, Mode::Persistent),
-        })?;
+        scope.push(local_of(local))?;
     }
     Ok(scope)
+}
+
+/// A local is used where it is persistent.
+#[tactic(auto, using(clf_syntax::specs::PlainSimple::plain_simple_laws))]
+fn local_of<'a>(entry: &'a SimpleEntry) -> Local<'a>
+    ensures { plain_local result ≡ local (plain_simple_entry entry.now) }
+{
+    Local {
+        mode: entry.mode,
+        ty: &entry.ty,
+        applied: is_persistent(entry.mode),
+    }
+}
+
+fn is_persistent(mode: Mode) -> bool
+    ensures { result ≡ fresh.is_persistent mode }
+{
+    matches!(mode, Mode::Persistent)
 }
 
 /// The object in a scope, the oldest variable first.
@@ -189,15 +204,11 @@ fn function_from(alloc: Global, local: &Local<'_>, cod: Simple) -> Result<Simple
 }
 
 /// A metavariable, applied to the variables that are used.
-#[tactic(auto, using(clf_syntax::specs::Plain::plain_laws))]
 fn apply_to(alloc: Global, meta: u32, scope: &[Local<'_>]) -> Result<Neutral, Want>
     ensures neutral { IfOk result (λ n. plain_neutral n ≡ applied_from 0 (plain_scope scope.now) (head_alone (Meta meta))) }
     ensures wanting { IfErr result IsWant }
 {
-    let mut neutral = Neutral {
-        head: Head::Meta(meta),
-        spine: Items::new(alloc),
-    };
+    let mut neutral = bare(alloc, Head::Meta(meta));
     let mut left = scope.len();
     for local in scope {
         left -= 1;
@@ -229,7 +240,6 @@ fn apply_local(
 }
 
 /// A variable in its eta-long form.
-#[tactic(auto, using(clf_syntax::specs::Plain::plain_laws))]
 fn variable(alloc: Global, ty: &Simple, index: usize) -> Result<Obj, Want>
     ensures object { IfOk result (λ x. plain_obj x ≡ eta (plain_simple ty.now) (head_alone (Var index))) }
     ensures wanting { IfErr result IsWant }
@@ -237,10 +247,7 @@ fn variable(alloc: Global, ty: &Simple, index: usize) -> Result<Obj, Want>
     if index > u32::MAX as usize {
         return Err(Want::too_far(alloc));
     }
-    let neutral = Neutral {
-        head: Head::Var(index as u32),
-        spine: Items::new(alloc),
-    };
+    let neutral = bare(alloc, Head::Var(index as u32));
     match eta(alloc, ty, &neutral) {
         Ok(obj) => Ok(obj),
         Err(Or::Fault(_)) => Err(Want::too_far(alloc)),

@@ -13,7 +13,7 @@ ghost use Rattle.metavars.specs.Outcomes.{BecomesOutcome, IsKept, IsSolved, Unde
 
 use crate::rest::Rest;
 use crate::store::Store;
-use crate::value::{Outcome, Value, apply, first_part, second_part, with_elimination};
+use crate::value::{Outcome, Value, apply, bare, first_part, second_part, with_elimination};
 use clf_syntax::{Elim, Expr, Head, Mode, Modes, Neutral, Obj, Simple, Step, TupleEntry};
 use hered_put::{PutFault, flatten_let};
 use sqlite_items::{Boxed, Items};
@@ -119,14 +119,10 @@ fn put_head<'a>(looking: &Looking<'a>, head: Head) -> Result<Outcome<'a>, PutFau
 }
 
 /// A head that is kept.
-#[tactic(auto, using(clf_syntax::specs::Plain::plain_laws))]
 fn kept_head<'a>(alloc: Global, head: Head) -> Outcome<'a>
     ensures { IsKept (head_alone head) result }
 {
-    Outcome::Kept(Neutral {
-        head,
-        spine: Items::new(alloc),
-    })
+    Outcome::Kept(bare(alloc, head))
 }
 
 /// What a metavariable becomes.
@@ -254,10 +250,7 @@ fn in_front(
     ensures { IfOk result (λ r. InFront modes.now outcome.entry (plain_rest rest) (plain_rest r)) }
 {
     match outcome {
-        Outcome::Kept(rhs) => Ok(rest.behind(Step {
-            modes: modes.copy(alloc)?,
-            rhs,
-        })?),
+        Outcome::Kept(rhs) => Ok(rest.behind(alloc, modes, rhs)?),
         Outcome::Solved(value) => value_in_front(alloc, modes, value, rest),
     }
 }
@@ -316,10 +309,7 @@ fn meta_in_front(
     ensures { IfOk result (λ r. MetaInFront modes.now (plain_neutral rhs) (plain_rest rest) (plain_rest r)) }
 {
     match rhs.head {
-        Head::Meta(_) => Ok(rest.behind(Step {
-            modes: modes.copy(alloc)?,
-            rhs,
-        })?),
+        Head::Meta(_) => Ok(rest.behind(alloc, modes, rhs)?),
         Head::Const(_) | Head::Var(_) => Err(PutFault::Untyped),
     }
 }

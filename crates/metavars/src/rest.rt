@@ -1,10 +1,10 @@
 //! Expressions that grow in front.
 ghost use Rattle.std.specs.Prelude.{◌≡◌, [], ◌∷◌, IfOk, map, reverse};
-ghost use Rattle.clf_syntax.specs.Tree.{steps_on, done, tuple_of};
-ghost use Rattle.clf_syntax.specs.Plain.{plain_expr, plain_step, plain_entry};
+ghost use Rattle.clf_syntax.specs.Tree.{step, steps_on, done, tuple_of};
+ghost use Rattle.clf_syntax.specs.Plain.{plain_neutral, plain_expr, plain_step, plain_entry};
 ghost use Rattle.metavars.specs.Outcomes.{plain_rest};
 
-use clf_syntax::{Expr, Step, TupleEntry};
+use clf_syntax::{Expr, Modes, Neutral, Step, TupleEntry};
 use sqlite_items::Items;
 use std::alloc::{AllocError, Global};
 
@@ -24,6 +24,17 @@ fn reversed_steps(alloc: Global, mut steps: Items<Step>) -> Result<Items<Step>, 
         reversed.push(step)?;
     }
     Ok(reversed)
+}
+
+/// A step with a right side.
+#[tactic(auto, using(clf_syntax::specs::Plain::plain_laws))]
+fn step_of(alloc: Global, modes: &Modes, rhs: Neutral) -> Result<Step, AllocError>
+    ensures { IfOk result (λ s. plain_step s ≡ (modes.now, plain_neutral rhs)) }
+{
+    Ok(Step {
+        modes: modes.copy(alloc)?,
+        rhs,
+    })
 }
 
 impl Rest {
@@ -61,16 +72,29 @@ impl Rest {
         })
     }
 
+    /// The same behind a step with a right side.
+    pub fn behind(
+        self,
+        alloc: Global,
+        modes: &Modes,
+        rhs: Neutral,
+    ) -> Result<Rest, AllocError>
+        ensures { IfOk result (λ r. plain_rest r ≡ step modes.now (plain_neutral rhs) (plain_rest self)) }
+    {
+        let added = step_of(alloc, modes, rhs)?;
+        Ok(self.behind_step(added)?)
+    }
+
     /// The same behind one step more.
     #[tactic(auto, using(clf_syntax::specs::Plain::plain_laws, crate::proofs::Rests::rest_laws))]
-    pub fn behind(self, step: Step) -> Result<Rest, AllocError>
-        ensures { IfOk result (λ r. plain_rest r ≡ steps_on (plain_step step ∷ []) (plain_rest self)) }
+    fn behind_step(self, added: Step) -> Result<Rest, AllocError>
+        ensures { IfOk result (λ r. plain_rest r ≡ steps_on (plain_step added ∷ []) (plain_rest self)) }
     {
         let Rest {
             mut reversed,
             tuple,
         } = self;
-        reversed.push(step)?;
+        reversed.push(added)?;
         Ok(Rest { reversed, tuple })
     }
 }

@@ -119,8 +119,10 @@ impl Tables {
         requires { spec.AreTables self.now }
         ensures { option_map plain_obj (option_copied result) ≡ given (map plain_added (spec.listed self.now)) meta }
     {
-        let place = place_at(self.solved_at.as_slice(), meta)?;
-        object_at(self.added.as_slice(), place)
+        match place_at(self.solved_at.as_slice(), meta) {
+            None => None,
+            Some(place) => object_at(self.added.as_slice(), place),
+        }
     }
 }
 

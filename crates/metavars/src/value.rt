@@ -1,11 +1,12 @@
 //! Values of neutrals whose head has a solution, under eliminations.
 ghost use Rattle.std.specs.Prelude.{◌≡◌, IfOk};
 ghost use Rattle.clf_syntax.specs.Plain.{plain_obj, plain_neutral, plain_elim};
-ghost use Rattle.clf_syntax.specs.Tree.{eliminated};
+ghost use Rattle.clf_syntax.specs.Tree.{eliminated, head_alone};
 ghost use Rattle.metavars.specs.Outcomes.{AppliedTo, FirstOf, SecondOf};
 
-use clf_syntax::{Elim, Mode, Neutral, Obj, Simple};
+use clf_syntax::{Elim, Head, Mode, Neutral, Obj, Simple};
 use hered_put::{PutFault, put_obj};
+use sqlite_items::Items;
 use std::alloc::{AllocError, Global};
 
 /// An object with its simple type.
@@ -22,8 +23,19 @@ pub enum Outcome<'a> {
     Solved(Value<'a>),
 }
 
-/// A neutral under one elimination more.
+/// A head alone.
 #[tactic(auto, using(clf_syntax::specs::Plain::plain_laws))]
+pub fn bare(alloc: Global, head: Head) -> Neutral
+    ensures { plain_neutral result ≡ head_alone head }
+{
+    Neutral {
+        head,
+        spine: Items::new(alloc),
+    }
+}
+
+/// A neutral under one elimination more.
+#[tactic(auto, using(clf_syntax::specs::Plain::plain_laws, crate::proofs::Rests::spine_laws))]
 pub fn with_elimination(neutral: Neutral, act: Elim) -> Result<Neutral, AllocError>
     ensures { IfOk result (λ n. plain_neutral n ≡ eliminated (plain_elim act) (plain_neutral neutral)) }
 {
