@@ -231,6 +231,16 @@ module _ (store : Stored) where
   unfolding TypingEntry
   typing-entry-done m a x h = (refl, h)
 
+-- ---- what is said of the whole
+
+pub object-says : (store store' : Stored) (o x : PlainObject) → store ≡ store' → Object store o x → (s : Instantiation) → PutIn (given (additions store')) s → IsClosed s → Substituted (instant s) o x
+unfolding Object
+object-says store store' o x e h = subst (λ st. (s : Instantiation) → PutIn (given (additions st)) s → IsClosed s → Substituted (instant s) o x) e h
+
+pub type-says : (store store' : Stored) (a x : PlainType) → store ≡ store' → Typing store a x → (s : Instantiation) → PutIn (given (additions store')) s → IsClosed s → SubstitutedType (instant s) a x
+unfolding Typing
+type-says store store' a x e h = subst (λ st. (s : Instantiation) → PutIn (given (additions st)) s → IsClosed s → SubstitutedType (instant s) a x) e h
+
 -- ---- lists
 
 pub each-more : {X : Type 0} {R : X → X → Type 0} {xs ys : List X} {x y : X} → Each R xs ys → R x y → Each R (xs ++ x ∷ []) (ys ++ y ∷ [])

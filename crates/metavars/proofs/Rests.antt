@@ -1,12 +1,13 @@
 -- Expressions that grow in front, and spines that grow at the end.
-use Rattle.std.specs.Prelude.{ℕ, zero, suc, ◌+◌, ◌<◌, ◌≤◌, ◌≡◌, length, take, List, [], ◌∷◌, ◌++◌, refl}
+use Rattle.std.specs.Prelude.{ℕ, zero, suc, ◌+◌, ◌<◌, ◌≤◌, ◌≡◌, length, take, drop, List, [], ◌∷◌, ◌++◌, refl}
 use Rattle.std.proofs.Common.{ap, sym, ◌∙◌, arith, get_or}
 use Rattle.std.proofs.lemmas.List.{map-append, reverse-append, reverse-reverse, take_more}
 use Rattle.clf_syntax.specs.declared.tree.Mode.{Mode}
 use Rattle.clf_syntax.specs.declared.tree.Elim.{Elim}
 use Rattle.clf_syntax.specs.declared.tree.Neutral.{Neutral}
+use Rattle.clf_syntax.specs.declared.tree.Step.{Step}
 use Rattle.clf_syntax.specs.Tree.{PlainNeutral, head_alone, app, fst, snd, PlainExpression, step, steps_on, PlainElimination, arg, first, second, eliminated, spine_on, head_of}
-use Rattle.clf_syntax.specs.Plain.{plain_neutral, plain_elim, plain-neutral}
+use Rattle.clf_syntax.specs.Plain.{plain_neutral, plain_elim, plain_step, plain-neutral}
 use Rattle.std.proofs.Common.{map}
 
 pub steps-behind : (xs ys : List (List Mode × PlainNeutral)) (e : PlainExpression) → steps_on (xs ++ ys) e ≡ steps_on xs (steps_on ys e)
@@ -43,3 +44,9 @@ spine-whole n i l = ap (λ ys. spine_on (map plain_elim ys) (head_alone n.head))
     take_all [] (suc i) l = refl
     take_all (x ∷ xs) zero l = absurd (omega arith)
     take_all (x ∷ xs) (suc i) l = ap (λ ys. x ∷ ys) (take_all xs i (omega arith))
+
+pub steps-none : (xs : List Step) (i : ℕ) (e : PlainExpression) → length xs ≤ i → steps_on (map plain_step (drop i xs)) e ≡ e
+steps-none [] zero e l = refl
+steps-none [] (suc i) e l = refl
+steps-none (x ∷ xs) zero e l = absurd (omega arith)
+steps-none (x ∷ xs) (suc i) e l = steps-none xs i e (omega arith)

@@ -279,7 +279,7 @@ told-types (New ∷ xs) (u ∷ ts) h = ap (λ l. plain_simple u ∷ l) (told-typ
 told-types (Solved k u ∷ xs) ts h = told-types xs ts h
 
 pub types-count : (t : Tables) → AreTables t → length (meta_types (map plain_added (listed t))) ≡ length t.metas
-types-count t h = ap length (told-types t.added t.metas h.typed) ∙ length-map plain_simple t.metas
+types-count t h = ap length (told-types t.added t.metas h.typed) ∙ simp length-map
 
 -- what is seen of a store
 abbrev pub seen : List Simple → List Added → Stored

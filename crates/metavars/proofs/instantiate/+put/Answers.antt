@@ -1,15 +1,14 @@
-use Rattle.std.proofs.Common.{ap, sym, subst, ◌∙◌, ◌≡◌, ◌<◌, ◌+◌, ◌∷◌, [], map, length, take, arith, Some, None, ⊎_elim, refl}
+use Rattle.std.proofs.Common.{ap, sym, subst, ◌∙◌, ◌≡◌, ◌<◌, ◌+◌, ◌∷◌, [], ◌≤◌, map, length, take, drop, arith, ⊎_elim}
 use Rattle.clf_syntax.specs.declared.tree.Head.TheVariants.{Meta}
-use Rattle.clf_syntax.specs.Tree.{PlainNeutral, PlainExpression, arg, first, second, eliminated, head_alone, step, steps_on}
+use Rattle.clf_syntax.specs.declared.tree.Expr.{out-Expr}
+use Rattle.clf_syntax.specs.Tree.{PlainNeutral, PlainExpression, arg, first, second, eliminated, head_alone, spine_on, step, steps_on, done, tuple_of}
 use Rattle.clf_syntax.specs.Plain.{plain_obj, plain_neutral, plain_elim, plain_step, plain_entry, plain-Arg, plain-First, plain-Second, plain-step}
-use Rattle.store_laws.specs.Additions.{given}
 use Rattle.metavars.specs.declared.rest.Rest.{Rest}
 use Rattle.metavars.specs.declared.value.Outcome.{Outcome}
-use Rattle.metavars.specs.Stored.{additions}
 use Rattle.metavars.specs.Becoming as becoming
 use Rattle.metavars.specs.Outcomes.{BecomesOutcome, IsSolved, UnderArgument, UnderFirst, UnderSecond, InFront, plain_rest}
-use Rattle.metavars.proofs.Rests.{spine-next, spine-whole}
-use Rattle.metavars.proofs.Becomings.{if-ok-more, under-argument, under-first, under-second, outcome-kept, outcome-solved, kept-const, kept-var, kept-meta, value-meta, step-in-front, each-next}
+use Rattle.metavars.proofs.Rests.{spine-next, spine-whole, steps-none}
+use Rattle.metavars.proofs.Becomings.{if-ok-more, under-argument, under-first, under-second, outcome-kept, outcome-solved, kept-const, kept-var, kept-meta, value-meta, step-in-front, expression-done, each-next}
 use Rattle.metavars.proofs.instantiate.+put.Goals as goal
 
 -- ---- eliminations
@@ -75,7 +74,25 @@ put_neutral-loop-act-preserved t c =
     subst (λ n. BecomesOutcome c.args.looking.now.store.now n c.in_ok-outcome-2.outcome) (sym (spine-next xs i c.act-item.result (head_alone c.args.neutral.now.head) lt c.act-item.is))
         (c.in_ok-outcome-2.ensures _ c.loop-act.invariant)
 
+pub put_neutral-returns : goal.put_neutral-returns
+put_neutral-returns t c =
+    let i = c.loop-act.act-index in
+    let e = c.as_slice-act-items.ensures in
+    let done_all : length c.args.neutral.now.spine ≤ i = omega (arith, ap length e) in
+    subst (λ n. BecomesOutcome c.args.looking.now.store.now n c.loop-act.outcome) (ap (λ ys. spine_on (map plain_elim (take i ys)) (head_alone c.args.neutral.now.head)) e ∙ spine-whole c.args.neutral.now i done_all) c.loop-act.invariant
+
 -- ---- steps
+
+pub put_expression-loop-left-init : goal.put_expression-loop-left-init
+put_expression-loop-left-init t c =
+    let store = c.args.looking.now.store.now in
+    let steps = c.as_slice-steps.result.now in
+    let past : length steps ≤ c.len-left.result = omega arith in
+    let within : c.len-left.result ≤ length steps = omega arith in
+    let whole = (out-Expr c.args.expr.now).result in
+    let parts = subst (λ es. becoming.Each (becoming.Entry store) (map plain_entry es) (map plain_entry c.in_ok-tuple.tuple)) c.as_slice.ensures c.in_ok-tuple.ensures in
+    (within, subst (λ r. becoming.Expression store (steps_on (map plain_step (drop c.len-left.result steps)) (done (tuple_of (map plain_entry whole)))) r) (sym c.of_tuple-rest.ensures)
+        (subst (λ z. becoming.Expression store z (done (tuple_of (map plain_entry c.in_ok-tuple.tuple)))) (sym (steps-none steps c.len-left.result (done (tuple_of (map plain_entry whole))) past)) (expression-done store _ _ parts)))
 
 pub put_step-returns : goal.put_step-returns
 put_step-returns t c =
@@ -89,7 +106,7 @@ put_step-returns t c =
 -- ---- tuples
 
 pub put_tuple-loop-entry-init : goal.put_tuple-loop-entry-init
-put_tuple-loop-entry-init t c = subst (λ es. becoming.Each (becoming.Entry c.args.looking.now.store.now) [] (map plain_entry es)) (sym c.new.ensures) becoming.none
+put_tuple-loop-entry-init t c = subst (λ es. becoming.Each (becoming.Entry c.args.looking.now.store.now) [] (map plain_entry es)) (sym c.new-entries.ensures) becoming.none
 
 pub put_tuple-loop-entry-preserved : goal.put_tuple-loop-entry-preserved
 put_tuple-loop-entry-preserved t c =

@@ -9,7 +9,7 @@ use Rattle.metavars.proofs.instantiate.value_in_front.Goals as goal
 
 pub returns-in-Mon : goal.returns-in-Mon
 returns-in-Mon c =
-    let is : plain_obj c.args.value.obj ≡ monadic (plain_expr c.get.result.now) = cc (plain-Mon c.in-Mon.expr, c.get.ensures, c.expr.view_is) in
+    let is : plain_obj c.args.value.obj ≡ monadic (plain_expr c.get.result.now) = cc (plain-Mon c.in-Mon.expr, c.get.ensures) in
     if-ok-more c.flat_in_front.result (λ (r : Rest). Flattened (length c.args.modes.now) (plain_expr c.get.result.now) (plain_rest c.args.rest) (plain_rest r))
         (λ (r : Rest). ValueInFront c.args.modes.now (plain_obj c.args.value.obj) (plain_rest c.args.rest) (plain_rest r))
         (λ r h. subst (λ o. ValueInFront c.args.modes.now o (plain_rest c.args.rest) (plain_rest r)) (sym is) (flat_in_front h)) c.flat_in_front.ensures
