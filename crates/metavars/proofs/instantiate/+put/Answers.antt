@@ -1,5 +1,7 @@
-use Rattle.std.proofs.Common.{ap, sym, subst, ◌∙◌, ◌≡◌, ◌<◌, ◌+◌, ◌∷◌, [], ◌≤◌, map, length, take, drop, arith, ⊎_elim}
+use Rattle.std.proofs.Common.{ap, sym, subst, ◌∙◌, ◌≡◌, ◌<◌, ◌+◌, List, ◌∷◌, [], ◌≤◌, map, length, take, drop, arith, ⊎_elim}
 use Rattle.clf_syntax.specs.declared.tree.Head.TheVariants.{Meta}
+use Rattle.clf_syntax.specs.declared.tree.Elim.{Elim}
+use Rattle.clf_syntax.specs.declared.tree.TupleEntry.{TupleEntry}
 use Rattle.clf_syntax.specs.declared.tree.Expr.{out-Expr}
 use Rattle.clf_syntax.specs.Tree.{PlainNeutral, PlainExpression, arg, first, second, eliminated, head_alone, spine_on, step, steps_on, done, tuple_of}
 use Rattle.clf_syntax.specs.Plain.{plain_obj, plain_neutral, plain_elim, plain_step, plain_entry, plain-Arg, plain-First, plain-Second, plain-step}
@@ -79,7 +81,7 @@ put_neutral-returns t c =
     let i = c.loop-act.act-index in
     let e = c.as_slice-act-items.ensures in
     let done_all : length c.args.neutral.now.spine ≤ i = omega (arith, ap length e) in
-    subst (λ n. BecomesOutcome c.args.looking.now.store.now n c.loop-act.outcome) (ap (λ ys. spine_on (map plain_elim (take i ys)) (head_alone c.args.neutral.now.head)) e ∙ spine-whole c.args.neutral.now i done_all) c.loop-act.invariant
+    subst (λ n. BecomesOutcome c.args.looking.now.store.now n c.loop-act.outcome) (ap (λ (ys : List Elim). spine_on (map plain_elim (take i ys)) (head_alone c.args.neutral.now.head)) e ∙ spine-whole c.args.neutral.now i done_all) c.loop-act.invariant
 
 -- ---- steps
 
@@ -87,12 +89,11 @@ pub put_expression-loop-left-init : goal.put_expression-loop-left-init
 put_expression-loop-left-init t c =
     let store = c.args.looking.now.store.now in
     let steps = c.as_slice-steps.result.now in
-    let past : length steps ≤ c.len-left.result = omega arith in
-    let within : c.len-left.result ≤ length steps = omega arith in
+    let past : length steps ≤ length steps = omega arith in
     let whole = (out-Expr c.args.expr.now).result in
-    let parts = subst (λ es. becoming.Each (becoming.Entry store) (map plain_entry es) (map plain_entry c.in_ok-tuple.tuple)) c.as_slice.ensures c.in_ok-tuple.ensures in
-    (within, subst (λ r. becoming.Expression store (steps_on (map plain_step (drop c.len-left.result steps)) (done (tuple_of (map plain_entry whole)))) r) (sym c.of_tuple-rest.ensures)
-        (subst (λ z. becoming.Expression store z (done (tuple_of (map plain_entry c.in_ok-tuple.tuple)))) (sym (steps-none steps c.len-left.result (done (tuple_of (map plain_entry whole))) past)) (expression-done store _ _ parts)))
+    let parts = subst (λ (es : List TupleEntry). becoming.Each (becoming.Entry store) (map plain_entry es) (map plain_entry c.in_ok-tuple.tuple)) c.as_slice.ensures c.in_ok-tuple.ensures in
+    (past, subst (λ r. becoming.Expression store (steps_on (map plain_step (drop (length steps) steps)) (done (tuple_of (map plain_entry whole)))) r) (sym c.of_tuple-rest.ensures)
+        (subst (λ z. becoming.Expression store z (done (tuple_of (map plain_entry c.in_ok-tuple.tuple)))) (sym (steps-none steps (length steps) (done (tuple_of (map plain_entry whole))) past)) (expression-done store _ _ parts)))
 
 pub put_step-returns : goal.put_step-returns
 put_step-returns t c =

@@ -1,4 +1,5 @@
-use Rattle.std.proofs.Common.{ap, sym, subst, ◌∙◌, ◌<◌, ◌+◌, [], map, length, take, arith}
+use Rattle.std.proofs.Common.{ap, sym, subst, ◌∙◌, ◌<◌, ◌+◌, List, [], map, length, take, arith}
+use Rattle.clf_syntax.specs.declared.tree.TeleEntry.{TeleEntry}
 use Rattle.clf_syntax.specs.TypeTree.{telescope_of}
 use Rattle.clf_syntax.specs.PlainTypes.{plain_tele, plain_tele_entry, plain-tele, plain-Tele}
 use Rattle.metavars.specs.Becoming as becoming
@@ -21,4 +22,4 @@ put_telescope-returns t c =
     let store = c.args.looking.now.store.now in
     let put = telescope_of (map plain_tele_entry c.in_ok-put_entries.field-0) in
     subst (λ x. becoming.TelescopeOf store (plain_tele c.args.tele.now) x) (sym (plain-Tele c.in_ok-put_entries.field-0))
-        (subst (λ a. becoming.TelescopeOf store a put) (sym (plain-tele c.args.tele.now ∙ ap (λ es. telescope_of (map plain_tele_entry es)) (sym c.as_slice.ensures))) (telescope-entries store _ _ c.in_ok-put_entries.ensures))
+        (subst (λ a. becoming.TelescopeOf store a put) (sym (plain-tele c.args.tele.now ∙ ap (λ (es : List TeleEntry). telescope_of (map plain_tele_entry es)) (sym c.as_slice.ensures))) (telescope-entries store _ _ c.in_ok-put_entries.ensures))
