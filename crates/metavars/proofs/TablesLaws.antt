@@ -120,7 +120,7 @@ solved-tables t m o h free = record { typed = typed; placed = length-set t.solve
     solving : (k p : ℕ) → slice_get (slice_set t.solved_at m (Some (length t.added))) k ≡ Some (Some p) → (u : Obj) × (slice_get (t.added ++ Solved m o ∷ []) p ≡ Some (Solved k u))
     solving k p e = ⊎_elim
         (λ i. let q : length t.added ≡ p = place_of (sym (get-set_same t.solved_at m (Some (length t.added)) inside) ∙ ap (slice_get (slice_set t.solved_at m (Some (length t.added)))) (sym i) ∙ e) in
-            (o, subst (λ j. slice_get (t.added ++ Solved m o ∷ []) j ≡ Some (Solved k o)) q (get-last t.added (Solved m o) ∙ ap (λ j. Some (Solved j o)) (sym i))))
+        (o, subst (λ j. slice_get (t.added ++ Solved m o ∷ []) j ≡ Some (Solved k o)) q (get-last t.added (Solved m o) ∙ ap (λ j. Some (Solved j o)) (sym i))))
         (λ i. let (u, g) = h.solving k p (sym (get-set_other t.solved_at m k (Some (length t.added)) i) ∙ e) in (u, get-front t.added (Solved m o ∷ []) p (Solved k u) g)) (number_cases k m)
 
 -- ---- additions that are taken back
@@ -180,14 +180,14 @@ module _ (t : Tables) (h : AreTables t) (xs : List Addition) where
       → IsBack t (record { added = xs; metas = ts; solved_at = rs })
   back-new ts u rs q e f g =
       let whole : AreTables (record { added = xs ++ New ∷ []; metas = ts ++ u ∷ []; solved_at = rs ++ q ∷ [] }) =
-          subst (λ c. AreTables (record { added = xs ++ New ∷ []; metas = ts ++ u ∷ []; solved_at = c })) g
-          (subst (λ b. AreTables (record { added = xs ++ New ∷ []; metas = b; solved_at = t.solved_at })) f
-          (subst (λ a. AreTables (record { added = a; metas = t.metas; solved_at = t.solved_at })) e h)) in
+      subst (λ c. AreTables (record { added = xs ++ New ∷ []; metas = ts ++ u ∷ []; solved_at = c })) g
+      (subst (λ b. AreTables (record { added = xs ++ New ∷ []; metas = b; solved_at = t.solved_at })) f
+      (subst (λ a. AreTables (record { added = a; metas = t.metas; solved_at = t.solved_at })) e h)) in
       let less = un-new xs ts u rs q whole in
       record {
         tables = less;
         one = ap length e ∙ length-append xs (New ∷ []);
-        listed = sym (ap (take (length xs)) (ap (λ a. told a t.metas) e ∙ ap (told (xs ++ New ∷ [])) f ∙ told-new xs ts u less.typed) ∙ ap (λ n. take n (told xs ts ++ added_new u ∷ [])) (sym (told-length xs ts less.typed)) ∙ take-append_seam (told xs ts) (added_new u ∷ []))
+        listed = sym (ap (take (length xs)) (ap (λ a. told a t.metas) e ∙ ap (told (xs ++ New ∷ [])) f ∙ told-new xs ts u less.typed) ∙ ap (λ n. take n (told xs ts ++ added_new u ∷ [])) (sym (told-length xs ts less.typed)) ∙ take-append_seam (told xs ts) (added_new u ∷ []));
       }
 
   pub back-solved : (m : ℕ) (o : Obj) → t.added ≡ xs ++ Solved m o ∷ [] → IsBack t (record { added = xs; metas = t.metas; solved_at = slice_set t.solved_at m None })
@@ -197,7 +197,7 @@ module _ (t : Tables) (h : AreTables t) (xs : List Addition) where
       record {
         tables = less;
         one = ap length e ∙ length-append xs (Solved m o ∷ []);
-        listed = sym (ap (take (length xs)) (ap (λ a. told a t.metas) e ∙ told-solved xs t.metas m o less.typed) ∙ ap (λ n. take n (told xs t.metas ++ added_solved m o ∷ [])) (sym (told-length xs t.metas less.typed)) ∙ take-append_seam (told xs t.metas) (added_solved m o ∷ []))
+        listed = sym (ap (take (length xs)) (ap (λ a. told a t.metas) e ∙ told-solved xs t.metas m o less.typed) ∙ ap (λ n. take n (told xs t.metas ++ added_solved m o ∷ [])) (sym (told-length xs t.metas less.typed)) ∙ take-append_seam (told xs t.metas) (added_solved m o ∷ []));
       }
 
   -- the last rows are there

@@ -300,12 +300,7 @@ fn flat_in_front(
 
 /// A step whose right side becomes a metavariable stays.
 #[tactic(auto, using(clf_syntax::specs::Plain::plain_laws))]
-fn meta_in_front(
-    alloc: Global,
-    modes: &Modes,
-    rhs: Neutral,
-    rest: Rest,
-) -> Result<Rest, PutFault>
+fn meta_in_front(alloc: Global, modes: &Modes, rhs: Neutral, rest: Rest) -> Result<Rest, PutFault>
     ensures { IfOk result (λ r. MetaInFront modes.now (plain_neutral rhs) (plain_rest rest) (plain_rest r)) }
 {
     match rhs.head {

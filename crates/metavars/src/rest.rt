@@ -73,12 +73,7 @@ impl Rest {
     }
 
     /// The same behind a step with a right side.
-    pub fn behind(
-        self,
-        alloc: Global,
-        modes: &Modes,
-        rhs: Neutral,
-    ) -> Result<Rest, AllocError>
+    pub fn behind(self, alloc: Global, modes: &Modes, rhs: Neutral) -> Result<Rest, AllocError>
         ensures { IfOk result (λ r. plain_rest r ≡ step modes.now (plain_neutral rhs) (plain_rest self)) }
     {
         let added = step_of(alloc, modes, rhs)?;

@@ -65,10 +65,7 @@ fn put_telescope(looking: &Looking<'_>, tele: &Tele) -> Result<Tele, PutFault>
 }
 
 #[cycle(put_type)]
-fn put_entries(
-    looking: &Looking<'_>,
-    entries: &[TeleEntry],
-) -> Result<Items<TeleEntry>, PutFault>
+fn put_entries(looking: &Looking<'_>, entries: &[TeleEntry]) -> Result<Items<TeleEntry>, PutFault>
     ensures { IfOk result (λ xs. becoming.Each (becoming.TypingEntry looking.now.store.now) (map plain_tele_entry entries.now) (map plain_tele_entry xs)) }
 {
     let mut put = Items::new(looking.alloc);

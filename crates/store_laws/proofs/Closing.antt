@@ -73,17 +73,21 @@ gives_typed g s typed = ((λ c u e. e), (λ i u e. e), (λ k u e. of k u e (s k)
     of k u e (Some x) h = inr (x, h, subst (λ t. SimplyTyped g x t) (one_type (sym (typed k x h).1 ∙ e)) (typed k x h).2)
 
 module _ (g : Assignment) (given s : Instantiation) (all : PutIn given s) (typed : Gives g s)
-  (m : ℕ) (o o' : PlainObject) (a : SimpleType) (open_ : given m ≡ None) (type_of : g (Meta m) ≡ Some a)
-  (put : Substituted (instant s) o o') (typed_o : SimplyTyped g o a) (typed_o' : SimplyTyped g o' a)
-  (free : mentions m o' ≡ false) (whole : (k : ℕ) (u : PlainObject) → given k ≡ Some u → mentions k o' ≡ false) (typed_given : Gives g given) where
+    (m : ℕ) (o o' : PlainObject) (a : SimpleType) (open_ : given m ≡ None) (type_of : g (Meta m) ≡ Some a)
+    (put : Substituted (instant s) o o') (typed_o : SimplyTyped g o a) (typed_o' : SimplyTyped g o' a)
+    (free : mentions m o' ≡ false) (whole : (k : ℕ) (u : PlainObject) → given k ≡ Some u → mentions k o' ≡ false) (typed_given : Gives g given) where
   -- the new solution alone
   abbrev only : Instantiation
   only = set m o' (λ k. None)
 
   only_typed : TypedInstantiation g g only
-  only_typed = ((λ c u e. e), (λ i u e. e), (λ k u e. ⊎_elim
-      (λ h. inr (o', ap only h ∙ set_there m o' (λ k. None), subst (λ t. SimplyTyped g o' t) (one_type (sym type_of ∙ sym (ap (λ j. g (Meta j)) h) ∙ e)) typed_o'))
-      (λ h. inl (set_else m k o' (λ k. None) h, e)) (number_cases k m)))
+  only_typed = (
+    (λ c u e. e),
+    (λ i u e. e),
+    (λ k u e. ⊎_elim
+        (λ h. inr (o', ap only h ∙ set_there m o' (λ k. None), subst (λ t. SimplyTyped g o' t) (one_type (sym type_of ∙ sym (ap (λ j. g (Meta j)) h) ∙ e)) typed_o'))
+        (λ h. inl (set_else m k o' (λ k. None) h, e)) (number_cases k m)),
+  )
 
   -- what becomes of a tree
   pub becomes : (x : PlainObject) (b : SimpleType) → SimplyTyped g x b → (y : PlainObject) × Substituted (instant only) x y × SimplyTyped g y b
@@ -112,8 +116,8 @@ module _ (g : Assignment) (given s : Instantiation) (all : PutIn given s) (typed
   composed_next k b e = ⊎_elim
       (λ h. inl (ap s h ∙ all.unsolved m open_, ap next h ∙ set_there m o' (λ k. pick k (s k) refl) ∙ sym (ap only h ∙ set_there m o' (λ k. None))))
       (λ h. ⊎_elim
-          (λ p. inl (p.0, next_else k h ∙ p.1 ∙ sym (set_else m k o' (λ k. None) h)))
-          (λ p. inr (p.0, p.1, p.2, next_else k h ∙ p.3, p.4)) (picked k (s k) refl))
+      (λ p. inl (p.0, next_else k h ∙ p.1 ∙ sym (set_else m k o' (λ k. None) h)))
+      (λ p. inr (p.0, p.1, p.2, next_else k h ∙ p.3, p.4)) (picked k (s k) refl))
       (number_cases k m)
 
   after_both : (x y z : PlainObject) (b : SimpleType) → SimplyTyped g x b → Substituted (instant s) x y → Substituted (instant only) y z → Substituted (instant next) x z
@@ -139,9 +143,13 @@ module _ (g : Assignment) (given s : Instantiation) (all : PutIn given s) (typed
       ((instant_is_environment (dropped j g)).0 (dropped j g) only there)).object x y b (without g j x b p e) i)
     where
       there : TypedInstantiation (dropped j g) (dropped j g) only
-      there = ((λ c u e. e), (λ i u e. e), (λ k u e. ⊎_elim
-          (λ h. inr (o', ap only h ∙ set_there m o' (λ k. None), subst (λ t. SimplyTyped (dropped j g) o' t) (one_type (sym type_of ∙ sym (ap (λ j. g (Meta j)) h) ∙ (none_of (nat_eq k j) (g (Meta k)) u e).1)) (without g j o' a typed_o' f)))
-          (λ h. inl (set_else m k o' (λ k. None) h, e)) (number_cases k m)))
+      there = (
+        (λ c u e. e),
+        (λ i u e. e),
+        (λ k u e. ⊎_elim
+            (λ h. inr (o', ap only h ∙ set_there m o' (λ k. None), subst (λ t. SimplyTyped (dropped j g) o' t) (one_type (sym type_of ∙ sym (ap (λ j. g (Meta j)) h) ∙ (none_of (nat_eq k j) (g (Meta k)) u e).1)) (without g j o' a typed_o' f)))
+            (λ h. inl (set_else m k o' (λ k. None) h, e)) (number_cases k m)),
+      )
 
   -- after the new solution m is mentioned no more
   only_clears : (x y : PlainObject) (b : SimpleType) → SimplyTyped g x b → Substituted (instant only) x y → mentions m y ≡ false
@@ -149,9 +157,13 @@ module _ (g : Assignment) (given s : Instantiation) (all : PutIn given s) (typed
       ((instant_is_environment g).0 (dropped m g) only there)).object x y b p i)
     where
       there : TypedInstantiation g (dropped m g) only
-      there = ((λ c u e. e), (λ i u e. e), (λ k u e. ⊎_elim
-          (λ h. inr (o', ap only h ∙ set_there m o' (λ k. None), subst (λ t. SimplyTyped (dropped m g) o' t) (one_type (sym type_of ∙ sym (ap (λ j. g (Meta j)) h) ∙ e)) (without g m o' a typed_o' free)))
-          (λ h. inl (set_else m k o' (λ k. None) h, at_false (g (Meta k)) h ∙ e)) (number_cases k m)))
+      there = (
+        (λ c u e. e),
+        (λ i u e. e),
+        (λ k u e. ⊎_elim
+            (λ h. inr (o', ap only h ∙ set_there m o' (λ k. None), subst (λ t. SimplyTyped (dropped m g) o' t) (one_type (sym type_of ∙ sym (ap (λ j. g (Meta j)) h) ∙ e)) (without g m o' a typed_o' free)))
+            (λ h. inl (set_else m k o' (λ k. None) h, at_false (g (Meta k)) h ∙ e)) (number_cases k m)),
+      )
 
   -- With the new solution added, `next` is the assignment with all solutions put in.
   pub closed_again : PutIn (set m o given) next
@@ -168,15 +180,15 @@ module _ (g : Assignment) (given s : Instantiation) (all : PutIn given s) (typed
       solved k u e = ⊎_elim
           (λ h. (o', ap next h ∙ set_there m o' (λ k. pick k (s k) refl), subst (λ v. Substituted (instant next) v o') (one_object (sym there ∙ sym (ap (set m o given) h) ∙ e)) (after_both o o' o' a typed_o put stays_same)))
           (λ h. let (b, eb, tb) = typed_given k u (sym (set_else m k o given h) ∙ e) in let (y, ey, i) = all.solved k u (sym (set_else m k o given h) ∙ e) in
-              ⊎_elim (λ p. absurd (some_none p.0 ey)) (λ p. (p.1, next_else k h ∙ p.3, after_both u y p.1 b tb i (subst (λ v. Substituted (instant only) v p.1) (one_object (sym p.2 ∙ ey)) p.4))) (picked k (s k) refl))
+          ⊎_elim (λ p. absurd (some_none p.0 ey)) (λ p. (p.1, next_else k h ∙ p.3, after_both u y p.1 b tb i (subst (λ v. Substituted (instant only) v p.1) (one_object (sym p.2 ∙ ey)) p.4))) (picked k (s k) refl))
           (number_cases k m)
 
       finished : (k : ℕ) (x : PlainObject) → next k ≡ Some x → (j : ℕ) (u : PlainObject) → set m o given j ≡ Some u → mentions j x ≡ false
       finished k x e j u f = ⊎_elim
           (λ h. subst (λ v. mentions j v ≡ false) (one_object (sym (set_there m o' (λ k. pick k (s k) refl)) ∙ sym (ap next h) ∙ e))
-              (⊎_elim (λ i. subst (λ n. mentions n o' ≡ false) (sym i) free) (λ i. whole j u (sym (set_else m j o given i) ∙ f)) (number_cases j m)))
+          (⊎_elim (λ i. subst (λ n. mentions n o' ≡ false) (sym i) free) (λ i. whole j u (sym (set_else m j o given i) ∙ f)) (number_cases j m)))
           (λ h. ⊎_elim (λ p. absurd (some_none (next_else k h ∙ p.1) e))
-              (λ p. subst (λ v. mentions j v ≡ false) (one_object (sym (next_else k h ∙ p.3) ∙ e)) (of_pair p.0 p.1 (typed k p.0 p.2) p.2 p.4)) (picked k (s k) refl))
+          (λ p. subst (λ v. mentions j v ≡ false) (one_object (sym (next_else k h ∙ p.3) ∙ e)) (of_pair p.0 p.1 (typed k p.0 p.2) p.2 p.4)) (picked k (s k) refl))
           (number_cases k m)
         where
           of_pair : (y z : PlainObject) → (b : SimpleType) × (g (Meta k) ≡ Some b) × SimplyTyped g y b → s k ≡ Some y → Substituted (instant only) y z → mentions j z ≡ false

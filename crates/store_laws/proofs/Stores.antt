@@ -114,10 +114,12 @@ good_none constants = ((λ m. None), record { unsolved = λ m e. refl; solved = 
 
 good_new : (constants : List SimpleType) (zs : List Addition) (t : SimpleType) → Good constants zs → Good constants (zs ++ new t ∷ [])
 good_new constants zs t (s, all, typed, typed_given) =
-    let same : given (zs ++ new t ∷ []) ≡ given zs = ext (given-new zs t) in
-    (s, subst (λ f. PutIn f s) (sym same) all,
-     gives_grown (heads_of constants zs) (heads_of constants (zs ++ new t ∷ [])) (heads_new constants zs t) s typed,
-     subst (Gives (heads_of constants (zs ++ new t ∷ []))) (sym same) (gives_grown (heads_of constants zs) (heads_of constants (zs ++ new t ∷ [])) (heads_new constants zs t) (given zs) typed_given))
+    let same : given (zs ++ new t ∷ []) ≡ given zs = ext (given-new zs t) in (
+      s,
+      subst (λ f. PutIn f s) (sym same) all,
+      gives_grown (heads_of constants zs) (heads_of constants (zs ++ new t ∷ [])) (heads_new constants zs t) s typed,
+      subst (Gives (heads_of constants (zs ++ new t ∷ []))) (sym same) (gives_grown (heads_of constants zs) (heads_of constants (zs ++ new t ∷ [])) (heads_new constants zs t) (given zs) typed_given),
+    )
 
 good_solved : (constants : List SimpleType) (zs : List Addition) (m : ℕ) (o : PlainObject) → MaySolve constants zs m o → Good constants zs → Good constants (zs ++ solved m o ∷ [])
 good_solved constants zs m o may (s, all, typed, typed_given) =
@@ -127,13 +129,14 @@ good_solved constants zs m o may (s, all, typed, typed_given) =
     let (x, put, typed_x) = (typed_has_result true no_families g g (instant s) ((instant_is_environment g).0 g s (gives_typed g s typed))).object o a typed_o in
     let free = may.no_circle s x all put in
     let whole = λ (k : ℕ) (u : PlainObject) (e : given zs k ≡ Some u). put_in_clears g (given zs) s all typed k u e o x a typed_o put in
-    let types = heads_solved constants zs m o in
-    (next g (given zs) s all typed m o x a may.unsolved type_of put typed_o typed_x free whole typed_given,
-     subst (λ f. PutIn f (next g (given zs) s all typed m o x a may.unsolved type_of put typed_o typed_x free whole typed_given)) (sym same)
-         (closed_again g (given zs) s all typed m o x a may.unsolved type_of put typed_o typed_x free whole typed_given),
-     subst (λ ts. Gives (assigned constants ts []) (next g (given zs) s all typed m o x a may.unsolved type_of put typed_o typed_x free whole typed_given)) (sym types)
-         (next_gives g (given zs) s all typed m o x a may.unsolved type_of put typed_o typed_x free whole typed_given),
-     subst (Gives (heads_of constants (zs ++ solved m o ∷ []))) (sym same) (subst (λ ts. Gives (assigned constants ts []) (set m o (given zs))) (sym types) (more_given g a type_of typed_o typed_given)))
+    let types = heads_solved constants zs m o in (
+      next g (given zs) s all typed m o x a may.unsolved type_of put typed_o typed_x free whole typed_given,
+      subst (λ f. PutIn f (next g (given zs) s all typed m o x a may.unsolved type_of put typed_o typed_x free whole typed_given)) (sym same)
+          (closed_again g (given zs) s all typed m o x a may.unsolved type_of put typed_o typed_x free whole typed_given),
+      subst (λ ts. Gives (assigned constants ts []) (next g (given zs) s all typed m o x a may.unsolved type_of put typed_o typed_x free whole typed_given)) (sym types)
+          (next_gives g (given zs) s all typed m o x a may.unsolved type_of put typed_o typed_x free whole typed_given),
+      subst (Gives (heads_of constants (zs ++ solved m o ∷ []))) (sym same) (subst (λ ts. Gives (assigned constants ts []) (set m o (given zs))) (sym types) (more_given g a type_of typed_o typed_given)),
+    )
   where
     one_object : {a b : PlainObject} → Some a ≡ Some b → a ≡ b
     one_object e = cc
@@ -170,10 +173,13 @@ at_end (c ∷ zs) (b ∷ before) after a x e = let tail : zs ++ a ∷ [] ≡ bef
     ⊎_elim (λ h. inl (h.0, ap (λ l. c ∷ l) h.1 ∙ ap (λ y. y ∷ (before ++ x ∷ h.0)) head)) (λ h. inr (ap (λ l. c ∷ l) h.0 ∙ ap (λ y. y ∷ before) head, h.1)) (at_end zs before after a x tail)
 
 pub store_grows : StoreGrows
-store_grows constants = ((λ before m o after e. absurd (no_end before (solved m o) after e)), (λ zs h. (
+store_grows constants = (
+  (λ before m o after e. absurd (no_end before (solved m o) after e)),
+  (λ zs h. (
     (λ t before m o after e. ⊎_elim (λ p. h before m o p.0 p.1) (λ p. absurd (not_solved p.1)) (at_end zs before after (new t) (solved m o) e)),
     (λ k u may before m o after e. ⊎_elim (λ p. h before m o p.0 p.1) (λ p. here zs before k m u o may p.0 p.1) (at_end zs before after (solved k u) (solved m o) e)),
-  )))
+  )),
+)
   where
     not_solved : {t : SimpleType} {m : ℕ} {o : PlainObject} → new t ≡ solved m o → ⊥
     not_solved e = cc

@@ -27,7 +27,7 @@ make_pair-returns-clause-object t c =
     let r = plain_simple c.args.right.now in
     let same = c.in_ok-again.ensures.items ∙ c.as_slice.ensures.value in
     let count : length (meta_types (additions c.make.new.store)) ≡ first + length (new_types (plain_scope scope) l) =
-        ap (λ zs. length (meta_types zs)) c.in_ok-left.ensures.added ∙ types-more (additions c.args.store.now) (new_types (plain_scope c.in_ok-again.again.items) l) ∙ ap (λ xs. first + length (new_types (plain_scope xs) l)) same in
+    ap (λ zs. length (meta_types zs)) c.in_ok-left.ensures.added ∙ types-more (additions c.args.store.now) (new_types (plain_scope c.in_ok-again.again.items) l) ∙ ap (λ xs. first + length (new_types (plain_scope xs) l)) same in
     let left : plain_obj c.in_ok-left.left ≡ fresh_object first (plain_scope scope) l = c.in_ok-left.ensures.object ∙ ap (λ xs. fresh_object first (plain_scope xs) l) same in
     let right : plain_obj c.in_ok-right.right ≡ fresh_object (first + length (new_types (plain_scope scope) l)) (plain_scope scope) r = c.in_ok-right.ensures.object ∙ ap (λ k. fresh_object k (plain_scope scope) r) count in
     plain-Pair c.in_ok-new.field-0 c.in_ok-new-2.field-0 ∙ pairs-same _ _ _ _ (ap plain_obj c.in_ok-new.ensures ∙ left) (ap plain_obj c.in_ok-new-2.ensures ∙ right)

@@ -13,4 +13,4 @@ loop-index-preserved c =
     let xs = c.args.indices.now in
     let lt : i < length xs = omega arith in
     subst (λ ns. becoming.Each (becoming.Object c.args.looking.now.store.now) (map plain_obj (take (i + 1) xs)) (map plain_obj ns)) (sym c.in_ok-push.ensures.ok)
-        (each-next plain_obj (becoming.Object c.args.looking.now.store.now) xs i c.index-item.result c.loop-index.put c.in_ok-put_object.field-0 c.loop-index.invariant lt c.index-item.is c.in_ok-put_object.ensures)
+    (each-next plain_obj (becoming.Object c.args.looking.now.store.now) xs i c.index-item.result c.loop-index.put c.in_ok-put_object.field-0 c.loop-index.invariant lt c.index-item.is c.in_ok-put_object.ensures)

@@ -13,4 +13,4 @@ returns-else-ne c =
     let same : c.args.mode ≡ c.in-Lam.wanted = first_of (search rules, grind (arith, common_steps)) in
     let is : plain_obj c.args.obj.now ≡ lam c.args.mode (plain_obj c.get.result.now) = cc (plain-Lam c.in-Lam.wanted c.in-Lam.body, same) in
     if-ok-more c.put_obj.result (λ (x : Obj). Substituted (single (plain_obj c.args.argument.now) 0) (plain_obj c.get.result.now) (plain_obj x))
-        (λ (x : Obj). AppliedTo c.args.mode (plain_obj c.args.obj.now) (plain_obj c.args.argument.now) (plain_obj x)) (λ x h. (plain_obj c.get.result.now, is, h)) c.put_obj.ensures.substituted
+    (λ (x : Obj). AppliedTo c.args.mode (plain_obj c.args.obj.now) (plain_obj c.args.argument.now) (plain_obj x)) (λ x h. (plain_obj c.get.result.now, is, h)) c.put_obj.ensures.substituted

@@ -18,7 +18,7 @@ pub returns-clause-tables : goal.returns-clause-tables
 returns-clause-tables c =
     let e : c.args.self.now.added ≡ c.pop.new.self ++ Solved c.in-Some-Solved.meta c.in-Some-Solved.field-0-1 ∷ [] = cc (c.in-Some-Solved.ensures, c.in-Some-Solved.field-0-is) in
     subst (λ r. AreTables (record { added = c.pop.new.self; metas = c.args.self.now.metas; solved_at = r })) (sym c.set.ensures)
-        (back-solved c.args.self.now c.requires.tables c.pop.new.self c.in-Some-Solved.meta c.in-Some-Solved.field-0-1 e).tables
+    (back-solved c.args.self.now c.requires.tables c.pop.new.self c.in-Some-Solved.meta c.in-Some-Solved.field-0-1 e).tables
 
 pub returns-clause-listed : goal.returns-clause-listed
 returns-clause-listed c =
