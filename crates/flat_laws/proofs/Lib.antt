@@ -1,0 +1,4 @@
+pub mod FlatReach
+pub mod FlatRenamed
+pub mod FlatPut
+pub mod FlatSteps

@@ -1,0 +1,16 @@
+pub mod Occurrences
+pub mod Typings
+pub mod EtaVariables
+pub mod OnePlace
+pub mod Misfits
+pub mod Spines
+pub mod Readings
+pub mod Inversions
+pub mod Inverse
+pub mod Instances
+pub mod Cores
+pub mod Places
+pub mod Owning
+pub mod Orders
+pub mod Masks
+pub mod Counterexamples

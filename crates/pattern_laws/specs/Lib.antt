@@ -1,0 +1,15 @@
+pub use Rattle.clf_syntax.specs.Tree
+pub use Rattle.clf_syntax.specs.TypeTree
+pub use Rattle.clf_syntax.specs.Renaming
+pub use Rattle.clf_syntax.specs.Simple
+pub use Rattle.hered_subst.specs.Substitution
+pub use Rattle.trace_equal.specs.Exchange
+pub use Rattle.subst_laws.specs.Environments
+pub use Rattle.eta_laws.specs.Eta
+pub mod Mentions
+pub mod PutIn
+pub mod Instantiations
+pub mod Equations
+pub mod Renumberings
+pub mod Patterns
+pub mod Laws

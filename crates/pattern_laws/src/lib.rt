@@ -1,0 +1,6 @@
+//! Laws of metavariables on distinct locals.
+#![tactic(auto)]
+
+mod laws;
+
+pub use laws::{inverting, reading};

@@ -1,0 +1,6 @@
+//! Laws of reach, of what is left of equations, and of what unification answers.
+#![tactic(auto)]
+
+mod laws;
+
+pub use laws::ending;

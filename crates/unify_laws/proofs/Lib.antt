@@ -1,0 +1,11 @@
+pub mod Sizes
+pub mod RigidPlaces
+pub mod Steps
+pub mod Consequences
+pub mod Assign
+pub mod Narrow
+pub mod Spared
+pub mod PruneStep
+pub mod Preserved
+pub mod Weights
+pub mod PutIn
