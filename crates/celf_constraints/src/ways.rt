@@ -1,0 +1,81 @@
+//! The places of a metavariable from which the way, from place to place of the same local, comes to an end.
+ghost use Rattle.std.specs.Prelude.{◌≡◌, ◌⊎◌, ◌↔◌, ℕ, true, false, IfOk, IfSome, IfNone, IsTrue, MatchOption, Option, Some, length};
+ghost use Rattle.std.specs.List.{slice_get};
+ghost use Rattle.pattern_laws.specs.Patterns.{Ends, mask_at};
+ghost use Rattle.celf_constraints.specs.Ended.{StandsAt, LeadsOn, IsOpen, EndsIn};
+ghost use Rattle.celf_constraints.specs.Reading.{plain_places};
+
+use crate::locals::{is_local, locals_of};
+use crate::places::Places;
+use std::alloc::{AllocError, Global};
+
+/// Of two lists of places, for each place of the first whether the way from it comes to an end. It fails only where memory runs out.
+pub fn ends(alloc: Global, places: &Places<'_>, others: &Places<'_>) -> Result<Vec<bool>, AllocError>
+    ensures { IfOk result (λ held. (j : ℕ) → (mask_at held.items j ≡ true) ↔ Ends (plain_places places.now) (plain_places others.now) j) }
+{
+    let from = locals_of(alloc, places.places.as_slice())?;
+    let to = locals_of(alloc, others.places.as_slice())?;
+    grow(alloc, from.as_slice(), to.as_slice())
+}
+
+/// The set of places grows until nothing is added.
+fn grow(alloc: Global, from: &[Option<u32>], to: &[Option<u32>]) -> Result<Vec<bool>, AllocError>
+    ensures { IfOk result (λ held. (j : ℕ) → (mask_at held.items j ≡ true) ↔ EndsIn from.now to.now j) }
+{
+    let mut held = Vec::new(alloc);
+    for _place in from {
+        held.push(false)?;
+    }
+    while let Some(place) = next_end(from, to, held.as_slice()) {
+        held[place] = true;
+    }
+    Ok(held)
+}
+
+/// A place that is not held yet, and has to be.
+fn next_end(from: &[Option<u32>], to: &[Option<u32>], held: &[bool]) -> Option<usize>
+    requires { length held.now ≡ length from.now }
+    ensures { MatchOption result ((j : ℕ) → IsOpen from.now to.now held.now j → ⊥) (λ j. IsOpen from.now to.now held.now j) }
+{
+    for place in 0..from.len() {
+        if !held[place] && is_ended(from[place], to, held) {
+            return Some(place);
+        }
+    }
+    None
+}
+
+fn is_ended(local: Option<u32>, to: &[Option<u32>], held: &[bool]) -> bool
+    ensures { IsTrue result ↔ ((v : ℕ) × (local ≡ Some v) × LeadsOn to.now held.now v) }
+{
+    match local {
+        None => false,
+        Some(number) => leads_on(number, to, held),
+    }
+}
+
+/// Whether the way from a local comes to an end at once, or leads to a place that is held.
+fn leads_on(local: u32, to: &[Option<u32>], held: &[bool]) -> bool
+    ensures { IsTrue result ↔ LeadsOn to.now held.now local }
+{
+    let mut stands = false;
+    for place in 0..to.len() {
+        if is_local(to[place], local) {
+            if is_held(held, place) {
+                return true;
+            }
+            stands = true;
+        }
+    }
+    !stands
+}
+
+fn is_held(held: &[bool], place: usize) -> bool
+    ensures { result ≡ mask_at held.now place }
+{
+    if place < held.len() {
+        held[place]
+    } else {
+        false
+    }
+}
