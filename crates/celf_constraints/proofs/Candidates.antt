@@ -1,16 +1,15 @@
 -- The candidate of an eta-long form is its variable.
-use Rattle.std.specs.Prelude.{ℕ, ◌+◌, ◌-◌, ◌≡◌, ◌⊎◌, ◌&&◌, nat_eq, if◌then◌else◌, Bool, true, false, List, [], ◌∷◌, Option, Some, None, map, get_or, refl}
-use Rattle.std.specs.List.{slice_get}
+use Rattle.std.specs.Prelude.{ℕ, ◌+◌, ◌-◌, ◌≡◌, ◌⊎◌, ◌&&◌, nat_eq, if◌then◌else◌, Bool, true, false, ◌<◌, List, [], ◌∷◌, length, Option, Some, None, map, get_or, refl}
 use Rattle.std.proofs.Common.{ap, sym, ◌∙◌, inl, inr, ⊎_elim, arith}
 use Rattle.clf_syntax.specs.declared.tree.Mode.{Mode}
 use Rattle.clf_syntax.specs.declared.tree.Head.TheVariants.{Var}
 use Rattle.clf_syntax.specs.declared.tree.Neutral.{Neutral}
 use Rattle.clf_syntax.specs.declared.tree.Step.{Step, out-Step}
 use Rattle.clf_syntax.specs.declared.tree.Expr.{Expr, out-Expr}
-use Rattle.clf_syntax.specs.Tree.{PlainObject, PlainNeutral, head_alone, app, fst, snd, PlainTuple, PlainElimination, arg, first, second, spine_on, steps_on, done, tuple_of, head_of}
+use Rattle.clf_syntax.specs.Tree.{PlainObject, PlainNeutral, head_alone, app, fst, snd, PlainExpression, PlainElimination, arg, first, second, spine_on, steps_on, done, tuple_of, head_of}
 use Rattle.clf_syntax.specs.TypeTree.{SimpleType, base, arrow, simple_with, simple_top, lax}
 use Rattle.clf_syntax.specs.Renaming.{ren_neutral, ren_head, up}
-use Rattle.clf_syntax.specs.Plain.{plain_neutral, plain_expr, plain_step, plain_entry, plain-neutral, plain-expr, plain-step-rhs}
+use Rattle.clf_syntax.specs.Plain.{plain_neutral, plain_expr, plain_elim, plain_step, plain_entry, plain-neutral, plain-expr, plain-step-rhs}
 use Rattle.hered_subst.proofs.Renamed.{head_renamed}
 use Rattle.eta_laws.specs.Eta.{eta}
 use Rattle.pattern_laws.specs.Patterns.{blank}
@@ -63,9 +62,16 @@ eta_candidate simple_top n v b e = absurd (cc)
 eta_candidate (lax ts) n v b e = ap variable_of e
 
 -- the first step of an expression in memory
-pub first_step : (ss : List Step) (t : PlainTuple) (s : Step) → slice_get ss 0 ≡ Some s → candidate_step (steps_on (map plain_step ss) (done t)) ≡ variable_of s.rhs.head
-first_step [] t s e = absurd (cc)
-first_step (x ∷ ss) t s e = ?
+first_step : (ss : List Step) (x : PlainExpression) (s : Step) → 0 < length ss → s ≡ get_or ss 0 s → candidate_step (steps_on (map plain_step ss) x) ≡ variable_of (out-Step s).rhs.head
+first_step [] x s l e = absurd (omega (arith, l))
+first_step (y ∷ ss) x s l e = ap (λ n. variable_of (head_of n)) (plain-step-rhs y) ∙ ap variable_of (neutral_head (out-Step y).rhs) ∙ ap (λ z. variable_of (out-Step z).rhs.head) (sym e)
 
-pub expr_step : (e : Expr) → candidate_step (plain_expr e) ≡ candidate_step (steps_on (map plain_step (out-Expr e).steps) (done (tuple_of (map plain_entry (out-Expr e).result))))
-expr_step e = ap candidate_step (plain-expr e)
+pub expr_first : (e : Expr) (ss : List Step) (s : Step) → ss ≡ (out-Expr e).steps → 0 < length ss → s ≡ get_or ss 0 s → variable_of (out-Step s).rhs.head ≡ candidate_step (plain_expr e)
+expr_first e ss s q l f = sym (first_step ss (done (tuple_of (map plain_entry (out-Expr e).result))) s l f) ∙ ap (λ ts. candidate_step (steps_on (map plain_step ts) (done (tuple_of (map plain_entry (out-Expr e).result))))) q ∙ sym (ap candidate_step (plain-expr e))
+
+pub expr_empty : (e : Expr) (ss : List Step) → ss ≡ (out-Expr e).steps → length ss ≡ 0 → None ≡ candidate_step (plain_expr e)
+expr_empty e ss q l = none ss l ∙ ap (λ ts. candidate_step (steps_on (map plain_step ts) (done (tuple_of (map plain_entry (out-Expr e).result))))) q ∙ sym (ap candidate_step (plain-expr e))
+  where
+    none : (ss : List Step) → length ss ≡ 0 → None ≡ candidate_step (steps_on (map plain_step ss) (done (tuple_of (map plain_entry (out-Expr e).result))))
+    none [] l = refl
+    none (y ∷ ss) l = absurd (omega (arith, l))

@@ -1,2 +1,3 @@
 pub mod Spines
 pub mod Candidates
+pub mod LongForms

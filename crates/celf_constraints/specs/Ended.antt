@@ -1,5 +1,5 @@
 -- Inner: the locals of places as numbers, and the places from which the way is known to come to an end.
-use Rattle.std.specs.Prelude.{ℕ, ◌≡◌, ◌⊎◌, Bool, true, List, Option, Some, None, if◌then◌else◌, map}
+use Rattle.std.specs.Prelude.{ℕ, ◌≡◌, ◌⊎◌, Bool, true, false, List, Option, Some, None, if◌then◌else◌, map}
 use Rattle.std.specs.List.{slice_get}
 use Rattle.pattern_laws.specs.Patterns.{Place as PlainPlace, blank, mask_at}
 
@@ -23,7 +23,7 @@ LeadsOn zs held v = ((i : ℕ) → StandsAt zs i v → ⊥) ⊎ ((i : ℕ) × St
 pub record IsOpen (xs zs : List (Option ℕ)) (held : List Bool) (j : ℕ) : Type 0 where
   pub local : ℕ
   pub stands : StandsAt xs j local
-  pub open : mask_at held j ≡ false
+  pub unheld : mask_at held j ≡ false
   pub leads : LeadsOn zs held local
 
 -- The way from the place comes to an end.

@@ -54,12 +54,12 @@ pub fn candidate(obj: &Obj) -> Option<u32>
 }
 
 /// The variable of the first step.
-#[tactic(auto, using(clf_syntax::specs::Plain::plain_laws, crate::proofs::Candidates::expr_step))]
 fn candidate_step(expr: &Expr) -> Option<u32>
     ensures { result ≡ spec.candidate_step (plain_expr expr.now) }
 {
-    match expr.steps.as_slice().first() {
-        Some(step) => variable_of(step.rhs.head),
-        None => None,
+    let steps = expr.steps.as_slice();
+    if steps.len() == 0 {
+        return None;
     }
+    variable_of(steps[0].rhs.head)
 }

@@ -1,12 +1,11 @@
 //! Equations, and lists of them.
 ghost use Rattle.std.specs.Prelude.{◌≡◌, [], ◌∷◌, ◌++◌, IfOk, OnOk, OnErr};
-ghost use Rattle.celf_constraints.specs.Equated.{plain_equation};
+ghost use Rattle.celf_constraints.specs.Equated.{equations_in, plain_equation};
 ghost use Rattle.celf_constraints.specs.Woken.{woken};
 
 use crate::mentions::mentions_one;
 use clf_syntax::{Obj, Simple, SimpleEntry};
 use std::alloc::{AllocError, Global};
-use std::marker::Model;
 
 /// Two objects of one simple type over the same locals, the oldest local first.
 #[derive(Drop)]
@@ -23,20 +22,10 @@ pub struct Equations {
     items: Vec<Equation>,
 }
 
-impl Model for Equations {
-    ghost use Rattle.std.specs.Prelude.{List, map};
-    ghost use Rattle.pattern_laws.specs.Equations.{Equation as PlainEquation};
-    ghost use Rattle.celf_constraints.specs.Equated.{plain_equation};
-
-    ghost Value = { List PlainEquation };
-
-    ghost view = { λ s. map plain_equation s.items.items };
-}
-
 impl Equations {
     /// No equations.
     pub fn new(alloc: Global) -> Equations
-        ensures { result ≡ [] }
+        ensures { equations_in result ≡ [] }
     {
         Equations {
             items: Vec::new(alloc),
@@ -45,8 +34,8 @@ impl Equations {
 
     /// Puts an equation behind the others. It fails only where memory runs out, and the list is unchanged then.
     pub fn push(&mut self, equation: Equation) -> Result<(), AllocError>
-        ensures ok { OnOk result (self.new ≡ self.old ++ plain_equation equation ∷ []) }
-        ensures err { OnErr result (self.new ≡ self.old) }
+        ensures ok { OnOk result (equations_in self.new ≡ equations_in self.old ++ plain_equation equation ∷ []) }
+        ensures err { OnErr result (equations_in self.new ≡ equations_in self.old) }
     {
         self.items.push(equation)?;
         Ok(())
@@ -54,11 +43,12 @@ impl Equations {
 
     /// The places of the equations that mention one of the metavariables, in order. It fails only where memory runs out.
     pub fn wake(&self, alloc: Global, metas: &[u32]) -> Result<Vec<usize>, AllocError>
-        ensures { IfOk result (λ places. places.items ≡ woken metas.now 0 self.now) }
+        ensures { IfOk result (λ places. places.items ≡ woken metas.now 0 (equations_in self.now)) }
     {
         let mut places = Vec::new(alloc);
-        for (place, equation) in self.items.iter().enumerate() {
-            if mentions_one(metas, equation) {
+        let items = self.items.as_slice();
+        for place in 0..items.len() {
+            if mentions_one(metas, &items[place]) {
                 places.push(place)?;
             }
         }

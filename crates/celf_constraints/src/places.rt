@@ -1,5 +1,5 @@
 //! Metavariables on distinct locals.
-ghost use Rattle.std.specs.Prelude.{◌≡◌, [], ◌∷◌, ◌++◌, IfOk, map};
+ghost use Rattle.std.specs.Prelude.{◌≡◌, [], ◌∷◌, ◌++◌, IfOk, List, Some, map};
 ghost use Rattle.std.specs.List.{slice_get};
 ghost use Rattle.std.specs.Option.{option_map};
 ghost use Rattle.clf_syntax.specs.Plain.{plain_obj, plain_neutral, plain_elim};
@@ -11,6 +11,7 @@ ghost use Rattle.clf_syntax.specs.declared.tree.Head.TheVariants.{Var};
 ghost use Rattle.eta_laws.specs.Eta.{eta};
 ghost use Rattle.pattern_laws.specs.Instantiations.{Types, closed};
 ghost use Rattle.pattern_laws.specs.Equations.{scoped};
+ghost use Rattle.celf_constraints.specs.Candidate.{candidate as candidate_of};
 ghost use Rattle.celf_constraints.specs.Equated.{plain_locals};
 ghost use Rattle.celf_constraints.specs.Read.{scope, plain_known, plain_next, plain_reading, ReadsArgument, ReadsLocal, ReadsOne, ReadsSpine};
 ghost use Rattle.celf_constraints.specs.Reading.{ReadsLocals};
@@ -224,12 +225,36 @@ fn read_local<'a>(
 ) -> Result<Option<Known<'a>>, Or<TooFar>>
     ensures { IfOk result (λ found. ReadsLocal (scope types.now) (plain_obj obj.now) (option_map plain_known found)) }
 {
-    let Some(local) = candidate(obj) else {
-        return Ok(None);
-    };
-    let Some(ty) = local_type(types, local) else {
-        return Ok(None);
-    };
+    match candidate(obj) {
+        None => Ok(None),
+        Some(local) => read_candidate(alloc, types, obj, local),
+    }
+}
+
+/// The same, where no other variable can be the local.
+fn read_candidate<'a>(
+    alloc: Global,
+    types: &[&'a Simple],
+    obj: &Obj,
+    local: u32,
+) -> Result<Option<Known<'a>>, Or<TooFar>>
+    ensures { IfOk result (λ found. candidate_of (plain_obj obj.now) ≡ Some local → ReadsLocal (scope types.now) (plain_obj obj.now) (option_map plain_known found)) }
+{
+    match local_type(types, local) {
+        None => Ok(None),
+        Some(ty) => compare(alloc, obj, ty, local),
+    }
+}
+
+/// The same, where the local has this type.
+fn compare<'a>(
+    alloc: Global,
+    obj: &Obj,
+    ty: &'a Simple,
+    local: u32,
+) -> Result<Option<Known<'a>>, Or<TooFar>>
+    ensures { IfOk result (λ found. (vs : List SimpleType) → candidate_of (plain_obj obj.now) ≡ Some local → slice_get vs local ≡ Some (plain_simple ty.now) → ReadsLocal vs (plain_obj obj.now) (option_map plain_known found)) }
+{
     let form = long_form(alloc, ty, local)?;
     if same(obj, &form) {
         Ok(Some(Known { ty, local }))
@@ -238,14 +263,22 @@ fn read_local<'a>(
     }
 }
 
+/// A variable alone.
+#[tactic(auto, using(clf_syntax::specs::Plain::plain_laws))]
+fn variable(alloc: Global, local: u32) -> Neutral
+    ensures { plain_neutral result ≡ head_alone (Var local) }
+{
+    Neutral {
+        head: Head::Var(local),
+        spine: Items::new(alloc),
+    }
+}
+
 /// The eta-long form of a variable.
 fn long_form(alloc: Global, ty: &Simple, local: u32) -> Result<Obj, Or<TooFar>>
     ensures { IfOk result (λ o. plain_obj o ≡ eta (plain_simple ty.now) (head_alone (Var local))) }
 {
-    let neutral = Neutral {
-        head: Head::Var(local),
-        spine: Items::new(alloc),
-    };
+    let neutral = variable(alloc, local);
     eta(alloc, ty, &neutral)
 }
 
