@@ -1,3 +1,4 @@
 pub mod Spines
 pub mod Candidates
 pub mod LongForms
+pub mod Growing

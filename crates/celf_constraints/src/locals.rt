@@ -1,5 +1,5 @@
 //! The locals at the places of a metavariable.
-ghost use Rattle.std.specs.Prelude.{◌≡◌, ◌⊎◌, ◌<◌, ◌↔◌, ℕ, IfOk, IsTrue, map, length, Option, Some, None};
+ghost use Rattle.std.specs.Prelude.{◌≡◌, ◌⊎◌, ◌<◌, ◌≤◌, ◌↔◌, ℕ, IfOk, IsTrue, map, length, Option, Some, None};
 ghost use Rattle.std.specs.List.{slice_get};
 ghost use Rattle.celf_constraints.specs.Ended.{local_of, StandsAt, Apart};
 ghost use Rattle.celf_constraints.specs.Reading.{plain_place};
@@ -40,8 +40,8 @@ pub fn is_local(found: Option<u32>, local: u32) -> bool
 }
 
 /// Whether the local stands at one of the first places, of so many.
-fn stands_before(locals: &[Option<u32>], count: usize, local: u32) -> bool
-    requires { count < length locals.now }
+pub fn stands_before(locals: &[Option<u32>], count: usize, local: u32) -> bool
+    requires { count ≤ length locals.now }
     ensures { IsTrue result ↔ ((i : ℕ) × (i < count) × StandsAt locals.now i local) }
 {
     for place in 0..count {

@@ -20,7 +20,7 @@ use crate::blank::is_blank;
 use crate::candidate::candidate;
 use crate::locals::{are_distinct, locals_of};
 use clf_simple::eta;
-use clf_syntax::{Elim, Head, Mode, Neutral, Obj, Or, Simple, SimpleEntry, TooFar, is_same_mode, same};
+use clf_syntax::{Elim, Head, Mode, Neutral, Obj, Or, Simple, SimpleEntry, TooFar, same};
 use sqlite_items::Items;
 use std::alloc::{AllocError, Global};
 
@@ -173,7 +173,7 @@ fn read_at<'a>(
             dom,
             cod,
         } => {
-            if !is_same_mode(mode, *wanted) {
+            if mode != *wanted {
                 return Ok(None);
             }
             match read_argument(alloc, types, mode, dom.get(), obj)? {

@@ -5,7 +5,7 @@ ghost use Rattle.pattern_laws.specs.Patterns.{Ends, mask_at};
 ghost use Rattle.celf_constraints.specs.Ended.{StandsAt, LeadsOn, IsOpen, EndsIn};
 ghost use Rattle.celf_constraints.specs.Reading.{plain_places};
 
-use crate::locals::{is_local, locals_of};
+use crate::locals::{is_local, locals_of, stands_before};
 use crate::places::Places;
 use std::alloc::{AllocError, Global};
 
@@ -58,16 +58,22 @@ fn is_ended(local: Option<u32>, to: &[Option<u32>], held: &[bool]) -> bool
 fn leads_on(local: u32, to: &[Option<u32>], held: &[bool]) -> bool
     ensures { IsTrue result ↔ LeadsOn to.now held.now local }
 {
-    let mut stands = false;
+    if !stands_before(to, to.len(), local) {
+        return true;
+    }
+    stands_held(local, to, held)
+}
+
+/// Whether the local stands at a place that is held.
+fn stands_held(local: u32, to: &[Option<u32>], held: &[bool]) -> bool
+    ensures { IsTrue result ↔ ((i : ℕ) × StandsAt to.now i local × (mask_at held.now i ≡ true)) }
+{
     for place in 0..to.len() {
-        if is_local(to[place], local) {
-            if is_held(held, place) {
-                return true;
-            }
-            stands = true;
+        if is_local(to[place], local) && is_held(held, place) {
+            return true;
         }
     }
-    !stands
+    false
 }
 
 fn is_held(held: &[bool], place: usize) -> bool
