@@ -1,8 +1,10 @@
 -- A set of places that grows: what is held comes to an end, and what comes to an end is held when nothing is added.
-use Rattle.std.specs.Prelude.{ℕ, zero, suc, ◌≡◌, ◌<◌, ◌+◌, ◌⊎◌, Bool, true, false, List, [], ◌∷◌, ◌++◌, length, map, Option, Some, None, if◌then◌else◌, get_or, set, refl}
+use Rattle.std.specs.Prelude.{ℕ, zero, suc, ◌≡◌, ◌<◌, ◌+◌, ◌⊎◌, Bool, true, false, List, [], ◌∷◌, ◌++◌, length, map, drop, Option, Some, None, if◌then◌else◌, get_or, set, Result, Ok, Err, IfOk, ◌↔◌, refl}
 use Rattle.std.specs.List.{slice_get}
-use Rattle.std.proofs.Common.{ap, sym, ◌∙◌, subst, inl, inr, ⊎_elim, arith, get_or-set_same, get_or-set_other}
+use Rattle.std.proofs.Common.{ap, sym, ◌∙◌, subst, inl, inr, ⊎_elim, arith}
 use Rattle.pattern_laws.specs.Patterns.{Place as PlainPlace, blank, local_at, mask_at, Ends, ends_here, ends_later}
+use Rattle.celf_constraints.specs.declared.places.Place.{Place}
+use Rattle.celf_constraints.specs.Reading.{plain_place}
 use Rattle.celf_constraints.specs.Ended.{local_of, StandsAt, LeadsOn, IsOpen, EndsIn, ends_there, ends_beyond}
 
 -- how many places are not held
@@ -77,7 +79,7 @@ to_list [] i v e = absurd (cc)
 to_list (p ∷ ps) zero v e = some_local (blank p.1) p.2 v e
 to_list (p ∷ ps) (suc i) v e = to_list ps i v e
 
-inner : {a b : Option ℕ} → Some a ≡ Some b → a ≡ b
+pub inner : {a b : Option ℕ} → Some a ≡ Some b → a ≡ b
 inner e = cc
 
 pub from_list : (ps : List PlainPlace) (i v : ℕ) → StandsAt (map local_of ps) i v → local_at ps i ≡ Some v
@@ -92,3 +94,32 @@ ends_out ps zs (ends_beyond {j = j} {i = i} {v = v} s t n) = ends_later (from_li
 pub ends_in : (ps zs : List PlainPlace) {j : ℕ} → Ends ps zs j → EndsIn (map local_of ps) (map local_of zs) j
 ends_in ps zs (ends_here {j = j} {v = v} e h) = ends_there (to_list ps j v e) (λ i k. h i (from_list zs i v k))
 ends_in ps zs (ends_later {j = j} {i = i} {v = v} e f n) = ends_beyond (to_list ps j v e) (to_list zs i v f) (ends_in ps zs n)
+
+pub none_lengths : (xs : List (Option ℕ)) → length (map (λ (x : Option ℕ). false) xs) ≡ length xs
+none_lengths [] = refl
+none_lengths (x ∷ xs) = ap suc (none_lengths xs)
+
+pub none_ends : (xs : List (Option ℕ)) (j : ℕ) → mask_at (map (λ (x : Option ℕ). false) xs) j ≡ true → {A : Type 0} → A
+none_ends [] j e = absurd (cc)
+none_ends (x ∷ xs) zero e = absurd (cc)
+none_ends (x ∷ xs) (suc j) e = none_ends xs j e
+
+pub both_maps : (ps : List Place) → map (λ (p : Place). local_of (plain_place p)) ps ≡ map local_of (map plain_place ps)
+both_maps [] = refl
+both_maps (p ∷ ps) = ap (λ xs. local_of (plain_place p) ∷ xs) (both_maps ps)
+
+pub ends_of : {V E : Type 0} (f : V → List Bool) (r : Result V E) (xs zs : List (Option ℕ)) (ps qs : List PlainPlace) → xs ≡ map local_of ps → zs ≡ map local_of qs
+    → IfOk r (λ v. (j : ℕ) → (mask_at (f v) j ≡ true) ↔ EndsIn xs zs j) → IfOk r (λ v. (j : ℕ) → (mask_at (f v) j ≡ true) ↔ Ends ps qs j)
+ends_of f (Ok v) xs zs ps qs e h k = λ j. (
+  (λ m. ends_out ps qs (subst (λ ys. EndsIn (map local_of ps) ys j) h (subst (λ ys. EndsIn ys zs j) e ((k j).0 m)))),
+  (λ n. (k j).1 (subst (λ ys. EndsIn xs ys j) (sym h) (subst (λ ys. EndsIn ys (map local_of qs) j) (sym e) (ends_in ps qs n))))
+)
+ends_of f (Err x) xs zs ps qs e h k = tt
+
+pub next_false : (xs : List (Option ℕ)) (i : ℕ) → i < length xs → map (λ (x : Option ℕ). false) (drop i xs) ≡ false ∷ map (λ (x : Option ℕ). false) (drop (i + 1) xs)
+next_false [] i l = absurd (omega (arith, l))
+next_false (x ∷ xs) zero l = refl
+next_false (x ∷ xs) (suc i) l = next_false xs i (omega (arith, l)) ∙ ap (λ k. false ∷ map (λ (y : Option ℕ). false) (drop k (x ∷ xs))) (over i)
+  where
+    over : (i : ℕ) → suc (i + 1) ≡ suc i + 1
+    over i = omega arith

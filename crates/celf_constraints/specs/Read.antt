@@ -8,11 +8,14 @@ use Rattle.clf_syntax.specs.declared.tree.Head.TheVariants.{Var}
 use Rattle.clf_syntax.specs.Tree.{PlainObject, head_alone, PlainElimination, arg, first, second}
 use Rattle.clf_syntax.specs.TypeTree.{SimpleType, base, arrow, simple_with, simple_top, lax}
 use Rattle.clf_syntax.specs.PlainSimple.{plain_simple}
+use Rattle.clf_syntax.specs.Simple.{Assignment}
 use Rattle.eta_laws.specs.Eta.{eta}
-use Rattle.pattern_laws.specs.Patterns.{blank}
+use Rattle.pattern_laws.specs.Patterns.{Place as PlainPlace, blank, Distinct}
 use Rattle.celf_constraints.specs.declared.places.Place.{Place}
 use Rattle.celf_constraints.specs.declared.places.Known.{Known}
 use Rattle.celf_constraints.specs.declared.places.Next.{Next}
+use Rattle.celf_constraints.specs.declared.places.Places.{Places}
+use Rattle.celf_constraints.specs.Reading.{plain_places, own_places}
 
 -- the types of the locals, the newest first
 abbrev pub scope : List (Bor Simple) → List SimpleType
@@ -24,6 +27,13 @@ pub record Reading : Type 0 where
   pub type : SimpleType
   pub own : SimpleType
   pub local : ℕ
+
+-- the place with the simple type of the argument, and with that of the local
+abbrev pub place_of : Reading → PlainPlace
+place_of r = (r.mode, r.type, r.local)
+
+abbrev pub own_of : Reading → PlainPlace
+own_of r = (r.mode, r.own, r.local)
 
 abbrev pub plain_reading : Place → Reading
 plain_reading p = record { mode = p.mode; type = plain_simple p.ty.now; own = plain_simple p.own.now; local = p.local }
@@ -75,3 +85,18 @@ ReadsOne vs e t (Some n) = Reads vs (e ∷ []) t (n.0 ∷ []) n.1
 
 abbrev pub plain_next : Next → Reading × SimpleType
 plain_next n = (plain_reading n.place, plain_simple n.rest.now)
+
+-- The list has the types of the variables.
+abbrev pub Scopes : Assignment → List SimpleType → Type 0
+Scopes z vs = (i : ℕ) → z (Var i) ≡ slice_get vs i
+
+-- What was read, arranged as the places of a metavariable, the last one first.
+pub record IsArranged (m : ℕ) (rs : List Reading) (p : Places) : Type 0 where
+  pub meta : p.meta ≡ m
+  pub places : plain_places p ≡ map place_of (reverse rs)
+  pub own : own_places p ≡ map own_of (reverse rs)
+  pub distinct : Distinct (map place_of (reverse rs))
+
+abbrev pub Arranges : ℕ → List Reading → Option Places → Type 0
+Arranges m rs None = Distinct (map place_of (reverse rs)) → ⊥
+Arranges m rs (Some p) = IsArranged m rs p

@@ -4,16 +4,16 @@ ghost use Rattle.std.specs.List.{slice_get};
 ghost use Rattle.std.specs.Option.{option_map};
 ghost use Rattle.clf_syntax.specs.Plain.{plain_obj, plain_neutral, plain_elim};
 ghost use Rattle.clf_syntax.specs.PlainSimple.{plain_simple, plain_simple_entry};
-ghost use Rattle.clf_syntax.specs.Simple.{SimplyTypedNeutral};
+ghost use Rattle.clf_syntax.specs.Simple.{Assignment, SimplyTypedNeutral};
 ghost use Rattle.clf_syntax.specs.TypeTree.{SimpleType};
-ghost use Rattle.clf_syntax.specs.Tree.{arg, head_alone};
-ghost use Rattle.clf_syntax.specs.declared.tree.Head.TheVariants.{Var};
+ghost use Rattle.clf_syntax.specs.Tree.{arg, head_alone, spine_on};
+ghost use Rattle.clf_syntax.specs.declared.tree.Head.TheVariants.{Meta, Var};
 ghost use Rattle.eta_laws.specs.Eta.{eta};
 ghost use Rattle.pattern_laws.specs.Instantiations.{Types, closed};
 ghost use Rattle.pattern_laws.specs.Equations.{scoped};
 ghost use Rattle.celf_constraints.specs.Candidate.{candidate as candidate_of};
 ghost use Rattle.celf_constraints.specs.Equated.{plain_locals};
-ghost use Rattle.celf_constraints.specs.Read.{scope, plain_known, plain_next, plain_reading, ReadsArgument, ReadsLocal, ReadsOne, ReadsSpine};
+ghost use Rattle.celf_constraints.specs.Read.{scope, plain_known, plain_next, plain_reading, Arranges, ReadsArgument, ReadsLocal, ReadsOne, ReadsSpine, Scopes};
 ghost use Rattle.celf_constraints.specs.Reading.{ReadsLocals};
 
 use crate::blank::is_blank;
@@ -88,25 +88,37 @@ fn scope_of<'a>(alloc: Global, locals: &'a [SimpleEntry]) -> Result<Vec<&'a Simp
     Ok(types)
 }
 
+/// The places of a metavariable of this type.
 fn read_meta<'a>(
     alloc: Global,
     types: &[&'a Simple],
     meta: u32,
     ty: &'a Simple,
     spine: &[Elim],
-) -> Result<Option<Places<'a>>, Or<TooFar>> {
+) -> Result<Option<Places<'a>>, Or<TooFar>>
+    ensures { IfOk result (λ found. (z : Assignment) (t : SimpleType) → Scopes z (scope types.now) → z (Meta meta) ≡ Some (plain_simple ty.now) → SimplyTypedNeutral z (spine_on (map plain_elim spine.now) (head_alone (Meta meta))) t → ReadsLocals z (spine_on (map plain_elim spine.now) (head_alone (Meta meta))) t found) }
+{
     match read_spine(alloc, types, spine, ty)? {
         None => Ok(None),
-        Some(found) => {
-            let mut places = found;
-            places.reverse();
-            let locals = locals_of(alloc, places.as_slice())?;
-            if are_distinct(locals.as_slice()) {
-                Ok(Some(Places { meta, places }))
-            } else {
-                Ok(None)
-            }
-        }
+        Some(found) => Ok(arrange(alloc, meta, found)?),
+    }
+}
+
+/// The arguments as places, the last one first, if no local stands at two of them.
+fn arrange<'a>(
+    alloc: Global,
+    meta: u32,
+    found: Vec<Place<'a>>,
+) -> Result<Option<Places<'a>>, AllocError>
+    ensures { IfOk result (λ places. Arranges meta (map plain_reading found.entry.items) places) }
+{
+    let mut places = found;
+    places.reverse();
+    let locals = locals_of(alloc, places.as_slice())?;
+    if are_distinct(locals.as_slice()) {
+        Ok(Some(Places { meta, places }))
+    } else {
+        Ok(None)
     }
 }
 

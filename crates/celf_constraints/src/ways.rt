@@ -1,6 +1,5 @@
 //! The places of a metavariable from which the way, from place to place of the same local, comes to an end.
-ghost use Rattle.std.specs.Prelude.{◌≡◌, ◌⊎◌, ◌↔◌, ℕ, true, false, IfOk, IfSome, IfNone, IsTrue, MatchOption, Option, Some, length};
-ghost use Rattle.std.specs.List.{slice_get};
+ghost use Rattle.std.specs.Prelude.{◌≡◌, ◌↔◌, ◌<◌, ℕ, true, false, IfOk, IsTrue, MatchOption, Some, length, map};
 ghost use Rattle.pattern_laws.specs.Patterns.{Ends, mask_at};
 ghost use Rattle.celf_constraints.specs.Ended.{StandsAt, LeadsOn, IsOpen, EndsIn};
 ghost use Rattle.celf_constraints.specs.Reading.{plain_places};
@@ -22,27 +21,44 @@ pub fn ends(alloc: Global, places: &Places<'_>, others: &Places<'_>) -> Result<V
 fn grow(alloc: Global, from: &[Option<u32>], to: &[Option<u32>]) -> Result<Vec<bool>, AllocError>
     ensures { IfOk result (λ held. (j : ℕ) → (mask_at held.items j ≡ true) ↔ EndsIn from.now to.now j) }
 {
-    let mut held = Vec::new(alloc);
-    for _place in from {
-        held.push(false)?;
-    }
+    let mut held = none_held(alloc, from)?;
     while let Some(place) = next_end(from, to, held.as_slice()) {
         held[place] = true;
     }
     Ok(held)
 }
 
+/// No place is held.
+fn none_held(alloc: Global, from: &[Option<u32>]) -> Result<Vec<bool>, AllocError>
+    ensures { IfOk result (λ held. held.items ≡ map (λ x. false) from.now) }
+{
+    let mut held = Vec::new(alloc);
+    for _place in from {
+        held.push(false)?;
+    }
+    Ok(held)
+}
+
 /// A place that is not held yet, and has to be.
 fn next_end(from: &[Option<u32>], to: &[Option<u32>], held: &[bool]) -> Option<usize>
-    requires { length held.now ≡ length from.now }
     ensures { MatchOption result ((j : ℕ) → IsOpen from.now to.now held.now j → ⊥) (λ j. IsOpen from.now to.now held.now j) }
 {
     for place in 0..from.len() {
-        if !held[place] && is_ended(from[place], to, held) {
+        if is_open(place, from, to, held) {
             return Some(place);
         }
     }
     None
+}
+
+fn is_open(place: usize, from: &[Option<u32>], to: &[Option<u32>], held: &[bool]) -> bool
+    requires { place < length from.now }
+    ensures { IsTrue result ↔ IsOpen from.now to.now held.now place }
+{
+    if is_held(held, place) {
+        return false;
+    }
+    is_ended(from[place], to, held)
 }
 
 fn is_ended(local: Option<u32>, to: &[Option<u32>], held: &[bool]) -> bool
