@@ -18,7 +18,8 @@ use Rattle.pattern_laws.proofs.Typings.{blank_is}
 use Rattle.pattern_laws.proofs.Misfits.{blank_eta}
 use Rattle.celf_constraints.specs.Read.{Reading, place_of, own_of, ReadAs, Reads}
 
-onto : {X Y : Type 0} (f : X → Y) (x : X) (xs : List X) (ys : List Y) → map f (reverse (x ∷ xs)) ++ ys ≡ map f (reverse xs) ++ f x ∷ ys
+-- a list that is turned round, with its first element put behind
+pub onto : {X Y : Type 0} (f : X → Y) (x : X) (xs : List X) (ys : List Y) → map f (reverse (x ∷ xs)) ++ ys ≡ map f (reverse xs) ++ f x ∷ ys
 onto f x xs ys = ap (λ zs. map f zs ++ ys) (reverse-append (x ∷ []) xs) ∙ ap (λ zs. zs ++ ys) (map-append f (reverse xs) (x ∷ [])) ∙ append_assoc (map f (reverse xs)) (f x ∷ []) ys
 
 -- A typed object at a blank type is blank.

@@ -1,21 +1,25 @@
 -- The reading of a neutral answers what it has to.
-use Rattle.std.specs.Prelude.{ℕ, zero, suc, ◌≡◌, List, [], ◌∷◌, ◌++◌, map, reverse, Option, Some, None, refl}
+use Rattle.std.specs.Prelude.{ℕ, zero, suc, ◌≡◌, ◌+◌, ◌<◌, List, [], ◌∷◌, ◌++◌, length, map, drop, get_or, reverse, Option, Some, None, refl}
 use Rattle.std.specs.List.{slice_get}
-use Rattle.std.proofs.Common.{ap, sym, ◌∙◌, subst}
+use Rattle.std.proofs.Common.{ap, sym, ◌∙◌, subst, arith}
 use Rattle.std.proofs.lemmas.List.{append-nil}
-use Rattle.clf_syntax.specs.declared.tree.Head.{Head}
+use Rattle.clf_syntax.specs.declared.tree.Mode.{Mode}
+use Rattle.clf_syntax.specs.declared.tree.SimpleEntry.{SimpleEntry, out-SimpleEntry}
 use Rattle.clf_syntax.specs.declared.tree.Head.TheVariants.{Var, Meta}
 use Rattle.clf_syntax.specs.Tree.{PlainNeutral, head_alone, PlainElimination, spine_on}
 use Rattle.clf_syntax.specs.TypeTree.{SimpleType}
+use Rattle.clf_syntax.specs.PlainSimple.{plain_simple, plain_simple_entry, plain-simple-entry}
+use Rattle.clf_syntax.proofs.Next.{dropped}
 use Rattle.clf_syntax.specs.Simple.{Assignment, SimplyTypedNeutral}
 use Rattle.pattern_laws.specs.Instantiations.{Types, closed}
 use Rattle.pattern_laws.specs.Equations.{Locals, scoped}
 use Rattle.pattern_laws.specs.Patterns.{Place as PlainPlace, on, arrows, local_at, OwnPlaces, OnLocals, Distinct}
 use Rattle.celf_constraints.specs.declared.places.Places.{Places}
+use Rattle.celf_constraints.specs.Equated.{plain_locals}
 use Rattle.celf_constraints.specs.Reading.{plain_places, own_places, ReadsLocals}
 use Rattle.celf_constraints.specs.Read.{Reading, place_of, own_of, Reads, ReadsSpine, Scopes, IsArranged, Arranges}
 use Rattle.celf_constraints.proofs.Arguments.{one_reading}
-use Rattle.celf_constraints.proofs.Located.{At, located}
+use Rattle.celf_constraints.proofs.Located.{At, located, onto}
 use Rattle.celf_constraints.proofs.Told.{read_back}
 
 the_type : {t u : SimpleType} → Some t ≡ Some u → t ≡ u
@@ -56,3 +60,26 @@ pub scoped_local : (constants metas : Types) (ls : Locals) → Scopes (scoped ls
 scoped_local constants metas [] i = refl
 scoped_local constants metas (l ∷ ls) zero = refl
 scoped_local constants metas (l ∷ ls) (suc i) = scoped_local constants metas ls i
+
+types_of : (es : List SimpleEntry) → map (λ (l : Mode × SimpleType). l.1) (map plain_simple_entry es) ≡ map (λ e. (plain_simple_entry e).1) es
+types_of [] = refl
+types_of (e ∷ es) = ap (λ l. (plain_simple_entry e).1 ∷ l) (types_of es)
+
+pub local_types : (es : List SimpleEntry) → map (λ (l : Mode × SimpleType). l.1) (plain_locals es) ≡ map (λ e. (plain_simple_entry e).1) (reverse es)
+local_types es = types_of (reverse es)
+
+pub more_types : (es : List SimpleEntry) (i : ℕ) (e : SimpleEntry) (ts us : List SimpleType) → i < length es → e ≡ get_or es i e → us ≡ plain_simple (out-SimpleEntry e).ty ∷ ts
+    → map (λ e. (plain_simple_entry e).1) (reverse (drop (i + 1) es)) ++ us ≡ map (λ e. (plain_simple_entry e).1) (reverse (drop i es)) ++ ts
+more_types es i e ts us l q f =
+    let g = λ (e : SimpleEntry). (plain_simple_entry e).1 in
+    ap (λ ys. map g (reverse (drop (i + 1) es)) ++ ys) (f ∙ ap (λ (p : Mode × SimpleType). p.1 ∷ ts) (sym (plain-simple-entry e)))
+    ∙ sym (onto g e (drop (i + 1) es) ts) ∙ ap (λ ys. map g (reverse ys) ++ ts) (sym (dropped es i e l q))
+
+pub nothing_left : {X Y : Type 0} (f : X → Y) (xs : List X) (i : ℕ) → (i < length xs → ⊥) → map f (drop i xs) ≡ []
+nothing_left f [] i h = none f i
+  where
+    none : {X Y : Type 0} (f : X → Y) (i : ℕ) → map f (drop i []) ≡ []
+    none f zero = refl
+    none f (suc i) = refl
+nothing_left f (x ∷ xs) zero h = absurd (h (omega arith))
+nothing_left f (x ∷ xs) (suc i) h = nothing_left f xs i (λ l. h (omega (arith, l)))

@@ -1,9 +1,7 @@
 -- Inner: the arguments of a metavariable are read one by one, the first one first.
 use Rattle.std.specs.Prelude.{ℕ, ◌≡◌, ◌⊎◌, Bool, true, false, List, [], ◌∷◌, Option, Some, None, map, reverse}
 use Rattle.std.specs.List.{slice_get}
-use Rattle.std.specs.Borrow.{Bor}
 use Rattle.clf_syntax.specs.declared.tree.Mode.{Mode}
-use Rattle.clf_syntax.specs.declared.tree.Simple.{Simple}
 use Rattle.clf_syntax.specs.declared.tree.Head.TheVariants.{Var}
 use Rattle.clf_syntax.specs.Tree.{PlainObject, head_alone, PlainElimination, arg, first, second}
 use Rattle.clf_syntax.specs.TypeTree.{SimpleType, base, arrow, simple_with, simple_top, lax}
@@ -16,10 +14,6 @@ use Rattle.celf_constraints.specs.declared.places.Known.{Known}
 use Rattle.celf_constraints.specs.declared.places.Next.{Next}
 use Rattle.celf_constraints.specs.declared.places.Places.{Places}
 use Rattle.celf_constraints.specs.Reading.{plain_places, own_places}
-
--- the types of the locals, the newest first
-abbrev pub scope : List (Bor Simple) → List SimpleType
-scope ls = reverse (map (λ t. plain_simple t.now) ls)
 
 -- an argument that was read: its mode and simple type, the local with its own simple type
 pub record Reading : Type 0 where

@@ -13,7 +13,8 @@ ghost use Rattle.pattern_laws.specs.Instantiations.{Types, closed};
 ghost use Rattle.pattern_laws.specs.Equations.{scoped};
 ghost use Rattle.celf_constraints.specs.Candidate.{candidate as candidate_of};
 ghost use Rattle.celf_constraints.specs.Equated.{plain_locals};
-ghost use Rattle.celf_constraints.specs.Read.{scope, plain_known, plain_next, plain_reading, Arranges, ReadsArgument, ReadsLocal, ReadsOne, ReadsSpine, Scopes};
+ghost use Rattle.clf_simple.specs.Scope.{scope};
+ghost use Rattle.celf_constraints.specs.Read.{plain_known, plain_next, plain_reading, Arranges, ReadsArgument, ReadsLocal, ReadsOne, ReadsSpine, Scopes};
 ghost use Rattle.celf_constraints.specs.Reading.{ReadsLocals};
 
 use crate::blank::is_blank;
@@ -83,9 +84,21 @@ fn scope_of<'a>(alloc: Global, locals: &'a [SimpleEntry]) -> Result<Vec<&'a Simp
 {
     let mut types = Vec::new(alloc);
     for local in locals {
-        types.push(&local.ty)?;
+        types = with_type(types, &local.ty)?;
     }
     Ok(types)
+}
+
+#[tactic(auto, using(clf_simple::proofs::Scopes::scope_laws))]
+fn with_type<'a>(
+    types: Vec<&'a Simple>,
+    ty: &'a Simple,
+) -> Result<Vec<&'a Simple>, AllocError>
+    ensures { IfOk result (λ more. scope more.items ≡ plain_simple ty.now ∷ scope types.entry.items) }
+{
+    let mut more = types;
+    more.push(ty)?;
+    Ok(more)
 }
 
 /// The places of a metavariable of this type.

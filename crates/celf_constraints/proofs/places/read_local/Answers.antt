@@ -1,6 +1,6 @@
 use Rattle.std.proofs.Common.{sym}
 use Rattle.clf_syntax.specs.Plain.{plain_obj}
-use Rattle.celf_constraints.specs.Read.{scope}
+use Rattle.clf_simple.specs.Scope.{scope}
 use Rattle.celf_constraints.proofs.LongForms.{no_candidate}
 use Rattle.celf_constraints.proofs.places.read_local.Goals as goal
 

@@ -1,7 +1,8 @@
 use Rattle.std.proofs.Common.{map, drop}
 use Rattle.clf_syntax.specs.Plain.{plain_elim}
 use Rattle.clf_syntax.specs.PlainSimple.{plain_simple}
-use Rattle.celf_constraints.specs.Read.{scope, plain_reading}
+use Rattle.clf_simple.specs.Scope.{scope}
+use Rattle.celf_constraints.specs.Read.{plain_reading}
 use Rattle.celf_constraints.proofs.Arguments.{SoFar}
 use Rattle.celf_constraints.proofs.places.read_spine.Given as goal
 
