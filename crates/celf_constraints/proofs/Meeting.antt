@@ -1,6 +1,7 @@
 -- The reading of a neutral answers what it has to.
 use Rattle.std.specs.Prelude.{ℕ, zero, suc, ◌≡◌, ◌+◌, ◌<◌, List, [], ◌∷◌, ◌++◌, length, map, drop, get_or, reverse, Option, Some, None, refl}
 use Rattle.std.specs.List.{slice_get}
+use Rattle.std.specs.Option.{option_map}
 use Rattle.std.proofs.Common.{ap, sym, ◌∙◌, subst, arith}
 use Rattle.std.proofs.lemmas.List.{append-nil}
 use Rattle.clf_syntax.specs.declared.tree.Mode.{Mode}
@@ -83,3 +84,25 @@ nothing_left f [] i h = none f i
     none f (suc i) = refl
 nothing_left f (x ∷ xs) zero h = absurd (h (omega arith))
 nothing_left f (x ∷ xs) (suc i) h = nothing_left f xs i (λ l. h (omega (arith, l)))
+
+-- ---- what a call along the spine answered
+
+pub spine_none : {V : Type 0} (vs : List SimpleType) (es : List PlainElimination) (t : SimpleType) (n : Option V) (f : V → List Reading) → n ≡ None → ReadsSpine vs es t (option_map f n) → (rs : List Reading) (u : SimpleType) → Reads vs es t rs u → ⊥
+spine_none vs es t None f e r = r
+spine_none vs es t (Some v) f e r = absurd (cc)
+
+the_value : {V : Type 0} {v w : V} → Some v ≡ Some w → v ≡ w
+the_value e = cc
+
+pub spine_some : {V : Type 0} (vs : List SimpleType) (es : List PlainElimination) (t : SimpleType) (n : Option V) (v : V) (f : V → List Reading) → n ≡ Some v → ReadsSpine vs es t (option_map f n) → (u : SimpleType) × Reads vs es t (f v) u
+spine_some vs es t None v f e r = absurd (cc)
+spine_some vs es t (Some w) v f e r = (r.0, subst (λ x. Reads vs es t (f x) r.0) (the_value e) r.1)
+
+all_dropped : {X : Type 0} (xs : List X) (i : ℕ) → (i < length xs → ⊥) → drop i xs ≡ []
+all_dropped [] zero h = refl
+all_dropped [] (suc i) h = refl
+all_dropped (x ∷ xs) zero h = absurd (h (omega arith))
+all_dropped (x ∷ xs) (suc i) h = all_dropped xs i (λ l. h (omega (arith, l)))
+
+pub last_types : (es : List SimpleEntry) (i : ℕ) (ts : List SimpleType) → (i < length es → ⊥) → map (λ e. (plain_simple_entry e).1) (reverse (drop i es)) ++ ts ≡ map (λ e. (plain_simple_entry e).1) (reverse es) → ts ≡ map (λ (l : Mode × SimpleType). l.1) (plain_locals es)
+last_types es i ts h e = ap (λ (l : List SimpleEntry). map (λ (e : SimpleEntry). (plain_simple_entry e).1) (reverse l) ++ ts) (sym (all_dropped es i h)) ∙ e ∙ sym (local_types es)
