@@ -71,12 +71,12 @@ module _ (z : Assignment) (vs : List SimpleType) where
 
     pub located : (m : ℕ) (es : List PlainElimination) (n : PlainNeutral) (t : SimpleType) (rs : List Reading) (u : SimpleType) (ps qs : List PlainPlace) → Reads vs es t rs u → At m n ps qs t → SimplyTypedNeutral z n t
         → (x : SimpleType) → SimplyTypedNeutral z (spine_on es n) x → At m (spine_on es n) (map place_of (reverse rs) ++ ps) (map own_of (reverse rs) ++ qs) x
-    located m [] n t [] u ps qs a at p x q = subst (At m n ps qs) (neutral_has_one_type true z n t x p q) at
+    located m [] n t [] u ps qs a at p x q = subst (At m n ps qs) (neutral_has_one_type (no_holes true) z n t x p q) at
     located m [] n t (r ∷ rs) u ps qs a at p x q = absurd a
     located m (arg k o ∷ es) n (arrow l d c) [] u ps qs a at p x q = absurd a
     located m (arg k o ∷ es) n (arrow l d c) (r ∷ rs) u ps qs a at p x q =
         let (y, i) = inner_type es (app k n o) x q in
-        let e : arrow l d c ≡ arrow k i.0 y = neutral_has_one_type true z n (arrow l d c) (arrow k i.0 y) p i.1 in
+        let e : arrow l d c ≡ arrow k i.0 y = neutral_has_one_type (no_holes true) z n (arrow l d c) (arrow k i.0 y) p i.1 in
         let typed : SimplyTyped z o d = subst (SimplyTyped z o) (sym (domain_of e)) i.2 in
         let here : At m (app k n o) (place_of r ∷ ps) (own_of r ∷ qs) c = record {
           neutral = ap (λ h. app h n o) (a.0 ∙ sym a.1.mode) ∙ ap (λ h. app r.mode h o) at.neutral ∙ ap (app r.mode (on qs (head_alone (Meta m)))) (form_of d o l r a.1 typed);
