@@ -130,7 +130,7 @@ fn form(alloc: Global, before: &mut Items<Obj>, byte: u8) -> Option<Obj> {
 }
 
 /// The object of a text.
-fn object(alloc: Global, text: &str) -> Option<Obj> {
+pub fn object(alloc: Global, text: &str) -> Option<Obj> {
     let mut made = Items::new(alloc);
     for byte in text.as_bytes() {
         let next = form(alloc, &mut made, *byte)?;
@@ -165,7 +165,7 @@ fn type_form(alloc: Global, before: &mut Items<Simple>, byte: u8) -> Option<Simp
 }
 
 /// The simple type of a text.
-fn simple_type(alloc: Global, text: &str) -> Option<Simple> {
+pub fn simple_type(alloc: Global, text: &str) -> Option<Simple> {
     let mut made = Items::new(alloc);
     for byte in text.as_bytes() {
         let next = type_form(alloc, &mut made, *byte)?;
