@@ -23,7 +23,7 @@ is_end-not _ h = refl
 pub cursor-token : (text : List ℕ) (c : Cursor) (t : Token) → IsCursorOf text c → c.next ≡ Ok t → next_token text c.end ≡ Ok t
 cursor-token text c t h e = sym h.next ∙ e
 
--- the token that comes next stands in the text, behind the cursor
+-- the token that comes next stands in the text, after the cursor
 pub next-behind : (text : List ℕ) (c : Cursor) (t : Token) → IsCursorOf text c → c.next ≡ Ok t → c.end ≤ t.start
 next-behind text c t h e = (next_token-stands text c.end t h.within (cursor-token text c t h e)).behind
 

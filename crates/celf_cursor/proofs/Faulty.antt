@@ -98,7 +98,7 @@ pub binder-missed : (text : List ℕ) (c : Cursor) (k : List Symbol) (e : Stop)
 binder-missed text c k e h n (inl m) = subst (IsFaultOf text (Binder ∷ k) (state_of text c)) (sym m) fault_memory
 binder-missed text c k e h n (inr m) = fault-stops text c (Binder ∷ k) e h m.0 (binder-stops (state_of text c) k m.1 n)
 
--- a name that comes next, and a constant name, are not missed but for want of memory
+-- a name that comes next, and a constant name, are not missed but for lack of memory
 pub name-missed : (text : List ℕ) (c : Cursor) (j : List Symbol) (e : Stop) → is_name_kind (kind_next text c) ≡ true → MissesName text c e → IsFaultOf text j (state_of text c) e
 name-missed text c j e n (inl m) = subst (IsFaultOf text j (state_of text c)) (sym m) fault_memory
 name-missed text c j e n (inr m) = absurd (true≢false (sym n ∙ m.1))

@@ -19,7 +19,7 @@ pub name_kind : (k : TokenKind) → is_name_kind k ≡ true → (c : Bool) × (k
 name_kind (Name c) h = (c, refl)
 name_kind _ h = cc
 
--- The bytes of a name are a text, and so are those of a constant name behind its $.
+-- The bytes of a name are a text, and so are those of a constant name after its $.
 pub name-text : (text : List ℕ) (c : Cursor) (t : Token) → IsCursorOf text c → c.next ≡ Ok t → is_name_kind t.kind ≡ true → IsUtf8 (lexeme_of text t).spelling
 name-text text c t h e k =
     let n = name_kind t.kind k in

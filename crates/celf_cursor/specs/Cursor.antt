@@ -25,7 +25,7 @@ state_of text c = record { rest = tokens_on text c.next; room = c.room; end = c.
 abbrev pub kind_next : List ℕ → Cursor → TokenKind
 kind_next text c = next_kind (state_of text c).rest
 
--- The cursor stands in the text: its next token is the first one behind the last that was taken.
+-- The cursor stands in the text: its next token is the first one after the last that was taken.
 pub record IsCursorOf (text : List ℕ) (c : Cursor) : Type 0 where
   pub size : length text ≤ size_limit
   pub within : c.end ≤ length text
@@ -35,7 +35,7 @@ pub record IsCursorOf (text : List ℕ) (c : Cursor) : Type 0 where
 abbrev pub star_limit : ℕ
 star_limit = 4096
 
--- how many `*` are open behind a closing sign, of those before the part and those at its end: braces give back the `*` of what they
+-- how many `*` are open after a closing sign, of those before the part and those at its end: braces give back the `*` of what they
 -- enclose. Other brackets give none back, since a product in parentheses may become as many functions as one without them.
 abbrev pub stars_behind : TokenKind → ℕ → ℕ → ℕ
 stars_behind RightBrace before within = before

@@ -8,12 +8,12 @@ use Rattle.celf_grammar.specs.Machine.{Symbol, unexpected, too_deep, lacking, ru
 use Rattle.celf_cursor.specs.declared.stop.Stop.{Stop}
 use Rattle.celf_cursor.specs.declared.stop.Stop.TheVariants.{Unexpected, TooDeep, Lex, NoMemory}
 
--- the byte behind the last of these tokens
+-- the byte after the last of these tokens
 abbrev pub end_of : List Lexeme → ℕ → ℕ
 end_of [] end = end
 end_of (t ∷ ts) end = end_of ts (t.start + length t.spelling)
 
--- the byte behind the last token of a state
+-- the byte after the last token of a state
 unfoldable pub last_end : State → ℕ
 last_end s = end_of s.rest s.end
 
@@ -22,7 +22,7 @@ abbrev pub span_in : Lexeme → Span
 span_in t = record { start = t.start; end = t.start + length t.spelling }
 
 -- The fault tells what the machine comes to that reads these symbols from a state on. Where the tokens of the text end before
--- all is read, it tells why none begins behind them. Want of memory tells nothing.
+-- all is read, it tells why none begins after them. Lack of memory tells nothing.
 pub data IsFaultOf : List ℕ → List Symbol → State → Stop → Type 0 where
   fault_unexpected : {text : List ℕ} {k : List Symbol} {s : State} {t : Lexeme} → runs k s ≡ unexpected t → IsFaultOf text k s (Unexpected (span_in t))
   fault_deep : {text : List ℕ} {k : List Symbol} {s : State} {t : Lexeme} → runs k s ≡ too_deep t → IsFaultOf text k s (TooDeep (span_in t))

@@ -14,7 +14,7 @@ pub struct Cursor {
     pub next: Result<Token, LexFault>,
     /// How many more nested parts may be opened.
     pub room: u32,
-    /// The byte behind the last token that was taken.
+    /// The byte after the last token that was taken.
     pub end: u32,
     /// How many signs `*` of products are open.
     pub stars: u32,
@@ -38,13 +38,14 @@ pub fn cursor_at(bytes: &[u8], at: u32, room: u32) -> Cursor
     }
 }
 
-/// The cursor behind the token that comes next.
+/// The cursor after the token that comes next.
 #[tactic(auto, using(crate::proofs::Cursors::advance_steps), unfolding(crate::specs::Cursor::state_of))]
 pub(crate) fn advance(bytes: &[u8], cursor: Cursor, token: Token, room: u32) -> Cursor
     requires cursor { IsCursorOf bytes.now cursor }
     requires next { cursor.next ≡ Ok token }
     requires kind { token.kind ≢ TokenKind.End }
-    ensures taken { TakesToken room (lexeme_of bytes.now token) (state_of bytes.now cursor) (state_of bytes.now result) }
+    ensures taken { TakesToken room (lexeme_of bytes.now token) (state_of bytes.now cursor)
+        (state_of bytes.now result) }
     ensures cursor { IsCursorOf bytes.now result }
     ensures further { cursor.end < result.end }
     ensures stars { result.stars ≡ cursor.stars }

@@ -8,8 +8,8 @@ use crate::kind::is_kind;
 use crate::stop::{Stop, too_deep, unexpected};
 use celf_lexer::{Token, TokenKind};
 
-/// The most `*` that may be open at a place. What a product becomes is dropped and gone through by recursion, once a factor, so the stack
-/// of the program would not hold many more: its memory has run out.
+/// The most `*` that may be open at a place. What a product becomes is dropped and gone through by recursion, once a
+/// factor, so the stack of the program would not hold many more: its memory has run out.
 const MAX_STARS: u32 = 4096;
 
 /// The token that comes next, of this kind.
@@ -58,7 +58,7 @@ pub fn open(bytes: &[u8], cursor: Cursor, kind: TokenKind) -> Result<Cursor, Sto
     Ok(advance(bytes, cursor, token, cursor.room - 1))
 }
 
-/// Takes the `*` that comes next, and opens it. One more than may be open is want of memory.
+/// Takes the `*` that comes next, and opens it. One more than may be open is lack of memory.
 pub fn open_star(bytes: &[u8], cursor: Cursor) -> Result<Cursor, Stop>
     requires cursor { IsCursorOf bytes.now cursor }
     requires kind { kind_next bytes.now cursor ≡ TokenKind.Star }
@@ -75,12 +75,14 @@ pub fn open_star(bytes: &[u8], cursor: Cursor) -> Result<Cursor, Stop>
     Ok(with_stars(bytes, behind, stars))
 }
 
-/// Takes a token of this kind, which ends a part: there is room as before it, and braces give back the `*` of what they enclose.
+/// Takes a token of this kind, which ends a part: there is room as before it, and braces give back the `*` of what they
+/// enclose.
 #[tactic(auto, using(crate::proofs::Cursors::close_steps))]
 pub fn close(bytes: &[u8], before: Cursor, cursor: Cursor, kind: TokenKind) -> Result<Cursor, Stop>
     requires cursor { IsCursorOf bytes.now cursor }
     requires kind { kind ≢ TokenKind.End }
-    ensures closed { IfOk result (λ c. Closes kind (state_of bytes.now before).room (state_of bytes.now cursor) (state_of bytes.now c)) }
+    ensures closed { IfOk result
+        (λ c. Closes kind (state_of bytes.now before).room (state_of bytes.now cursor) (state_of bytes.now c)) }
     ensures cursor { IfOk result (IsCursorOf bytes.now) }
     ensures further { IfOk result (λ c. cursor.end < c.end) }
     ensures stars { IfOk result (λ c. c.stars ≡ stars_behind kind before.stars cursor.stars) }
@@ -91,7 +93,7 @@ pub fn close(bytes: &[u8], before: Cursor, cursor: Cursor, kind: TokenKind) -> R
     Ok(with_stars(bytes, behind, stars_left(kind, before.stars, cursor.stars)))
 }
 
-/// How many `*` are open behind a closing sign.
+/// How many `*` are open after a closing sign.
 fn stars_left(kind: TokenKind, before: u32, within: u32) -> u32
     ensures { result ≡ stars_behind kind before within }
 {

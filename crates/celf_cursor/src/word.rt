@@ -37,7 +37,7 @@ fn name_of(alloc: Global, bytes: &[u8], cursor: Cursor, token: Token) -> Result<
     }
 }
 
-/// The name behind the `$` that a token spells.
+/// The name after the `$` that a token spells.
 #[tactic(auto, using(crate::proofs::Words::constant_steps))]
 fn constant_of(
     alloc: Global,

@@ -35,7 +35,7 @@ read_step sig ls s = option_map (with_mode (pattern_modes (entries_of_step sig l
 abbrev pub behind_step : PlainSignature → List Local → PlainStep → List Local
 behind_step sig ls s = with_pattern ls (entries_of_step sig ls s) s.0
 
--- what is wanted of parts behind one of them
+-- what is wanted of parts after one of them
 abbrev pub later_parts : {X : Type 0} → List (Mode × SimpleType) → X → List (Mode × SimpleType)
 later_parts ps x = (next_part ps).later
 

@@ -35,7 +35,7 @@ abbrev pub with_pattern : List Local → List (Mode × SimpleType) → List PBin
 with_pattern ls ps [] = ls
 with_pattern ls ps (b ∷ bs) = with_pattern ((b.name, (next_part ps).place) ∷ ls) (next_part ps).later bs
 
--- the locals behind some steps
+-- the locals after some steps
 abbrev pub with_steps : PlainSignature → List Local → DesugaredSteps → List Local
 with_steps sig ls no_steps = ls
 with_steps sig ls (step p h es ss) = with_steps sig (with_pattern ls (step_entries sig ls h es) p) ss

@@ -24,8 +24,8 @@ use clf_syntax::{Kind, Name, Obj, OrWide, Shortage, Simple, Tele, TeleEntry, Ty}
 use sqlite_items::{Boxed, Items};
 use std::alloc::{AllocError, Global};
 
-/// The core of an item over a signature; none exactly where it is not explicit. The fault is the first name of the item that has no meaning
-/// at its place.
+/// The core of an item over a signature; none exactly where it is not explicit. The fault is the first name of the item
+/// that has no meaning at its place.
 pub fn explicit(
     alloc: Global,
     sig: &Signature,
@@ -44,7 +44,8 @@ pub fn explicit(
 
 /// The core of what an item says.
 fn core_of_body(alloc: Global, sig: &Signature, body: &PlainBody) -> Result<Option<Core>, Shortage>
-    ensures { IfOk result (λ core. option_map plain_core core ≡ spec.core_of_body (plain_signature sig.now) (body_of body.now)) }
+    ensures { IfOk result
+        (λ core. option_map plain_core core ≡ spec.core_of_body (plain_signature sig.now) (body_of body.now)) }
 {
     let mut locals = Locals::new(alloc);
     match body {
@@ -79,7 +80,10 @@ fn declared(
     implicit: u32,
     class: &PClass,
 ) -> Result<Option<Core>, Shortage>
-    ensures { IfOk result (λ core. option_map plain_core core ≡ option_map (λ c. declares name.now (spec.entry_of implicit c)) (spec.read_class (plain_signature sig.now) (class_of class.now))) }
+    ensures { IfOk result (λ core.
+        option_map plain_core core
+        ≡ option_map (λ c. declares name.now (spec.entry_of implicit c))
+        (spec.read_class (plain_signature sig.now) (class_of class.now))) }
 {
     let name = name.copy(alloc)?;
     let class = class_read(alloc, sig, class)?;
@@ -87,7 +91,8 @@ fn declared(
 }
 
 fn declaration(name: Name, implicit: u32, class: Option<Class>) -> Option<Core>
-    ensures { option_map plain_core result ≡ option_map (λ c. declares name (spec.entry_of implicit c)) (option_map plain_class class) }
+    ensures { option_map plain_core result
+        ≡ option_map (λ c. declares name (spec.entry_of implicit c)) (option_map plain_class class) }
 {
     let class = class?;
     Some(Core::Declare {
@@ -98,7 +103,8 @@ fn declaration(name: Name, implicit: u32, class: Option<Class>) -> Option<Core>
 
 /// A kind, by the telescope of its arguments, or a type.
 fn class_read(alloc: Global, sig: &Signature, class: &PClass) -> Result<Option<Class>, Shortage>
-    ensures { IfOk result (λ c. option_map plain_class c ≡ spec.read_class (plain_signature sig.now) (class_of class.now)) }
+    ensures { IfOk result
+        (λ c. option_map plain_class c ≡ spec.read_class (plain_signature sig.now) (class_of class.now)) }
 {
     let mut locals = Locals::new(alloc);
     match class {
@@ -116,7 +122,8 @@ fn constant(ty: Option<Ty>) -> Option<Class>
 
 #[tactic(auto, using(clf_syntax::specs::PlainTypes::plain_type_laws, crate::specs::Parts::kind_laws))]
 fn family(alloc: Global, tele: Option<Tele>) -> Result<Option<Class>, Shortage>
-    ensures { IfOk result (λ c. option_map plain_class c ≡ option_map (λ s. family_of (kind_of s)) (option_map plain_tele tele)) }
+    ensures { IfOk result
+        (λ c. option_map plain_class c ≡ option_map (λ s. family_of (kind_of s)) (option_map plain_tele tele)) }
 {
     match tele {
         Some(tele) => {
@@ -167,7 +174,9 @@ fn object_at(
     simple: &Option<Boxed<Simple>>,
     obj: &PObj,
 ) -> Result<Option<Boxed<Obj>>, Shortage>
-    ensures { IfOk result (λ o. option_map plain_obj o ≡ read_object_of (plain_signature sig.now) [] (plain_place simple.now) (desugared_object obj.now)) }
+    ensures { IfOk result (λ o.
+        option_map plain_obj o
+        ≡ read_object_of (plain_signature sig.now) [] (plain_place simple.now) (desugared_object obj.now)) }
 {
     let mut locals = Locals::new(alloc);
     boxed(
@@ -187,7 +196,10 @@ fn place_of(simple: &Option<Boxed<Simple>>) -> Option<&Simple>
 
 /// The core of a check.
 fn checked(alloc: Global, sig: &Signature, obj: &PObj, ty: &PTy) -> Result<Option<Core>, Shortage>
-    ensures { IfOk result (λ core. option_map plain_core core ≡ spec.core_of_body (plain_signature sig.now) (check (desugared_object obj.now) (desugared_type ty.now))) }
+    ensures { IfOk result (λ core.
+        option_map plain_core core
+        ≡ spec.core_of_body (plain_signature sig.now)
+        (check (desugared_object obj.now) (desugared_type ty.now))) }
 {
     let simple = boxed(alloc, simple_of(alloc, sig, ty))?;
     let obj = object_at(alloc, sig, &simple, obj)?;
@@ -203,7 +215,10 @@ fn equation(
     right: &PObj,
     ty: &PTy,
 ) -> Result<Option<Core>, Shortage>
-    ensures { IfOk result (λ core. option_map plain_core core ≡ spec.core_of_body (plain_signature sig.now) (equal (desugared_object left.now) (desugared_object right.now) (desugared_type ty.now))) }
+    ensures { IfOk result (λ core.
+        option_map plain_core core
+        ≡ spec.core_of_body (plain_signature sig.now)
+        (equal (desugared_object left.now) (desugared_object right.now) (desugared_type ty.now))) }
 {
     let simple = boxed(alloc, simple_of(alloc, sig, ty))?;
     let left = object_at(alloc, sig, &simple, left)?;
@@ -214,7 +229,8 @@ fn equation(
 
 /// The core of a type without locals.
 fn type_read(alloc: Global, sig: &Signature, ty: &PTy) -> Result<Option<Boxed<Ty>>, Shortage>
-    ensures { IfOk result (λ t. option_map plain_ty t ≡ read_type_of (plain_signature sig.now) [] (desugared_type ty.now)) }
+    ensures { IfOk result
+        (λ t. option_map plain_ty t ≡ read_type_of (plain_signature sig.now) [] (desugared_type ty.now)) }
 {
     let mut locals = Locals::new(alloc);
     boxed(alloc, read_type(ty, alloc, sig, &mut locals))
@@ -236,7 +252,10 @@ fn equation_core(
     right: Option<Boxed<Obj>>,
     ty: Option<Boxed<Ty>>,
 ) -> Option<Core>
-    ensures { option_map plain_core result ≡ combined spec.equates_both (combined spec.both_objects (option_map plain_obj left) (option_map plain_obj right)) (option_map plain_ty ty) }
+    ensures { option_map plain_core result
+        ≡ combined spec.equates_both
+        (combined spec.both_objects (option_map plain_obj left) (option_map plain_obj right))
+        (option_map plain_ty ty) }
 {
     let left = left?;
     let right = right?;

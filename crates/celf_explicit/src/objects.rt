@@ -27,7 +27,8 @@ use clf_syntax::{Elim, Modes, Neutral, Obj, Or, Shortage, Simple, SimpleEntry, S
 use sqlite_items::Items;
 use std::alloc::Global;
 
-/// The core of an object at a place, under these locals; none where something would have to be found, or where a name in it has no meaning.
+/// The core of an object at a place, under these locals; none where something would have to be found, or where a name
+/// in it has no meaning.
 #[cycle(read)]
 #[tactic(auto, using(celf_names::proofs::Forms::object_laws, crate::proofs::Forms::core_object_laws, crate::specs::Lists::object_list_laws))]
 pub fn read_object<'a>(
@@ -37,7 +38,10 @@ pub fn read_object<'a>(
     place: Option<&'a Simple>,
     locals: &mut Locals<'a>,
 ) -> Result<Option<Obj>, Shortage>
-    ensures read { IfOk result (λ o. option_map plain_obj o ≡ spec.read_object (plain_signature sig.now) (plain_locals locals.old) (plain_place (option_copied place.entry)) (desugared_object obj.now)) }
+    ensures read { IfOk result (λ o.
+        option_map plain_obj o
+        ≡ spec.read_object (plain_signature sig.now) (plain_locals locals.old)
+        (plain_place (option_copied place.entry)) (desugared_object obj.now)) }
     ensures kept { OnOk result (locals.new ≡ locals.old) }
 {
     match &obj.form {
@@ -87,8 +91,13 @@ fn read_neutral<'a>(
     found: Option<Found<'a>>,
     locals: &mut Locals<'a>,
 ) -> Result<Option<Neutral>, Shortage>
-    ensures read { IfOk result (λ n. option_map plain_neutral n ≡ combined spec.under_spine (option_map (λ h. (h.head, plain_place (option_copied h.place))) found.entry)
-        (spec.read_spine (plain_signature sig.now) (plain_locals locals.old) (place_of_head (option_map (λ h. (h.head, plain_place (option_copied h.place))) found.entry)) (spine_of (map desugared_elim spine.now)))) }
+    ensures read { IfOk result (λ n.
+        option_map plain_neutral n
+        ≡ combined spec.under_spine
+        (option_map (λ h. (h.head, plain_place (option_copied h.place))) found.entry) (spec.read_spine
+        (plain_signature sig.now) (plain_locals locals.old)
+        (place_of_head (option_map (λ h. (h.head, plain_place (option_copied h.place))) found.entry))
+        (spine_of (map desugared_elim spine.now)))) }
     ensures kept { OnOk result (locals.new ≡ locals.old) }
 {
     match found {
@@ -106,7 +115,10 @@ fn long(
     neutral: Option<Neutral>,
     place: Option<&Simple>,
 ) -> Result<Option<Obj>, Shortage>
-    ensures { IfOk result (λ o. option_map plain_obj o ≡ option_map (spec.long_at (plain_place (option_copied place.entry))) (option_map plain_neutral neutral)) }
+    ensures { IfOk result (λ o.
+        option_map plain_obj o
+        ≡ option_map (spec.long_at (plain_place (option_copied place.entry)))
+        (option_map plain_neutral neutral)) }
 {
     match neutral {
         Some(neutral) => Ok(Some(long_neutral(alloc, neutral, place)?)),
@@ -117,7 +129,8 @@ fn long(
 /// At a family a neutral stays as it is, and is not copied: so a deep object is read in time linear in its size.
 #[tactic(auto, using(clf_syntax::specs::Plain::plain_laws, clf_syntax::specs::PlainSimple::plain_simple_laws))]
 fn long_neutral(alloc: Global, neutral: Neutral, place: Option<&Simple>) -> Result<Obj, Shortage>
-    ensures { IfOk result (λ o. plain_obj o ≡ spec.long_at (plain_place (option_copied place.entry)) (plain_neutral neutral)) }
+    ensures { IfOk result
+        (λ o. plain_obj o ≡ spec.long_at (plain_place (option_copied place.entry)) (plain_neutral neutral)) }
 {
     match place {
         None | Some(Simple::Atom(_)) => Ok(Obj::At { neutral }),
@@ -149,7 +162,10 @@ fn read_spine<'a>(
     place: Option<&'a Simple>,
     locals: &mut Locals<'a>,
 ) -> Result<Option<Items<Elim>>, Shortage>
-    ensures read { IfOk result (λ es. option_map (map plain_elim) es ≡ read_along (spec.read_act (plain_signature sig.now) (plain_locals locals.old)) behind_act_of (plain_place (option_copied place.entry)) (map desugared_elim spine.now)) }
+    ensures read { IfOk result (λ es.
+        option_map (map plain_elim) es
+        ≡ read_along (spec.read_act (plain_signature sig.now) (plain_locals locals.old)) behind_act_of
+        (plain_place (option_copied place.entry)) (map desugared_elim spine.now)) }
     ensures kept { OnOk result (locals.new ≡ locals.old) }
 {
     let mut elims = Items::new(alloc);
@@ -173,7 +189,10 @@ fn read_act<'a>(
     place: Option<&'a Simple>,
     locals: &mut Locals<'a>,
 ) -> Result<Option<Elim>, Shortage>
-    ensures read { IfOk result (λ e. option_map plain_elim e ≡ spec.read_act (plain_signature sig.now) (plain_locals locals.old) (plain_place (option_copied place.entry)) (desugared_elim act.now)) }
+    ensures read { IfOk result (λ e.
+        option_map plain_elim e
+        ≡ spec.read_act (plain_signature sig.now) (plain_locals locals.old)
+        (plain_place (option_copied place.entry)) (desugared_elim act.now)) }
     ensures kept { OnOk result (locals.new ≡ locals.old) }
 {
     match act {
@@ -197,8 +216,12 @@ fn read_expression<'a>(
     wanted: &'a [SimpleEntry],
     locals: &mut Locals<'a>,
 ) -> Result<Option<Obj>, Shortage>
-    ensures read { IfOk result (λ o. option_map plain_obj o ≡ combined spec.expression_of (spec.read_steps (plain_signature sig.now) (plain_locals locals.old) (desugared_expression expr.now).0)
-        (spec.read_tuple (plain_signature sig.now) (spec.with_steps (plain_signature sig.now) (plain_locals locals.old) (desugared_expression expr.now).0) (map plain_simple_entry wanted.now) (desugared_expression expr.now).1)) }
+    ensures read { IfOk result (λ o.
+        option_map plain_obj o
+        ≡ combined spec.expression_of (spec.read_steps (plain_signature sig.now) (plain_locals locals.old)
+        (desugared_expression expr.now).0) (spec.read_tuple (plain_signature sig.now) (spec.with_steps
+        (plain_signature sig.now) (plain_locals locals.old) (desugared_expression expr.now).0)
+        (map plain_simple_entry wanted.now) (desugared_expression expr.now).1)) }
     ensures grown { OnOk result (GrownFrom locals.old locals.new) }
 {
     let mut steps = Items::new(alloc);
@@ -221,8 +244,11 @@ fn read_step<'a>(
     sig: &'a Signature,
     locals: &mut Locals<'a>,
 ) -> Result<Option<Step>, Shortage>
-    ensures read { IfOk result (λ s. option_map plain_step s ≡ read_step_of (plain_signature sig.now) (plain_locals locals.old) (desugared_step written.now)) }
-    ensures bound { OnOk result (plain_locals locals.new ≡ behind_step (plain_signature sig.now) (plain_locals locals.old) (desugared_step written.now)) }
+    ensures read { IfOk result (λ s.
+        option_map plain_step s
+        ≡ read_step_of (plain_signature sig.now) (plain_locals locals.old) (desugared_step written.now)) }
+    ensures bound { OnOk result (plain_locals locals.new
+        ≡ behind_step (plain_signature sig.now) (plain_locals locals.old) (desugared_step written.now)) }
     ensures grown { OnOk result (GrownFrom locals.old locals.new) }
 {
     let found = head_of(sig, locals, &written.head)?;
@@ -234,7 +260,8 @@ fn read_step<'a>(
 
 /// The simple type of a head.
 fn place_of<'a>(found: Option<Found<'a>>) -> Option<&'a Simple>
-    ensures { plain_place (option_copied result) ≡ place_of_head (option_map (λ h. (h.head, plain_place (option_copied h.place))) found.entry) }
+    ensures { plain_place (option_copied result)
+        ≡ place_of_head (option_map (λ h. (h.head, plain_place (option_copied h.place))) found.entry) }
 {
     let found = found?;
     found.place
@@ -248,7 +275,8 @@ fn bind_pattern<'a>(
     locals: &mut Locals<'a>,
 ) -> Result<Modes, Shortage>
     ensures modes { IfOk result (λ ms. ms ≡ spec.pattern_modes (map plain_simple_entry entries.now) pattern.now) }
-    ensures bound { OnOk result (plain_locals locals.new ≡ spec.with_pattern (plain_locals locals.old) (map plain_simple_entry entries.now) pattern.now) }
+    ensures bound { OnOk result (plain_locals locals.new
+        ≡ spec.with_pattern (plain_locals locals.old) (map plain_simple_entry entries.now) pattern.now) }
     ensures grown { OnOk result (GrownFrom locals.old locals.new) }
 {
     let mut modes = Modes::empty(alloc);
@@ -270,7 +298,10 @@ fn read_tuple<'a>(
     wanted: &'a [SimpleEntry],
     locals: &mut Locals<'a>,
 ) -> Result<Option<Items<TupleEntry>>, Shortage>
-    ensures read { IfOk result (λ es. option_map (map plain_entry) es ≡ read_along (read_marked_of (plain_signature sig.now) (plain_locals locals.old)) later_parts (map plain_simple_entry wanted.now) (map desugared_marked tuple.now)) }
+    ensures read { IfOk result (λ es.
+        option_map (map plain_entry) es
+        ≡ read_along (read_marked_of (plain_signature sig.now) (plain_locals locals.old)) later_parts
+        (map plain_simple_entry wanted.now) (map desugared_marked tuple.now)) }
     ensures kept { OnOk result (locals.new ≡ locals.old) }
 {
     let mut entries = Items::new(alloc);
@@ -294,7 +325,10 @@ fn read_marked<'a>(
     wanted: &'a [SimpleEntry],
     locals: &mut Locals<'a>,
 ) -> Result<Option<TupleEntry>, Shortage>
-    ensures read { IfOk result (λ e. option_map plain_entry e ≡ read_marked_of (plain_signature sig.now) (plain_locals locals.old) (map plain_simple_entry wanted.now) (desugared_marked entry.now)) }
+    ensures read { IfOk result (λ e.
+        option_map plain_entry e
+        ≡ read_marked_of (plain_signature sig.now) (plain_locals locals.old) (map plain_simple_entry wanted.now)
+        (desugared_marked entry.now)) }
     ensures kept { OnOk result (locals.new ≡ locals.old) }
 {
     let next = next_part(wanted);

@@ -23,7 +23,8 @@ pub fn lambda(mode: Mode, body: Option<Boxed<Obj>>) -> Option<Obj>
 
 #[tactic(auto, using(clf_syntax::specs::Plain::plain_laws))]
 pub fn pair(left: Option<Boxed<Obj>>, right: Option<Boxed<Obj>>) -> Option<Obj>
-    ensures { option_map plain_obj result ≡ combined core.pair (option_map plain_obj left) (option_map plain_obj right) }
+    ensures { option_map plain_obj result
+        ≡ combined core.pair (option_map plain_obj left) (option_map plain_obj right) }
 {
     let left = left?;
     let right = right?;
@@ -32,7 +33,8 @@ pub fn pair(left: Option<Boxed<Obj>>, right: Option<Boxed<Obj>>) -> Option<Obj>
 
 /// A head with its spine.
 pub fn applied(head: Head, spine: Option<Items<Elim>>) -> Option<Neutral>
-    ensures { option_map plain_neutral result ≡ option_map (λ es. core.spine_on es (core.head_alone head)) (option_map (map plain_elim) spine) }
+    ensures { option_map plain_neutral result
+        ≡ option_map (λ es. core.spine_on es (core.head_alone head)) (option_map (map plain_elim) spine) }
 {
     let spine = spine?;
     Some(neutral(head, spine))
@@ -75,7 +77,9 @@ pub fn monadic(
     steps: Items<Step>,
     tuple: Option<Items<TupleEntry>>,
 ) -> Result<Option<Obj>, Shortage>
-    ensures { IfOk result (λ o. option_map plain_obj o ≡ option_map (spec.expression_of (map plain_step steps)) (option_map (map plain_entry) tuple)) }
+    ensures { IfOk result (λ o.
+        option_map plain_obj o
+        ≡ option_map (spec.expression_of (map plain_step steps)) (option_map (map plain_entry) tuple)) }
 {
     match tuple {
         Some(tuple) => {
@@ -94,7 +98,8 @@ pub fn monadic(
 
 #[tactic(auto, using(clf_syntax::specs::PlainTypes::plain_type_laws))]
 pub fn function(mode: Mode, dom: Option<Boxed<Ty>>, cod: Option<Boxed<Ty>>) -> Option<Ty>
-    ensures { option_map plain_ty result ≡ combined (core_type.function mode) (option_map plain_ty dom) (option_map plain_ty cod) }
+    ensures { option_map plain_ty result
+        ≡ combined (core_type.function mode) (option_map plain_ty dom) (option_map plain_ty cod) }
 {
     let dom = dom?;
     let cod = cod?;
@@ -103,7 +108,8 @@ pub fn function(mode: Mode, dom: Option<Boxed<Ty>>, cod: Option<Boxed<Ty>>) -> O
 
 #[tactic(auto, using(clf_syntax::specs::PlainTypes::plain_type_laws))]
 pub fn both(left: Option<Boxed<Ty>>, right: Option<Boxed<Ty>>) -> Option<Ty>
-    ensures { option_map plain_ty result ≡ combined core_type.both (option_map plain_ty left) (option_map plain_ty right) }
+    ensures { option_map plain_ty result
+        ≡ combined core_type.both (option_map plain_ty left) (option_map plain_ty right) }
 {
     let left = left?;
     let right = right?;
@@ -137,7 +143,8 @@ pub fn telescope_entry(mode: Mode, ty: Option<Ty>) -> Option<TeleEntry>
 
 #[tactic(auto, using(crate::proofs::Forms::telescope_made))]
 pub fn telescope(entries: Option<Items<TeleEntry>>) -> Option<Tele>
-    ensures { option_map plain_tele result ≡ option_map core_type.telescope_of (option_map (map plain_tele_entry) entries) }
+    ensures { option_map plain_tele result
+        ≡ option_map core_type.telescope_of (option_map (map plain_tele_entry) entries) }
 {
     let entries = entries?;
     Some(Tele { entries })

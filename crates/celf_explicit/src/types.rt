@@ -19,7 +19,8 @@ use clf_syntax::{Name, Obj, Shortage, Simple, SimpleEntry, Tele, TeleEntry, Ty};
 use sqlite_items::{Boxed, Items};
 use std::alloc::Global;
 
-/// The core of a type under these locals; none where something would have to be found, or where a name in it has no meaning.
+/// The core of a type under these locals; none where something would have to be found, or where a name in it has no
+/// meaning.
 #[cycle(types)]
 #[tactic(auto, using(celf_names::proofs::Forms::type_laws, crate::proofs::Forms::core_type_laws))]
 pub fn read_type<'a>(
@@ -28,7 +29,9 @@ pub fn read_type<'a>(
     sig: &'a Signature,
     locals: &mut Locals<'a>,
 ) -> Result<Option<Ty>, Shortage>
-    ensures read { IfOk result (λ t. option_map plain_ty t ≡ spec.read_type (plain_signature sig.now) (plain_locals locals.old) (desugared_type ty.now)) }
+    ensures read { IfOk result (λ t.
+        option_map plain_ty t
+        ≡ spec.read_type (plain_signature sig.now) (plain_locals locals.old) (desugared_type ty.now)) }
     ensures kept { OnOk result (locals.new ≡ locals.old) }
 {
     match &ty.form {
@@ -70,7 +73,10 @@ fn read_under<'a>(
     simple: Option<Boxed<Simple>>,
     locals: &mut Locals<'a>,
 ) -> Result<Option<Ty>, Shortage>
-    ensures read { IfOk result (λ t. option_map plain_ty t ≡ spec.read_type (plain_signature sig.now) ((name.now, plain_place simple) ∷ plain_locals locals.old) (desugared_type ty.now)) }
+    ensures read { IfOk result (λ t.
+        option_map plain_ty t
+        ≡ spec.read_type (plain_signature sig.now) ((name.now, plain_place simple) ∷ plain_locals locals.old)
+        (desugared_type ty.now)) }
     ensures kept { OnOk result (locals.new ≡ locals.old) }
 {
     match simple {
@@ -84,7 +90,8 @@ fn read_under<'a>(
     }
 }
 
-/// The core of a type under a local of this simple type. The locals are copied, since they need not last as long as the others.
+/// The core of a type under a local of this simple type. The locals are copied, since they need not last as long as the
+/// others.
 #[cycle(types)]
 fn read_inner<'a>(
     ty: &'a PTy,
@@ -94,7 +101,10 @@ fn read_inner<'a>(
     simple: &'a Simple,
     outer: &Locals<'a>,
 ) -> Result<Option<Ty>, Shortage>
-    ensures { IfOk result (λ t. option_map plain_ty t ≡ spec.read_type (plain_signature sig.now) ((name.now, Some (plain_simple simple.now)) ∷ plain_locals outer.now) (desugared_type ty.now)) }
+    ensures { IfOk result (λ t.
+        option_map plain_ty t
+        ≡ spec.read_type (plain_signature sig.now)
+        ((name.now, Some (plain_simple simple.now)) ∷ plain_locals outer.now) (desugared_type ty.now)) }
 {
     let mut inner = outer.copy(alloc)?;
     inner.push(name, Some(simple))?;
@@ -110,7 +120,10 @@ pub fn read_telescope<'a>(
     sig: &'a Signature,
     locals: &mut Locals<'a>,
 ) -> Result<Option<Tele>, Shortage>
-    ensures read { IfOk result (λ s. option_map plain_tele s ≡ spec.read_telescope (plain_signature sig.now) (plain_locals locals.old) (desugared_telescope tele.now)) }
+    ensures read { IfOk result (λ s.
+        option_map plain_tele s
+        ≡ spec.read_telescope (plain_signature sig.now) (plain_locals locals.old)
+        (desugared_telescope tele.now)) }
     ensures kept { OnOk result (locals.new ≡ locals.old) }
 {
     let simples = bound_simples(alloc, sig, tele.entries.as_slice())?;
@@ -124,7 +137,8 @@ pub fn read_telescope<'a>(
     Ok(telescope(entries))
 }
 
-/// The cores of entries that bind these simple types. The locals are copied, since they need not last as long as the others.
+/// The cores of entries that bind these simple types. The locals are copied, since they need not last as long as the
+/// others.
 #[cycle(types)]
 fn read_entries<'a>(
     entries: &'a [PEntry],
@@ -133,8 +147,12 @@ fn read_entries<'a>(
     simples: &'a [Option<Boxed<Simple>>],
     outer: &Locals<'a>,
 ) -> Result<Option<Items<TeleEntry>>, Shortage>
-    requires { map plain_place simples.now ≡ map (bound_place (plain_signature sig.now)) (map desugared_entry entries.now) }
-    ensures { IfOk result (λ es. option_map (map plain_tele_entry) es ≡ read_along (read_entry_of (plain_signature sig.now)) (behind_entry (plain_signature sig.now)) (plain_locals outer.now) (map desugared_entry entries.now)) }
+    requires { map plain_place simples.now
+        ≡ map (bound_place (plain_signature sig.now)) (map desugared_entry entries.now) }
+    ensures { IfOk result (λ es.
+        option_map (map plain_tele_entry) es
+        ≡ read_along (read_entry_of (plain_signature sig.now)) (behind_entry (plain_signature sig.now))
+        (plain_locals outer.now) (map desugared_entry entries.now)) }
 {
     let mut locals = outer.copy(alloc)?;
     let mut read = Items::new(alloc);
@@ -166,7 +184,9 @@ fn read_entry<'a>(
     sig: &'a Signature,
     locals: &mut Locals<'a>,
 ) -> Result<Option<TeleEntry>, Shortage>
-    ensures read { IfOk result (λ e. option_map plain_tele_entry e ≡ read_entry_of (plain_signature sig.now) (plain_locals locals.old) (desugared_entry entry.now)) }
+    ensures read { IfOk result (λ e.
+        option_map plain_tele_entry e
+        ≡ read_entry_of (plain_signature sig.now) (plain_locals locals.old) (desugared_entry entry.now)) }
     ensures kept { OnOk result (locals.new ≡ locals.old) }
 {
     let ty = read_type(&entry.ty, alloc, sig, locals)?;
@@ -181,7 +201,10 @@ fn at_indices<'a>(
     head: u32,
     indices: &'a [PObj],
 ) -> Result<Option<Ty>, Shortage>
-    ensures read { IfOk result (λ t. option_map plain_ty t ≡ spec.at_indices (plain_signature sig.now) (plain_locals locals.old) (map desugared_object indices.now) head) }
+    ensures read { IfOk result (λ t.
+        option_map plain_ty t
+        ≡ spec.at_indices (plain_signature sig.now) (plain_locals locals.old) (map desugared_object indices.now)
+        head) }
     ensures kept { OnOk result (locals.new ≡ locals.old) }
 {
     // Most families stand alone, and then nothing of the locals is needed.
@@ -202,7 +225,10 @@ fn read_indices<'a>(
     wanted: &'a [SimpleEntry],
     outer: &Locals<'a>,
 ) -> Result<Option<Items<Obj>>, Shortage>
-    ensures { IfOk result (λ os. option_map (map plain_obj) os ≡ spec.read_indices (plain_signature sig.now) (plain_locals outer.now) (map plain_simple_entry wanted.now) (map desugared_object indices.now)) }
+    ensures { IfOk result (λ os.
+        option_map (map plain_obj) os
+        ≡ spec.read_indices (plain_signature sig.now) (plain_locals outer.now)
+        (map plain_simple_entry wanted.now) (map desugared_object indices.now)) }
 {
     let mut locals = outer.copy(alloc)?;
     let mut read = Items::new(alloc);

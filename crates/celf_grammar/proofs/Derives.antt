@@ -55,7 +55,7 @@ Reads Implicit s u = (i : Option BoundTree) × IsImplicit s i u
 Reads Body s u = (b : BodyTree) × IsBody s b u
 Reads Item s u = (i : WrittenItem) × IsItem s i u
 
--- Symbols stand one behind another.
+-- Symbols stand one after another.
 abbrev Derives : List Symbol → State → State → Type 0
 Derives [] s u = s ≡ u
 Derives (x ∷ k) s u = (v : State) × Reads x s v × Derives k v u
@@ -158,14 +158,14 @@ step-joins k s a u h d =
     let p = d.1 in let e = d.2 in let o = e.2 in let i = o.2 in let x = i.2 in
     (x.0, (λ r xs l. x.1 r _ (steps_more l (step_let h p.3 p.4 p.5 e.1 o.1.1 i.1))), x.2)
 
--- what holds behind a token, by what the token did
+-- what holds after a token, by what the token did
 abbrev Leads : Fed → Lexeme → List Lexeme → ℕ → State → Type 0
 Leads (next k room) t ts end u = Derives k (record { rest = ts; room = room; end = t.start + length t.spelling }) u
 Leads (done room) t ts end u = record { rest = t ∷ ts; room = room; end = end } ≡ u
 Leads stops t ts end u = ⊥
 Leads deep t ts end u = ⊥
 
--- One token, those behind it, the end of the one before it, and where the reading comes to.
+-- One token, those after it, the end of the one before it, and where the reading comes to.
 module _ (t : Lexeme) (ts : List Lexeme) (end : ℕ) (u : State) where
   abbrev Then : Fed → Type 0
   Then f = Leads f t ts end u

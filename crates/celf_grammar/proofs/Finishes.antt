@@ -62,7 +62,7 @@ quiet token.BackArrow = false
 quiet token.BackLolli = false
 quiet c = not (begins_argument c)
 
--- A symbol may stand before a token of this kind: it does not take that token for its own. A brace behind let opens a part.
+-- A symbol may stand before a token of this kind: it does not take that token for its own. A brace after let opens a part.
 abbrev may_precede : Symbol → TokenKind → Bool
 may_precede (Expect d) c = true
 may_precede (Close d before) c = true
@@ -87,7 +87,7 @@ abbrev pub well : List Symbol → Bool
 well [] = true
 well (x ∷ k) = may_precede x (next_kind (finish k)) && well k
 
--- the same where the brace behind let may be next
+-- the same where the brace after let may be next
 abbrev pub well_or_let : List Symbol → Bool
 well_or_let (LetPattern ∷ k) = well k
 well_or_let k = well k
@@ -96,7 +96,7 @@ well-either : (k : List Symbol) → well k ≡ true → well_or_let k ≡ true
 well-either (LetPattern ∷ k) h = absurd (true≢false (sym h))
 well-either k h = h
 
--- What a token leads to can be finished, and only behind let does that open a part. A token for which there is no room opens one.
+-- What a token leads to can be finished, and only after let does that open a part. A token for which there is no room opens one.
 abbrev pub Sound : TokenKind → Fed → Type 0
 Sound c (next k room) = (well_or_let k ≡ true) × (is_let c ≡ false → well k ≡ true)
 Sound c (done room) = Unit {0}
@@ -414,7 +414,7 @@ finished (Implicit ∷ k) room end h =
 finished (Body ∷ k) room end h = skip (type-ends (finish k) room 0 (may Whole k h) k) (finished k room 0 (rest-well Whole k h))
 finished (Item ∷ k) room end h = finished k room 0 h
 
--- Behind let, there must be room for one part.
+-- After let, there must be room for one part.
 pub finished-within : (k : List Symbol) (room end : ℕ) → well_or_let k ≡ true → is_accepted (runs k (at (finish k) (suc room) end)) ≡ true
 unfolding runs
 finished-within (LetPattern ∷ k) room end h = finished k (suc room) 0 h

@@ -36,7 +36,7 @@ implicit-same (implicit_none h) (implicit_none g) e = (refl, e)
 implicit-same (implicit_count a n b) (implicit_none h) e = none-begins is_left_bracket h (sym e) (ap is_left_bracket (kind-taken a.taken a.kind))
 implicit-same (implicit_none h) (implicit_count a n b) e = none-begins is_left_bracket h e (ap is_left_bracket (kind-taken a.taken a.kind))
 
--- the letter behind the # of a directive, by which bodies are told apart; 0 at another token
+-- the letter after the # of a directive, by which bodies are told apart; 0 at another token
 abbrev letter_in : TokenKind → List ℕ → ℕ
 letter_in token.Directive (a ∷ b ∷ w) = b
 letter_in _ _ = 0

@@ -67,7 +67,7 @@ type_atom-form (atomty_one h) = ap type_atom_at (kind-taken h.taken h.kind)
 type_atom-form (atomty_braces h x c) = ap type_atom_at (kind-taken h.taken h.kind)
 type_atom-form (atomty_group h x c) = ap type_atom_at (kind-taken h.taken h.kind)
 
--- one more arrow to the left behind a type that begins at s
+-- one more arrow to the left after a type that begins at s
 abbrev BackStep : State → WrittenType → State → WrittenType → State → Type 0
 BackStep s a u b w = (k : Arrow) × (c : WrittenType) × (v : State) × OpensArrow backward_of k u v × IsForward v c w × (b ≡ arrow (span_to s w) k a c)
 

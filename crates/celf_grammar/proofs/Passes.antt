@@ -32,7 +32,7 @@ pub passes-front : (front : List Lexeme) (t : Lexeme) (back : List Lexeme) (j : 
 passes-front [] t back j m k n p = (p.0, p.1, (p.0, p.1, p.2, (refl, refl)))
 passes-front (s ∷ front) t back j m k n p = let r = passes-front front t back p.0 p.1 k n p.3 in (r.0, r.1, (p.0, p.1, p.2, r.2))
 
--- Where a run comes to its verdict: behind the tokens that it took.
+-- Where a run comes to its verdict: after the tokens that it took.
 abbrev pub Comes : List Lexeme → List Symbol → ℕ → Verdict → Type 0
 Comes ts j m (accepted u) = Unit {0}
 Comes ts j m (unexpected t) = (front others : List Lexeme) × (ts ≡ front ++ (t ∷ others)) × (k : List Symbol) × (n : ℕ) × Passes front j m k n × (feed k n t ≡ stops)

@@ -18,7 +18,7 @@ use Rattle.celf_grammar.proofs.Lift.{lift, Lifted, feed-lifts, run-lifts, end-sa
 use Rattle.celf_grammar.proofs.Passes.{Passes, passes-run, passes-lift, passes-push, passes-front, Comes, run-comes}
 use Rattle.celf_grammar.proofs.Finishes.{finish, well, well_or_let, Sound, feed-sound, finished, finished-within, at}
 
--- Where an item stands, the machine accepts it, with what is left behind it.
+-- Where an item stands, the machine accepts it, with what is left after it.
 pub item-accepted : (s u : State) (i : WrittenItem) → IsItem s i u → runs (Item ∷ []) s ≡ accepted u
 item-accepted s u i h = item-accepts h [] ∙ runs-empty u
 

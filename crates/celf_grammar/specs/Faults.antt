@@ -42,13 +42,13 @@ opens_part _ = false
 abbrev pub StaysWithin : ℕ → List Lexeme → Type 0
 StaysWithin room ts = (front back : List Lexeme) (t : Lexeme) → ts ≡ front ++ (t ∷ back) → opens_part t.kind ≡ true → BeginsItem room (front ++ (t ∷ []))
 
--- The tokens begin an item, and with t behind them they begin none, however much room there is.
+-- The tokens begin an item, and with t after them they begin none, however much room there is.
 pub record IsUnexpected (room : ℕ) (ts : List Lexeme) (t : Lexeme) : Type 0 where
   pub within : StaysWithin room ts
   pub begins : (r : ℕ) × BeginsItem r ts
   pub ends : (r : ℕ) → BeginsItem r (ts ++ (t ∷ [])) → ⊥
 
--- With t behind them, which opens a part, the tokens begin no item, but they would if one more part might be open.
+-- With t after them, which opens a part, the tokens begin no item, but they would if one more part might be open.
 pub record IsTooDeep (room : ℕ) (ts : List Lexeme) (t : Lexeme) : Type 0 where
   pub within : StaysWithin room ts
   pub opening : opens_part t.kind ≡ true
@@ -80,11 +80,11 @@ VerdictIsOnly = (s : State) (v : Verdict) → Says s v → runs (Item ∷ []) s 
 abbrev pub TreeIsOne : Type 0
 TreeIsOne = (s u v : State) (i j : WrittenItem) → IsItem s i u → IsItem s j v → i ≡ j
 
--- What is left behind an item is determined.
+-- What is left after an item is determined.
 abbrev pub BehindIsOne : Type 0
 BehindIsOne = (s u v : State) (i j : WrittenItem) → IsItem s i u → IsItem s j v → u ≡ v
 
--- However much room there is for parts, the same tokens are read as one tree, and the same tokens are left behind it.
+-- However much room there is for parts, the same tokens are read as one tree, and the same tokens are left after it.
 abbrev pub TreeInAnyRoom : Type 0
 TreeInAnyRoom = (ts : List Lexeme) (end m n : ℕ) (u v : State) (i j : WrittenItem)
     → IsItem (record { rest = ts; room = m; end = end }) i u → IsItem (record { rest = ts; room = n; end = end }) j v → (i ≡ j) × (u.rest ≡ v.rest)

@@ -14,9 +14,9 @@ use Rattle.celf_grammar.specs.Grammar.{is_forward, is_backward, is_amp, is_star,
 pub data Symbol : Type 0 where
   -- a token of this kind
   Expect : TokenKind → Symbol
-  -- a token of this kind, behind which there is so much room
+  -- a token of this kind, after which there is so much room
   Close : TokenKind → ℕ → Symbol
-  -- nothing; behind it there is so much room
+  -- nothing; after it there is so much room
   Restore : ℕ → Symbol
   -- NAME
   NameWord : Symbol
@@ -91,7 +91,7 @@ is_one t = same_kind t.kind Number && bytes_eq t.spelling (codes "1")
 
 -- What a token does to what must still be read.
 pub data Fed : Type 0 where
-  -- it is taken: this must be read behind it, and there is so much room
+  -- it is taken: this must be read after it, and there is so much room
   next : List Symbol → ℕ → Fed
   -- nothing had to be read any more, and the token stays
   done : ℕ → Fed
@@ -105,7 +105,7 @@ abbrev pub opens : ℕ → List Symbol → Fed
 opens zero k = deep
 opens (suc n) k = next k n
 
--- In each of these k is what must be read behind the part that the token begins.
+-- In each of these k is what must be read after the part that the token begins.
 abbrev pub on_token : Bool → ℕ → List Symbol → Fed
 on_token b room k = if b then next k room else stops
 
@@ -288,7 +288,7 @@ at_end (AmpTail ∷ k) room end = at_end k room end
 at_end (Implicit ∷ k) room end = at_end k room end
 at_end (s ∷ k) room end = lacking
 
--- what comes of a token with others behind it, where go is the run of these
+-- what comes of a token with others after it, where go is the run of these
 abbrev pub after_token : Lexeme → List Lexeme → (List Symbol → ℕ → ℕ → Verdict) → ℕ → Fed → Verdict
 after_token t ts go end (next k room) = go k room (t.start + length t.spelling)
 after_token t ts go end (done room) = accepted (record { rest = t ∷ ts; room = room; end = end })

@@ -7,7 +7,7 @@ use Rattle.celf_surface.specs.declared.surface.Bound.{Bound}
 use Rattle.celf_surface.specs.declared.surface.Bound.TheVariants.{Number as NumberBound}
 use Rattle.celf_surface.specs.declared.surface.Span.{Span}
 
--- the tokens that are left, how many more nested parts may be opened, and the byte behind the last token that was taken
+-- the tokens that are left, how many more nested parts may be opened, and the byte after the last token that was taken
 pub record State : Type 0 where
   pub rest : List Lexeme
   pub room : ℕ
@@ -31,7 +31,7 @@ span_to s u = record { start = next_start s.rest; end = u.end }
 abbrev pub Ends : (TokenKind → Bool) → State → Type 0
 Ends kinds s = kinds (next_kind s.rest) ≡ false
 
--- The next token is t; behind it u stands, with so much room left.
+-- The next token is t; after it u stands, with so much room left.
 pub record TakesToken (left : ℕ) (t : Lexeme) (s u : State) : Type 0 where
   pub first : s.rest ≡ t ∷ u.rest
   pub room : u.room ≡ left
@@ -92,7 +92,7 @@ TakesOne = TakesWord Number (codes "1")
 abbrev pub TakesDirective : List ℕ → State → State → Type 0
 TakesDirective = TakesWord Directive
 
--- what digits spell behind a number
+-- what digits spell after a number
 abbrev pub digits_behind : ℕ → List ℕ → ℕ
 digits_behind n [] = n
 digits_behind n (d ∷ ds) = digits_behind (n * 10 + (d - 48)) ds

@@ -14,7 +14,7 @@ use Rattle.celf_lexer.proofs.Bounds.{same_bytes-equal}
 use Rattle.celf_lexer.proofs.Splits.{first, word_here-split, word_stops, word_parts, word_some, word_first, word_in-word, is_name-word, back_parts, back_word}
 use Rattle.celf_lexer.proofs.Signs.{member_passes, same_bytes-refl, FrontSign, sign_front-longest, signs_longer_first}
 
--- a sign whose first byte begins no word, no constant and nothing behind a hash, and that is short
+-- a sign whose first byte begins no word, no constant and nothing after a hash, and that is short
 abbrev sign_is_apart : List ℕ × TokenKind → Bool
 sign_is_apart s = not (begins_word (first s.0)) && not (first s.0 == 36) && not (first s.0 == 35) && nat_lt 0 (length s.0) && nat_le (length (word_in s.0)) 255
 
@@ -133,7 +133,7 @@ constant_is_front bs =
     (λ t. (36 ∷ w, a, parts, a_constant w a n stops, omega arith, longest, ltb-false 255 (length w) t)))
     (λ n k s after eq sp. absurd (both_ways (is_name w) n (constant_spelled bs sp eq).0))
 
--- which spellings stand at a #: the # and the word behind it
+-- which spellings stand at a #: the # and the word after it
 hash_spelled : (bs : List ℕ) → {k : TokenKind} {s after : List ℕ} → Spelled k s after → 35 ∷ bs ≡ s ++ after → (0 < length (word_here bs)) × (length s ≡ 1 + length (word_here bs))
 hash_spelled bs (a_word w after i e) eq = absurd (both_ways (begins_word (first (w ++ after))) (ap (λ b. begins_word (first b)) (sym eq)) (word_first w after i))
 hash_spelled bs (a_constant w after i e) eq = absurd (let x : 35 ≡ 36 = ap first eq in omega arith)

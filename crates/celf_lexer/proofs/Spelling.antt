@@ -1,4 +1,4 @@
--- Spelled texts have the tokens that they spell: blanks, words, names behind a $, signs, and the end.
+-- Spelled texts have the tokens that they spell: blanks, words, names after a $, signs, and the end.
 use Rattle.std.proofs.Common.{IsTrue, ℕ, ◌≡◌, ◌+◌, ◌-◌, ◌<◌, ◌≤◌, ◌==◌, suc, zero, nat_le, Bool, true, false, not, ◌&&◌, ◌||◌, refl, ap, sym, ◌∙◌, List, [], ◌∷◌, ◌++◌, length, take, drop, codes, arith}
 use Rattle.std.proofs.lemmas.Bool.{and_parts, or_parts, and_left, and_right, ne_eqb, leb-true, le-ltb, not-true}
 use Rattle.std.proofs.lemmas.List.{take_at, drop_at, length-append}

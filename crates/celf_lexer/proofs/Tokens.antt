@@ -12,7 +12,7 @@ use Rattle.celf_lexer.specs.Sign.{Front, token, long, bad, front}
 use Rattle.celf_lexer.specs.Tokens.{fault_byte, placed, first_of, next_token, Lexeme, is_end, token_first, tokens_within, tokens_of, tokens_from, tokens_at}
 use Rattle.celf_lexer.proofs.Bounds.{Grows, front-grows, gap-bound}
 
--- a token that stands at or behind a place, and ends at or before a limit: it has a byte, or is the end and stands at the limit
+-- a token that stands at or after a place, and ends at or before a limit: it has a byte, or is the end and stands at the limit
 pub record StandsWithin (at limit : ℕ) (t : Token) : Type 0 where
   pub behind : at ≤ t.start
   pub ordered : t.start ≤ t.end
@@ -55,7 +55,7 @@ unfolding front
 fault_stands at [] l e = cc
 fault_stands at (b ∷ bs) l e = placed_fault at (front (b ∷ bs)) (length (b ∷ bs)) l (front-grows b bs) e
 
--- A fault is told of a byte of the text, behind the place.
+-- A fault is said of a byte of the text, after the place.
 pub next_token-fault : (text : List ℕ) (at : ℕ) (l : LexFault) → at ≤ length text → next_token text at ≡ Err l → (at ≤ fault_byte l) × (fault_byte l < length text)
 unfolding first_of
 next_token-fault text at l h e =
@@ -63,7 +63,7 @@ next_token-fault text at l h e =
     let s = fault_stands (at + gap bytes) (drop (gap bytes) bytes) l e in
     (omega (arith, s.0), omega (arith, s.0, s.1, length-drop (gap bytes) bytes, length-drop at text))
 
--- The next token stands within the text, behind the place.
+-- The next token stands within the text, after the place.
 pub next_token-stands : (text : List ℕ) (at : ℕ) (t : Token) → at ≤ length text → next_token text at ≡ Ok t → StandsWithin at (length text) t
 next_token-stands text at t h e =
     let s : StandsWithin at (at + length (drop at text)) t = first_of-stands at (drop at text) t e in
@@ -143,7 +143,7 @@ pub IfOk-mono : {T E : Type 0} (P Q : T → Type 0) (r : Result T E) → ((t : T
 IfOk-mono P Q (Ok t) f p = f t p
 IfOk-mono P Q (Err e) f p = tt
 
--- where a fault is told
+-- where a fault is said
 pub next_token-err : (text : List ℕ) (at : ℕ) (r : Result Token LexFault) → at ≤ length text → r ≡ next_token text at
     → IfErr r (λ f. at ≤ fault_byte f) × IfErr r (λ f. fault_byte f < length text)
 next_token-err text at (Ok t) h e = (tt, tt)

@@ -55,11 +55,11 @@ of_word before word k = if nat_lt word_limit (length word) then long else token 
 abbrev pub word_front : List ℕ → List ℕ → Front
 word_front word rest = if is_back_lolli word rest then token kind.BackLolli 2 else of_word 0 word (word_kind word)
 
--- behind a $: the word has to be a name
+-- after a $: the word has to be a name
 abbrev pub constant_front : List ℕ → Front
 constant_front word = if is_name word then of_word 1 word kind.ConstName else bad
 
--- behind a #: a projection or a directive
+-- after a #: a projection or a directive
 abbrev pub hash_kind : List ℕ → TokenKind
 hash_kind word = if same_bytes word (codes "1") then kind.Proj1 else if same_bytes word (codes "2") then kind.Proj2 else kind.Directive
 

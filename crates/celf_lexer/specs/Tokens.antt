@@ -18,7 +18,7 @@ placed at (token k n) = Ok (record { kind = k; start = at; end = at + n })
 placed at long = Err (LongName at)
 placed at bad = Err (BadByte at)
 
--- the byte at which a fault is told
+-- the byte at which a fault is said
 abbrev pub fault_byte : LexFault → ℕ
 fault_byte (BadByte b) = b
 fault_byte (LongName b) = b

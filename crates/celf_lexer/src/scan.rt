@@ -59,7 +59,7 @@ fn word_token(bytes: &[u8], start: u32) -> Result<Token, LexFault>
     worded(word_kind(word), start, 0, word)
 }
 
-/// The token of a `$` and the bytes behind it.
+/// The token of a `$` and the bytes after it.
 fn constant_token(behind: &[u8], start: u32) -> Result<Token, LexFault>
     requires { start + 1 + length behind.now < 2 ^ 32 }
     ensures { result ≡ placed start (spec.constant_front (spec.word_here behind.now)) }
@@ -71,7 +71,7 @@ fn constant_token(behind: &[u8], start: u32) -> Result<Token, LexFault>
     worded(TokenKind::ConstName, start, 1, word)
 }
 
-/// What the word behind a `#` makes of it.
+/// What the word after a `#` makes of it.
 fn hash_kind(word: &[u8]) -> TokenKind
     ensures { result ≡ spec.hash_kind word.now }
 {
@@ -84,7 +84,7 @@ fn hash_kind(word: &[u8]) -> TokenKind
     }
 }
 
-/// The token of a `#` and the bytes behind it.
+/// The token of a `#` and the bytes after it.
 fn hash_token(behind: &[u8], start: u32) -> Result<Token, LexFault>
     requires { start + 1 + length behind.now < 2 ^ 32 }
     ensures { result ≡ placed start (spec.hash_front (spec.word_here behind.now)) }
@@ -122,7 +122,7 @@ fn token_here(bytes: &[u8], start: u32) -> Result<Token, LexFault>
     }
 }
 
-/// The first token at or behind byte `at`, past blanks and comments, or `End` where none is left.
+/// The first token at or after byte `at`, past blanks and comments, or `End` where none is left.
 #[tactic(auto, unfolding(crate::specs::Tokens::first_of))]
 pub fn next(bytes: &[u8], at: u32) -> Result<Token, LexFault>
     requires place { at ≤ length bytes.now }
@@ -132,7 +132,8 @@ pub fn next(bytes: &[u8], at: u32) -> Result<Token, LexFault>
     ensures ordered { IfOk result (λ t. t.start ≤ t.end) }
     ensures within { IfOk result (λ t. t.end ≤ length bytes.now) }
     ensures has_byte { IfOk result (λ t. t.kind ≢ TokenKind.End → t.start < t.end) }
-    ensures at_end { IfOk result (λ t. t.kind ≡ TokenKind.End → (t.start ≡ length bytes.now) × (t.end ≡ length bytes.now)) }
+    ensures at_end { IfOk result
+        (λ t. t.kind ≡ TokenKind.End → (t.start ≡ length bytes.now) × (t.end ≡ length bytes.now)) }
     ensures fault_behind { IfErr result (λ f. at ≤ fault_byte f) }
     ensures fault_within { IfErr result (λ f. fault_byte f < length bytes.now) }
 {

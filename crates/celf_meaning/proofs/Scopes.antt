@@ -72,7 +72,7 @@ named_pushed (simple_binding m t s) g p h = named_pushed s ((true, t) ∷ g) p (
     sum : (i k : ℕ) → i + suc k ≡ i + 1 + k
     sum i k = omega arith
 
--- ---- behind a pattern
+-- ---- after a pattern
 
 pub pushed_length : (s : SimpleTelescope) (g : Scope) → length (pushed s g) ≡ length g + length (simple_modes s)
 pushed_length simple_end g = omega arith

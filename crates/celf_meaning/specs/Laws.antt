@@ -35,7 +35,7 @@ abbrev pub PrintableEntriesReadBack : Type 0
 PrintableEntriesReadBack = (sig : PlainSignature) (metas name : List ℕ) (e : PlainEntry) → WellFormedSignature sig → WellFormedEntry sig e → IsPrintableEntry sig name e
     → ReadsAs sig (declaration_text sig metas name e ++ codes "\n") (declares name e)
 
--- and what is printed of the object and the type reads back, behind the word of a check, as both.
+-- and what is printed of the object and the type reads back, after the word of a check, as both.
 abbrev pub PrintableChecksReadBack : Type 0
 PrintableChecksReadBack = (sig : PlainSignature) (metas others : List ℕ) (n : PlainObject) (a : PlainType) → WellFormedSignature sig → WellFormedType sig [] a → HasType sig [] [] n a
     → IsPrintableObject sig 0 n → IsPrintableType sig 0 a

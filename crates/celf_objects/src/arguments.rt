@@ -24,11 +24,13 @@ pub(crate) fn arguments_at(
     cursor: Cursor,
 ) -> Result<(Items<SArg>, Cursor), Stop>
     requires cursor { IsCursorOf bytes.now cursor }
-    ensures read { IfOk result (λ r. IsArguments (state_of bytes.now cursor) (map argument_tree r.0) (state_of bytes.now r.1)) }
+    ensures read { IfOk result
+        (λ r. IsArguments (state_of bytes.now cursor) (map argument_tree r.0) (state_of bytes.now r.1)) }
     ensures ends { IfOk result (λ r. Ends begins_argument_kind (state_of bytes.now r.1)) }
     ensures cursor { IfOk result (λ r. IsCursorOf bytes.now r.1) }
     ensures further { IfOk result (λ r. cursor.end ≤ r.1.end) }
-    ensures fault { IfErr result (λ e. (k : List Symbol) → IsFaultOf bytes.now (ArgumentsSymbol ∷ k) (state_of bytes.now cursor) e) }
+    ensures fault { IfErr result
+        (λ e. (k : List Symbol) → IsFaultOf bytes.now (ArgumentsSymbol ∷ k) (state_of bytes.now cursor) e) }
 {
     let mut args = Items::new(alloc);
     let mut last = cursor;
@@ -47,7 +49,8 @@ fn index_at(alloc: Global, bytes: &[u8], cursor: Cursor) -> Result<(SObj, Cursor
     ensures read { IfOk result (λ r. IsIndex (state_of bytes.now cursor) (object_tree r.0) (state_of bytes.now r.1)) }
     ensures cursor { IfOk result (λ r. IsCursorOf bytes.now r.1) }
     ensures further { IfOk result (λ r. cursor.end < r.1.end) }
-    ensures fault { IfErr result (λ e. (k : List Symbol) → IsFaultOf bytes.now (IndexSymbol ∷ k) (state_of bytes.now cursor) e) }
+    ensures fault { IfErr result
+        (λ e. (k : List Symbol) → IsFaultOf bytes.now (IndexSymbol ∷ k) (state_of bytes.now cursor) e) }
 {
     match kind_of_next(bytes, cursor) {
         TokenKind::Bang => atom_at(alloc, bytes, take(bytes, cursor, TokenKind::Bang)?),
@@ -62,11 +65,13 @@ pub fn indices_at(
     cursor: Cursor,
 ) -> Result<(Items<SObj>, Cursor), Stop>
     requires cursor { IsCursorOf bytes.now cursor }
-    ensures read { IfOk result (λ r. IsIndices (state_of bytes.now cursor) (map object_tree r.0) (state_of bytes.now r.1)) }
+    ensures read { IfOk result
+        (λ r. IsIndices (state_of bytes.now cursor) (map object_tree r.0) (state_of bytes.now r.1)) }
     ensures ends { IfOk result (λ r. Ends begins_index_kind (state_of bytes.now r.1)) }
     ensures cursor { IfOk result (λ r. IsCursorOf bytes.now r.1) }
     ensures further { IfOk result (λ r. cursor.end ≤ r.1.end) }
-    ensures fault { IfErr result (λ e. (k : List Symbol) → IsFaultOf bytes.now (IndicesSymbol ∷ k) (state_of bytes.now cursor) e) }
+    ensures fault { IfErr result
+        (λ e. (k : List Symbol) → IsFaultOf bytes.now (IndicesSymbol ∷ k) (state_of bytes.now cursor) e) }
 {
     let mut indices = Items::new(alloc);
     let mut last = cursor;

@@ -25,7 +25,8 @@ pub fn atom_at(alloc: Global, bytes: &[u8], cursor: Cursor) -> Result<(SObj, Cur
     ensures read { IfOk result (λ r. IsAtom (state_of bytes.now cursor) (object_tree r.0) (state_of bytes.now r.1)) }
     ensures cursor { IfOk result (λ r. IsCursorOf bytes.now r.1) }
     ensures further { IfOk result (λ r. cursor.end < r.1.end) }
-    ensures fault { IfErr result (λ e. (k : List Symbol) → IsFaultOf bytes.now (AtomSymbol ∷ k) (state_of bytes.now cursor) e) }
+    ensures fault { IfErr result
+        (λ e. (k : List Symbol) → IsFaultOf bytes.now (AtomSymbol ∷ k) (state_of bytes.now cursor) e) }
 {
     match kind_of_next(bytes, cursor) {
         TokenKind::Name { .. } => name_at(alloc, bytes, cursor),
@@ -48,7 +49,8 @@ fn name_at(alloc: Global, bytes: &[u8], cursor: Cursor) -> Result<(SObj, Cursor)
     ensures read { IfOk result (λ r. IsAtom (state_of bytes.now cursor) (object_tree r.0) (state_of bytes.now r.1)) }
     ensures cursor { IfOk result (λ r. IsCursorOf bytes.now r.1) }
     ensures further { IfOk result (λ r. cursor.end < r.1.end) }
-    ensures fault { IfErr result (λ e. (k : List Symbol) → IsFaultOf bytes.now (AtomSymbol ∷ k) (state_of bytes.now cursor) e) }
+    ensures fault { IfErr result
+        (λ e. (k : List Symbol) → IsFaultOf bytes.now (AtomSymbol ∷ k) (state_of bytes.now cursor) e) }
 {
     let (name, behind) = take_name(alloc, bytes, cursor)?;
     let form = SObjForm::Named {
@@ -65,7 +67,8 @@ fn constant_at(alloc: Global, bytes: &[u8], cursor: Cursor) -> Result<(SObj, Cur
     ensures read { IfOk result (λ r. IsAtom (state_of bytes.now cursor) (object_tree r.0) (state_of bytes.now r.1)) }
     ensures cursor { IfOk result (λ r. IsCursorOf bytes.now r.1) }
     ensures further { IfOk result (λ r. cursor.end < r.1.end) }
-    ensures fault { IfErr result (λ e. (k : List Symbol) → IsFaultOf bytes.now (AtomSymbol ∷ k) (state_of bytes.now cursor) e) }
+    ensures fault { IfErr result
+        (λ e. (k : List Symbol) → IsFaultOf bytes.now (AtomSymbol ∷ k) (state_of bytes.now cursor) e) }
 {
     let (name, behind) = take_constant(alloc, bytes, cursor)?;
     let form = SObjForm::Named { name, dollar: true };
@@ -79,7 +82,8 @@ fn hole_at(bytes: &[u8], cursor: Cursor) -> Result<(SObj, Cursor), Stop>
     ensures read { IfOk result (λ r. IsAtom (state_of bytes.now cursor) (object_tree r.0) (state_of bytes.now r.1)) }
     ensures cursor { IfOk result (λ r. IsCursorOf bytes.now r.1) }
     ensures further { IfOk result (λ r. cursor.end < r.1.end) }
-    ensures fault { IfErr result (λ e. (k : List Symbol) → IsFaultOf bytes.now (AtomSymbol ∷ k) (state_of bytes.now cursor) e) }
+    ensures fault { IfErr result
+        (λ e. (k : List Symbol) → IsFaultOf bytes.now (AtomSymbol ∷ k) (state_of bytes.now cursor) e) }
 {
     let behind = take(bytes, cursor, TokenKind::Hole)?;
     Ok((
@@ -95,7 +99,8 @@ fn unit_at(bytes: &[u8], cursor: Cursor) -> Result<(SObj, Cursor), Stop>
     ensures read { IfOk result (λ r. IsAtom (state_of bytes.now cursor) (object_tree r.0) (state_of bytes.now r.1)) }
     ensures cursor { IfOk result (λ r. IsCursorOf bytes.now r.1) }
     ensures further { IfOk result (λ r. cursor.end < r.1.end) }
-    ensures fault { IfErr result (λ e. (k : List Symbol) → IsFaultOf bytes.now (AtomSymbol ∷ k) (state_of bytes.now cursor) e) }
+    ensures fault { IfErr result
+        (λ e. (k : List Symbol) → IsFaultOf bytes.now (AtomSymbol ∷ k) (state_of bytes.now cursor) e) }
 {
     let behind = take(bytes, cursor, TokenKind::UnitSign)?;
     Ok((
@@ -112,7 +117,8 @@ fn pair_at(alloc: Global, bytes: &[u8], cursor: Cursor) -> Result<(SObj, Cursor)
     ensures read { IfOk result (λ r. IsAtom (state_of bytes.now cursor) (object_tree r.0) (state_of bytes.now r.1)) }
     ensures cursor { IfOk result (λ r. IsCursorOf bytes.now r.1) }
     ensures further { IfOk result (λ r. cursor.end < r.1.end) }
-    ensures fault { IfErr result (λ e. (k : List Symbol) → IsFaultOf bytes.now (AtomSymbol ∷ k) (state_of bytes.now cursor) e) }
+    ensures fault { IfErr result
+        (λ e. (k : List Symbol) → IsFaultOf bytes.now (AtomSymbol ∷ k) (state_of bytes.now cursor) e) }
 {
     let opened = open(bytes, cursor, TokenKind::Less)?;
     let (left, separator) = object_at(alloc, bytes, opened)?;
@@ -133,7 +139,8 @@ fn braces_at(alloc: Global, bytes: &[u8], cursor: Cursor) -> Result<(SObj, Curso
     ensures read { IfOk result (λ r. IsAtom (state_of bytes.now cursor) (object_tree r.0) (state_of bytes.now r.1)) }
     ensures cursor { IfOk result (λ r. IsCursorOf bytes.now r.1) }
     ensures further { IfOk result (λ r. cursor.end < r.1.end) }
-    ensures fault { IfErr result (λ e. (k : List Symbol) → IsFaultOf bytes.now (AtomSymbol ∷ k) (state_of bytes.now cursor) e) }
+    ensures fault { IfErr result
+        (λ e. (k : List Symbol) → IsFaultOf bytes.now (AtomSymbol ∷ k) (state_of bytes.now cursor) e) }
 {
     let opened = open(bytes, cursor, TokenKind::LeftBrace)?;
     let (expr, last) = expression_at(alloc, bytes, opened)?;
@@ -151,7 +158,8 @@ fn group_at(alloc: Global, bytes: &[u8], cursor: Cursor) -> Result<(SObj, Cursor
     ensures read { IfOk result (λ r. IsAtom (state_of bytes.now cursor) (object_tree r.0) (state_of bytes.now r.1)) }
     ensures cursor { IfOk result (λ r. IsCursorOf bytes.now r.1) }
     ensures further { IfOk result (λ r. cursor.end < r.1.end) }
-    ensures fault { IfErr result (λ e. (k : List Symbol) → IsFaultOf bytes.now (AtomSymbol ∷ k) (state_of bytes.now cursor) e) }
+    ensures fault { IfErr result
+        (λ e. (k : List Symbol) → IsFaultOf bytes.now (AtomSymbol ∷ k) (state_of bytes.now cursor) e) }
 {
     let opened = open(bytes, cursor, TokenKind::LeftParen)?;
     let (inside, last) = object_at(alloc, bytes, opened)?;
@@ -173,7 +181,8 @@ fn first_at(alloc: Global, bytes: &[u8], cursor: Cursor) -> Result<(SObj, Cursor
     ensures read { IfOk result (λ r. IsAtom (state_of bytes.now cursor) (object_tree r.0) (state_of bytes.now r.1)) }
     ensures cursor { IfOk result (λ r. IsCursorOf bytes.now r.1) }
     ensures further { IfOk result (λ r. cursor.end < r.1.end) }
-    ensures fault { IfErr result (λ e. (k : List Symbol) → IsFaultOf bytes.now (AtomSymbol ∷ k) (state_of bytes.now cursor) e) }
+    ensures fault { IfErr result
+        (λ e. (k : List Symbol) → IsFaultOf bytes.now (AtomSymbol ∷ k) (state_of bytes.now cursor) e) }
 {
     let opened = open(bytes, cursor, TokenKind::Proj1)?;
     let (body, last) = atom_at(alloc, bytes, opened)?;
@@ -190,7 +199,8 @@ fn second_at(alloc: Global, bytes: &[u8], cursor: Cursor) -> Result<(SObj, Curso
     ensures read { IfOk result (λ r. IsAtom (state_of bytes.now cursor) (object_tree r.0) (state_of bytes.now r.1)) }
     ensures cursor { IfOk result (λ r. IsCursorOf bytes.now r.1) }
     ensures further { IfOk result (λ r. cursor.end < r.1.end) }
-    ensures fault { IfErr result (λ e. (k : List Symbol) → IsFaultOf bytes.now (AtomSymbol ∷ k) (state_of bytes.now cursor) e) }
+    ensures fault { IfErr result
+        (λ e. (k : List Symbol) → IsFaultOf bytes.now (AtomSymbol ∷ k) (state_of bytes.now cursor) e) }
 {
     let opened = open(bytes, cursor, TokenKind::Proj2)?;
     let (body, last) = atom_at(alloc, bytes, opened)?;

@@ -18,7 +18,8 @@ pub fn mark_at(bytes: &[u8], cursor: Cursor) -> Result<(SMode, Cursor), Stop>
     ensures read { IfOk result (λ r. IsMark (state_of bytes.now cursor) r.0 (state_of bytes.now r.1)) }
     ensures cursor { IfOk result (λ r. IsCursorOf bytes.now r.1) }
     ensures further { IfOk result (λ r. cursor.end ≤ r.1.end) }
-    ensures fault { IfErr result (λ e. (k : List Symbol) → IsFaultOf bytes.now (MarkSymbol ∷ k) (state_of bytes.now cursor) e) }
+    ensures fault { IfErr result
+        (λ e. (k : List Symbol) → IsFaultOf bytes.now (MarkSymbol ∷ k) (state_of bytes.now cursor) e) }
 {
     match kind_of_next(bytes, cursor) {
         TokenKind::Bang => { Ok((SMode::Persistent, take(bytes, cursor, TokenKind::Bang)?)) }
@@ -38,7 +39,8 @@ pub fn binder_at(
     ensures read { IfOk result (λ r. IsBinder (state_of bytes.now cursor) r.0 (state_of bytes.now r.1)) }
     ensures cursor { IfOk result (λ r. IsCursorOf bytes.now r.1) }
     ensures further { IfOk result (λ r. cursor.end < r.1.end) }
-    ensures fault { IfErr result (λ e. (k : List Symbol) → IsFaultOf bytes.now (BinderSymbol ∷ k) (state_of bytes.now cursor) e) }
+    ensures fault { IfErr result
+        (λ e. (k : List Symbol) → IsFaultOf bytes.now (BinderSymbol ∷ k) (state_of bytes.now cursor) e) }
 {
     match kind_of_next(bytes, cursor) {
         TokenKind::Hole => Ok((None, take(bytes, cursor, TokenKind::Hole)?)),
@@ -60,7 +62,8 @@ pub fn family_name_at(
     ensures read { IfOk result (λ r. IsFamilyName (state_of bytes.now cursor) r.0 r.1 (state_of bytes.now r.2)) }
     ensures cursor { IfOk result (λ r. IsCursorOf bytes.now r.2) }
     ensures further { IfOk result (λ r. cursor.end < r.2.end) }
-    ensures fault { IfErr result (λ e. (k : List Symbol) → IsFaultOf bytes.now (FamilyNameSymbol ∷ k) (state_of bytes.now cursor) e) }
+    ensures fault { IfErr result
+        (λ e. (k : List Symbol) → IsFaultOf bytes.now (FamilyNameSymbol ∷ k) (state_of bytes.now cursor) e) }
 {
     match kind_of_next(bytes, cursor) {
         TokenKind::ConstName => {

@@ -18,7 +18,7 @@ use celf_surface::{SExpr, SStep};
 use sqlite_items::{Boxed, Items};
 use std::alloc::Global;
 
-/// An expression: steps, and a tuple behind them.
+/// An expression: steps, and a tuple after them.
 #[cycle(objects)]
 pub(crate) fn expression_at(
     alloc: Global,
@@ -26,10 +26,13 @@ pub(crate) fn expression_at(
     cursor: Cursor,
 ) -> Result<(SExpr, Cursor), Stop>
     requires cursor { IsCursorOf bytes.now cursor }
-    ensures read { IfOk result (λ r. IsExpression (state_of bytes.now cursor) (expression_tree r.0).0 (expression_tree r.0).1 (state_of bytes.now r.1)) }
+    ensures read { IfOk result (λ r.
+        IsExpression (state_of bytes.now cursor) (expression_tree r.0).0 (expression_tree r.0).1
+        (state_of bytes.now r.1)) }
     ensures cursor { IfOk result (λ r. IsCursorOf bytes.now r.1) }
     ensures further { IfOk result (λ r. cursor.end < r.1.end) }
-    ensures fault { IfErr result (λ e. (k : List Symbol) → IsFaultOf bytes.now (ExpressionSymbol ∷ k) (state_of bytes.now cursor) e) }
+    ensures fault { IfErr result
+        (λ e. (k : List Symbol) → IsFaultOf bytes.now (ExpressionSymbol ∷ k) (state_of bytes.now cursor) e) }
 {
     let (steps, last) = steps_at(alloc, bytes, cursor)?;
     let (tuple, behind) = tuple_at(alloc, bytes, last)?;
@@ -44,7 +47,8 @@ fn steps_at(alloc: Global, bytes: &[u8], cursor: Cursor) -> Result<(Items<SStep>
     ensures ends { IfOk result (λ r. Ends is_let_kind (state_of bytes.now r.1)) }
     ensures cursor { IfOk result (λ r. IsCursorOf bytes.now r.1) }
     ensures further { IfOk result (λ r. cursor.end ≤ r.1.end) }
-    ensures fault { IfErr result (λ e. (k : List Symbol) → IsFaultOf bytes.now (ExpressionSymbol ∷ k) (state_of bytes.now cursor) e) }
+    ensures fault { IfErr result
+        (λ e. (k : List Symbol) → IsFaultOf bytes.now (ExpressionSymbol ∷ k) (state_of bytes.now cursor) e) }
 {
     let mut steps = Items::new(alloc);
     let mut last = cursor;
@@ -61,10 +65,12 @@ fn steps_at(alloc: Global, bytes: &[u8], cursor: Cursor) -> Result<(Items<SStep>
 fn step_at(alloc: Global, bytes: &[u8], cursor: Cursor) -> Result<(SStep, Cursor), Stop>
     requires cursor { IsCursorOf bytes.now cursor }
     requires kind { IsTrue (is_let_kind (kind_next bytes.now cursor)) }
-    ensures read { IfOk result (λ r. IsStep (state_of bytes.now cursor) (step_tree r.0).0 (step_tree r.0).1 (state_of bytes.now r.1)) }
+    ensures read { IfOk result
+        (λ r. IsStep (state_of bytes.now cursor) (step_tree r.0).0 (step_tree r.0).1 (state_of bytes.now r.1)) }
     ensures cursor { IfOk result (λ r. IsCursorOf bytes.now r.1) }
     ensures further { IfOk result (λ r. cursor.end < r.1.end) }
-    ensures fault { IfErr result (λ e. (k : List Symbol) → IsFaultOf bytes.now (ExpressionSymbol ∷ k) (state_of bytes.now cursor) e) }
+    ensures fault { IfErr result
+        (λ e. (k : List Symbol) → IsFaultOf bytes.now (ExpressionSymbol ∷ k) (state_of bytes.now cursor) e) }
 {
     let begun = take(bytes, cursor, TokenKind::KwLet)?;
     let opened = open(bytes, begun, TokenKind::LeftBrace)?;

@@ -22,7 +22,8 @@ pub fn object_at(alloc: Global, bytes: &[u8], cursor: Cursor) -> Result<(SObj, C
     ensures read { IfOk result (λ r. IsObject (state_of bytes.now cursor) (object_tree r.0) (state_of bytes.now r.1)) }
     ensures cursor { IfOk result (λ r. IsCursorOf bytes.now r.1) }
     ensures further { IfOk result (λ r. cursor.end < r.1.end) }
-    ensures fault { IfErr result (λ e. (k : List Symbol) → IsFaultOf bytes.now (ObjectSymbol ∷ k) (state_of bytes.now cursor) e) }
+    ensures fault { IfErr result
+        (λ e. (k : List Symbol) → IsFaultOf bytes.now (ObjectSymbol ∷ k) (state_of bytes.now cursor) e) }
 {
     match kind_of_next(bytes, cursor) {
         TokenKind::Backslash => lambda_at(alloc, bytes, cursor),
@@ -38,7 +39,8 @@ fn lambda_at(alloc: Global, bytes: &[u8], cursor: Cursor) -> Result<(SObj, Curso
     ensures read { IfOk result (λ r. IsObject (state_of bytes.now cursor) (object_tree r.0) (state_of bytes.now r.1)) }
     ensures cursor { IfOk result (λ r. IsCursorOf bytes.now r.1) }
     ensures further { IfOk result (λ r. cursor.end < r.1.end) }
-    ensures fault { IfErr result (λ e. (k : List Symbol) → IsFaultOf bytes.now (ObjectSymbol ∷ k) (state_of bytes.now cursor) e) }
+    ensures fault { IfErr result
+        (λ e. (k : List Symbol) → IsFaultOf bytes.now (ObjectSymbol ∷ k) (state_of bytes.now cursor) e) }
 {
     let opened = open(bytes, cursor, TokenKind::Backslash)?;
     let (mode, marked) = mark_at(bytes, opened)?;
@@ -57,7 +59,8 @@ fn applied_object_at(alloc: Global, bytes: &[u8], cursor: Cursor) -> Result<(SOb
     ensures read { IfOk result (λ r. IsObject (state_of bytes.now cursor) (object_tree r.0) (state_of bytes.now r.1)) }
     ensures cursor { IfOk result (λ r. IsCursorOf bytes.now r.1) }
     ensures further { IfOk result (λ r. cursor.end < r.1.end) }
-    ensures fault { IfErr result (λ e. (k : List Symbol) → IsFaultOf bytes.now (ObjectSymbol ∷ k) (state_of bytes.now cursor) e) }
+    ensures fault { IfErr result
+        (λ e. (k : List Symbol) → IsFaultOf bytes.now (ObjectSymbol ∷ k) (state_of bytes.now cursor) e) }
 {
     application_at(alloc, bytes, cursor)
 }
@@ -66,10 +69,12 @@ fn applied_object_at(alloc: Global, bytes: &[u8], cursor: Cursor) -> Result<(SOb
 #[cycle(objects)]
 pub fn application_at(alloc: Global, bytes: &[u8], cursor: Cursor) -> Result<(SObj, Cursor), Stop>
     requires cursor { IsCursorOf bytes.now cursor }
-    ensures read { IfOk result (λ r. IsApplication (state_of bytes.now cursor) (object_tree r.0) (state_of bytes.now r.1)) }
+    ensures read { IfOk result
+        (λ r. IsApplication (state_of bytes.now cursor) (object_tree r.0) (state_of bytes.now r.1)) }
     ensures cursor { IfOk result (λ r. IsCursorOf bytes.now r.1) }
     ensures further { IfOk result (λ r. cursor.end < r.1.end) }
-    ensures fault { IfErr result (λ e. (k : List Symbol) → IsFaultOf bytes.now (ApplicationSymbol ∷ k) (state_of bytes.now cursor) e) }
+    ensures fault { IfErr result
+        (λ e. (k : List Symbol) → IsFaultOf bytes.now (ApplicationSymbol ∷ k) (state_of bytes.now cursor) e) }
 {
     let (head, called) = atom_at(alloc, bytes, cursor)?;
     match arguments_at(alloc, bytes, called) {

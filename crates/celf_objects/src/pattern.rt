@@ -19,10 +19,12 @@ use std::alloc::Global;
 #[cycle(patterns)]
 pub fn pattern_at(alloc: Global, bytes: &[u8], cursor: Cursor) -> Result<(SPat, Cursor), Stop>
     requires cursor { IsCursorOf bytes.now cursor }
-    ensures read { IfOk result (λ r. IsPattern (state_of bytes.now cursor) (pattern_tree r.0) (state_of bytes.now r.1)) }
+    ensures read { IfOk result
+        (λ r. IsPattern (state_of bytes.now cursor) (pattern_tree r.0) (state_of bytes.now r.1)) }
     ensures cursor { IfOk result (λ r. IsCursorOf bytes.now r.1) }
     ensures further { IfOk result (λ r. cursor.end < r.1.end) }
-    ensures fault { IfErr result (λ e. (k : List Symbol) → IsFaultOf bytes.now (PatternSymbol ∷ k) (state_of bytes.now cursor) e) }
+    ensures fault { IfErr result
+        (λ e. (k : List Symbol) → IsFaultOf bytes.now (PatternSymbol ∷ k) (state_of bytes.now cursor) e) }
 {
     match kind_of_next(bytes, cursor) {
         TokenKind::Number => {
@@ -39,10 +41,12 @@ fn pattern_entry_at(alloc: Global, bytes: &[u8], cursor: Cursor) -> Result<(SPat
     requires cursor { IsCursorOf bytes.now cursor }
     requires not_one { kind_next bytes.now cursor ≢ TokenKind.Number }
     requires no_list { kind_next bytes.now cursor ≢ TokenKind.LeftBracket }
-    ensures read { IfOk result (λ r. IsPattern (state_of bytes.now cursor) (pattern_tree r.0) (state_of bytes.now r.1)) }
+    ensures read { IfOk result
+        (λ r. IsPattern (state_of bytes.now cursor) (pattern_tree r.0) (state_of bytes.now r.1)) }
     ensures cursor { IfOk result (λ r. IsCursorOf bytes.now r.1) }
     ensures further { IfOk result (λ r. cursor.end < r.1.end) }
-    ensures fault { IfErr result (λ e. (k : List Symbol) → IsFaultOf bytes.now (PatternSymbol ∷ k) (state_of bytes.now cursor) e) }
+    ensures fault { IfErr result
+        (λ e. (k : List Symbol) → IsFaultOf bytes.now (PatternSymbol ∷ k) (state_of bytes.now cursor) e) }
 {
     let (mode, marked) = mark_at(bytes, cursor)?;
     let (name, behind) = binder_at(alloc, bytes, marked)?;
@@ -54,10 +58,12 @@ fn pattern_entry_at(alloc: Global, bytes: &[u8], cursor: Cursor) -> Result<(SPat
 fn pattern_list_at(alloc: Global, bytes: &[u8], cursor: Cursor) -> Result<(SPat, Cursor), Stop>
     requires cursor { IsCursorOf bytes.now cursor }
     requires kind { kind_next bytes.now cursor ≡ TokenKind.LeftBracket }
-    ensures read { IfOk result (λ r. IsPattern (state_of bytes.now cursor) (pattern_tree r.0) (state_of bytes.now r.1)) }
+    ensures read { IfOk result
+        (λ r. IsPattern (state_of bytes.now cursor) (pattern_tree r.0) (state_of bytes.now r.1)) }
     ensures cursor { IfOk result (λ r. IsCursorOf bytes.now r.1) }
     ensures further { IfOk result (λ r. cursor.end < r.1.end) }
-    ensures fault { IfErr result (λ e. (k : List Symbol) → IsFaultOf bytes.now (PatternSymbol ∷ k) (state_of bytes.now cursor) e) }
+    ensures fault { IfErr result
+        (λ e. (k : List Symbol) → IsFaultOf bytes.now (PatternSymbol ∷ k) (state_of bytes.now cursor) e) }
 {
     let opened = open(bytes, cursor, TokenKind::LeftBracket)?;
     let (patterns, last) = patterns_at(alloc, bytes, opened)?;
@@ -69,11 +75,14 @@ fn pattern_list_at(alloc: Global, bytes: &[u8], cursor: Cursor) -> Result<(SPat,
 #[cycle(patterns)]
 fn patterns_at(alloc: Global, bytes: &[u8], cursor: Cursor) -> Result<(Items<SPat>, Cursor), Stop>
     requires cursor { IsCursorOf bytes.now cursor }
-    ensures read { IfOk result (λ r. IsPatterns (state_of bytes.now cursor) (map pattern_tree r.0) (state_of bytes.now r.1)) }
+    ensures read { IfOk result
+        (λ r. IsPatterns (state_of bytes.now cursor) (map pattern_tree r.0) (state_of bytes.now r.1)) }
     ensures ends { IfOk result (λ r. Ends is_comma_kind (state_of bytes.now r.1)) }
     ensures cursor { IfOk result (λ r. IsCursorOf bytes.now r.1) }
     ensures further { IfOk result (λ r. cursor.end < r.1.end) }
-    ensures fault { IfErr result (λ e. (k : List Symbol) → IsFaultOf bytes.now (PatternSymbol ∷ PatternTailSymbol ∷ k) (state_of bytes.now cursor) e) }
+    ensures fault { IfErr result (λ e.
+        (k : List Symbol) →
+        IsFaultOf bytes.now (PatternSymbol ∷ PatternTailSymbol ∷ k) (state_of bytes.now cursor) e) }
 {
     let mut patterns = Items::new(alloc);
     let (first, behind) = pattern_at(alloc, bytes, cursor)?;

@@ -28,7 +28,8 @@ pub(crate) fn tuple_at(
     ensures read { IfOk result (λ r. IsTuple (state_of bytes.now cursor) (tuple_tree r.0) (state_of bytes.now r.1)) }
     ensures cursor { IfOk result (λ r. IsCursorOf bytes.now r.1) }
     ensures further { IfOk result (λ r. cursor.end < r.1.end) }
-    ensures fault { IfErr result (λ e. (k : List Symbol) → IsFaultOf bytes.now (TupleSymbol ∷ k) (state_of bytes.now cursor) e) }
+    ensures fault { IfErr result
+        (λ e. (k : List Symbol) → IsFaultOf bytes.now (TupleSymbol ∷ k) (state_of bytes.now cursor) e) }
 {
     match kind_of_next(bytes, cursor) {
         TokenKind::Number => {
@@ -50,7 +51,8 @@ fn tuple_list_at(alloc: Global, bytes: &[u8], cursor: Cursor) -> Result<(STuple,
     ensures read { IfOk result (λ r. IsTuple (state_of bytes.now cursor) (tuple_tree r.0) (state_of bytes.now r.1)) }
     ensures cursor { IfOk result (λ r. IsCursorOf bytes.now r.1) }
     ensures further { IfOk result (λ r. cursor.end < r.1.end) }
-    ensures fault { IfErr result (λ e. (k : List Symbol) → IsFaultOf bytes.now (TupleSymbol ∷ k) (state_of bytes.now cursor) e) }
+    ensures fault { IfErr result
+        (λ e. (k : List Symbol) → IsFaultOf bytes.now (TupleSymbol ∷ k) (state_of bytes.now cursor) e) }
 {
     let opened = open(bytes, cursor, TokenKind::LeftBracket)?;
     let (tuples, last) = tuples_at(alloc, bytes, opened)?;
@@ -66,7 +68,8 @@ fn persistent_at(alloc: Global, bytes: &[u8], cursor: Cursor) -> Result<(STuple,
     ensures read { IfOk result (λ r. IsTuple (state_of bytes.now cursor) (tuple_tree r.0) (state_of bytes.now r.1)) }
     ensures cursor { IfOk result (λ r. IsCursorOf bytes.now r.1) }
     ensures further { IfOk result (λ r. cursor.end < r.1.end) }
-    ensures fault { IfErr result (λ e. (k : List Symbol) → IsFaultOf bytes.now (TupleSymbol ∷ k) (state_of bytes.now cursor) e) }
+    ensures fault { IfErr result
+        (λ e. (k : List Symbol) → IsFaultOf bytes.now (TupleSymbol ∷ k) (state_of bytes.now cursor) e) }
 {
     let marked = take(bytes, cursor, TokenKind::Bang)?;
     let (obj, behind) = atom_at(alloc, bytes, marked)?;
@@ -85,7 +88,8 @@ fn affine_at(alloc: Global, bytes: &[u8], cursor: Cursor) -> Result<(STuple, Cur
     ensures read { IfOk result (λ r. IsTuple (state_of bytes.now cursor) (tuple_tree r.0) (state_of bytes.now r.1)) }
     ensures cursor { IfOk result (λ r. IsCursorOf bytes.now r.1) }
     ensures further { IfOk result (λ r. cursor.end < r.1.end) }
-    ensures fault { IfErr result (λ e. (k : List Symbol) → IsFaultOf bytes.now (TupleSymbol ∷ k) (state_of bytes.now cursor) e) }
+    ensures fault { IfErr result
+        (λ e. (k : List Symbol) → IsFaultOf bytes.now (TupleSymbol ∷ k) (state_of bytes.now cursor) e) }
 {
     let marked = take(bytes, cursor, TokenKind::AtSign)?;
     let (obj, behind) = atom_at(alloc, bytes, marked)?;
@@ -107,7 +111,8 @@ fn bare_at(alloc: Global, bytes: &[u8], cursor: Cursor) -> Result<(STuple, Curso
     ensures read { IfOk result (λ r. IsTuple (state_of bytes.now cursor) (tuple_tree r.0) (state_of bytes.now r.1)) }
     ensures cursor { IfOk result (λ r. IsCursorOf bytes.now r.1) }
     ensures further { IfOk result (λ r. cursor.end < r.1.end) }
-    ensures fault { IfErr result (λ e. (k : List Symbol) → IsFaultOf bytes.now (TupleSymbol ∷ k) (state_of bytes.now cursor) e) }
+    ensures fault { IfErr result
+        (λ e. (k : List Symbol) → IsFaultOf bytes.now (TupleSymbol ∷ k) (state_of bytes.now cursor) e) }
 {
     let (obj, behind) = object_at(alloc, bytes, cursor)?;
     Ok((STuple::Bare(obj), behind))
@@ -117,11 +122,14 @@ fn bare_at(alloc: Global, bytes: &[u8], cursor: Cursor) -> Result<(STuple, Curso
 #[cycle(objects)]
 fn tuples_at(alloc: Global, bytes: &[u8], cursor: Cursor) -> Result<(Items<STuple>, Cursor), Stop>
     requires cursor { IsCursorOf bytes.now cursor }
-    ensures read { IfOk result (λ r. IsTuples (state_of bytes.now cursor) (map tuple_tree r.0) (state_of bytes.now r.1)) }
+    ensures read { IfOk result
+        (λ r. IsTuples (state_of bytes.now cursor) (map tuple_tree r.0) (state_of bytes.now r.1)) }
     ensures ends { IfOk result (λ r. Ends is_comma_kind (state_of bytes.now r.1)) }
     ensures cursor { IfOk result (λ r. IsCursorOf bytes.now r.1) }
     ensures further { IfOk result (λ r. cursor.end < r.1.end) }
-    ensures fault { IfErr result (λ e. (k : List Symbol) → IsFaultOf bytes.now (TupleSymbol ∷ TupleTailSymbol ∷ k) (state_of bytes.now cursor) e) }
+    ensures fault { IfErr result (λ e.
+        (k : List Symbol) →
+        IsFaultOf bytes.now (TupleSymbol ∷ TupleTailSymbol ∷ k) (state_of bytes.now cursor) e) }
 {
     let mut tuples = Items::new(alloc);
     let (first, behind) = tuple_at(alloc, bytes, cursor)?;

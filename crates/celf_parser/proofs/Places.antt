@@ -52,7 +52,7 @@ spelled-end text at u s =
 no-fault-behind : (text : List ℕ) (f : LexFault) (at : ℕ) → at ≡ length text → next_token text at ≡ Err f → ⊥
 no-fault-behind text f at e n = let b = next_token-fault text at f (omega arith) n in omega arith
 
--- the tokens behind one that is not the end
+-- the tokens after one that is not the end
 after-from : (text : List ℕ) (u : Token) → is_end u.kind ≡ false → tokens_after text u ≡ tokens_from text u.end
 after-from text u k = rw k refl
 

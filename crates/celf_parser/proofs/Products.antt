@@ -7,7 +7,7 @@ use Rattle.celf_grammar.specs.State.{State, span_to, Ends, Takes}
 use Rattle.celf_grammar.specs.Grammar.{is_star, IsSync, sync_alone, sync_product, IsFactor}
 use Rattle.celf_parser.specs.Product.{IsFactors, factors_none, factors_more, product_of}
 
--- the last of the factors may be taken into what stands behind them
+-- the last of the factors may be taken into what stands after them
 pub product-last : (fs : List (State × WrittenType)) (f : State × WrittenType) (b : WrittenType) (u : State)
     → product_of (fs ++ (f ∷ [])) b u ≡ product_of fs (tensor (span_to f.0 u) f.1 b) u
 product-last [] f b u = refl

@@ -23,7 +23,7 @@ pub record Encloses (opening closing : TokenKind) (s : State) (a : WrittenType) 
   pub typed : IsType inside a behind
   pub closed : Closes closing s.room behind u
 
--- A pair or an atom behind a mark.
+-- A pair or an atom after a mark.
 pub record IsMarked (sign : TokenKind) (m : Mode) (s : State) (a : WrittenType) (u : State) : Type 0 where
   pub behind : State
   pub body : WrittenType

@@ -1,4 +1,4 @@
--- Inner: how a reading goes on behind the token with which a part begins.
+-- Inner: how a reading goes on after the token with which a part begins.
 use Rattle.std.specs.Prelude.{◌≡◌, Bool, true, false, List}
 use Rattle.celf_lexer.specs.declared.token.TokenKind.{TokenKind}
 use Rattle.celf_lexer.specs.declared.token.TokenKind.TheVariants as token

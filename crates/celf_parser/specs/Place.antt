@@ -21,7 +21,7 @@ nesting = 1000
 abbrev pub start_at : List ℕ → ℕ → State
 start_at text at = record { rest = tokens_from text at; room = nesting; end = at }
 
--- The item begins at the place, and behind its full stop the tokens of the text stand from its end on.
+-- The item begins at the place, and after its full stop the tokens of the text stand from its end on.
 pub record IsItemAt (text : List ℕ) (at : ℕ) (item : WrittenItem) : Type 0 where
   pub behind : State
   pub parsed : IsItem (start_at text at) item behind
@@ -54,7 +54,7 @@ BeginsDirective before t = (before ≡ []) × (t.kind ≡ DirectiveWord)
 abbrev pub IsFaultAt : List ℕ → ℕ → SyntaxFault → Type 0
 -- The tokens before the first fault of words begin an item, and do not end one.
 IsFaultAt text at (Lex f) = HasWordFault text at f × IsLacking nesting (tokens_from text at)
--- The tokens before this one begin some item, and with it they begin none; it is no # word that begins an item, and no end behind blanks alone.
+-- The tokens before this one begin some item, and with it they begin none; it is no # word that begins an item, and no end after blanks alone.
 IsFaultAt text at (Unexpected s) = (before : List Lexeme) × (t : Lexeme) × Stands text at before t × IsUnexpected nesting before t × (s ≡ span_of t)
     × (BeginsDirective before t → ⊥) × (before ≡ [] → t.kind ≢ End)
 -- A # word begins what stands there, and it begins no item.

@@ -11,13 +11,13 @@ use Rattle.celf_parser.specs.declared.product.Factor.{Factor}
 abbrev pub factor_of : List ℕ → Factor → State × WrittenType
 factor_of text f = (state_of text f.at, surface f.ty)
 
--- Factors, each with a * behind it.
+-- Factors, each with a * after it.
 pub data IsFactors : State → List (State × WrittenType) → State → Type 0 where
   factors_none : {s : State} → IsFactors s [] s
   factors_more : {s u v w : State} {fs : List (State × WrittenType)} {a : WrittenType}
       → IsFactors s fs u → IsFactor u a v → Takes Star v w → IsFactors s (fs ++ ((u, a) ∷ [])) w
 
--- the product of factors and of the last one, behind which the product ends; it nests to the right
+-- the product of factors and of the last one, after which the product ends; it nests to the right
 abbrev pub product_of : List (State × WrittenType) → WrittenType → State → WrittenType
 product_of [] last u = last
 product_of (f ∷ fs) last u = tensor (span_to f.0 u) f.1 (product_of fs last u)

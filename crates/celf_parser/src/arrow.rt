@@ -38,10 +38,13 @@ fn backward_of(kind: TokenKind) -> Option<Arrow>
 pub fn open_forward(bytes: &[u8], cursor: Cursor) -> Result<Option<(Arrow, Cursor)>, Stop>
     requires cursor { IsCursorOf bytes.now cursor }
     ensures none { IfOk result (λ found. IfNone found (Ends is_forward (state_of bytes.now cursor))) }
-    ensures opened { IfOk result (λ found. IfSome found (λ r. OpensArrow forward_of_kind r.0 (state_of bytes.now cursor) (state_of bytes.now r.1))) }
+    ensures opened { IfOk result (λ found.
+        IfSome found
+        (λ r. OpensArrow forward_of_kind r.0 (state_of bytes.now cursor) (state_of bytes.now r.1))) }
     ensures cursor { IfOk result (λ found. IfSome found (λ r. IsCursorOf bytes.now r.1)) }
     ensures further { IfOk result (λ found. IfSome found (λ r. cursor.end < r.1.end)) }
-    ensures fault { IfErr result (λ e. (k : List Symbol) → IsFaultOf bytes.now (ForwardTail ∷ k) (state_of bytes.now cursor) e) }
+    ensures fault { IfErr result
+        (λ e. (k : List Symbol) → IsFaultOf bytes.now (ForwardTail ∷ k) (state_of bytes.now cursor) e) }
 {
     let kind = kind_of_next(bytes, cursor);
     let Some(arrow) = forward_of(kind) else {
@@ -56,10 +59,13 @@ pub fn open_forward(bytes: &[u8], cursor: Cursor) -> Result<Option<(Arrow, Curso
 pub fn open_backward(bytes: &[u8], cursor: Cursor) -> Result<Option<(Arrow, Cursor)>, Stop>
     requires cursor { IsCursorOf bytes.now cursor }
     ensures none { IfOk result (λ found. IfNone found (Ends is_backward (state_of bytes.now cursor))) }
-    ensures opened { IfOk result (λ found. IfSome found (λ r. OpensArrow backward_of_kind r.0 (state_of bytes.now cursor) (state_of bytes.now r.1))) }
+    ensures opened { IfOk result (λ found.
+        IfSome found
+        (λ r. OpensArrow backward_of_kind r.0 (state_of bytes.now cursor) (state_of bytes.now r.1))) }
     ensures cursor { IfOk result (λ found. IfSome found (λ r. IsCursorOf bytes.now r.1)) }
     ensures further { IfOk result (λ found. IfSome found (λ r. cursor.end < r.1.end)) }
-    ensures fault { IfErr result (λ e. (k : List Symbol) → IsFaultOf bytes.now (BackTail ∷ k) (state_of bytes.now cursor) e) }
+    ensures fault { IfErr result
+        (λ e. (k : List Symbol) → IsFaultOf bytes.now (BackTail ∷ k) (state_of bytes.now cursor) e) }
 {
     let kind = kind_of_next(bytes, cursor);
     let Some(arrow) = backward_of(kind) else {

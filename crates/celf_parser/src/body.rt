@@ -30,7 +30,8 @@ pub fn body_at(
     ensures name { IfOk result (λ r. HasDeclarableName (body_of r.0)) }
     ensures cursor { IfOk result (λ r. IsCursorOf bytes.now r.1) }
     ensures further { IfOk result (λ r. cursor.end < r.1.end) }
-    ensures fault { IfErr result (λ f. (k : List Symbol) → IsItemFault bytes.now (BodySymbol ∷ k) (state_of bytes.now cursor) f) }
+    ensures fault { IfErr result
+        (λ f. (k : List Symbol) → IsItemFault bytes.now (BodySymbol ∷ k) (state_of bytes.now cursor) f) }
 {
     match kind_of_next(bytes, cursor) {
         TokenKind::Directive => directive_at(alloc, bytes, cursor),
@@ -44,13 +45,15 @@ fn item_type_at(alloc: Global, bytes: &[u8], cursor: Cursor) -> Result<(SType, C
     ensures read { IfOk result (λ r. IsType (state_of bytes.now cursor) (surface r.0) (state_of bytes.now r.1)) }
     ensures cursor { IfOk result (λ r. IsCursorOf bytes.now r.1) }
     ensures further { IfOk result (λ r. cursor.end < r.1.end) }
-    ensures fault { IfErr result (λ e. (k : List Symbol) → IsFaultOf bytes.now (Whole ∷ k) (state_of bytes.now cursor) e) }
+    ensures fault { IfErr result
+        (λ e. (k : List Symbol) → IsFaultOf bytes.now (Whole ∷ k) (state_of bytes.now cursor) e) }
 {
     let (ty, end) = type_at(alloc, bytes, cursor)?;
     Ok((ty.into_inner(), end))
 }
 
-/// An object in a box. There it is dropped by a call: dropped in place, each of its forms would be a case of the function that reads on.
+/// An object in a box. There it is dropped by a call: dropped in place, each of its forms would be a case of the
+/// function that reads on.
 fn boxed_object_at(
     alloc: Global,
     bytes: &[u8],
@@ -60,7 +63,8 @@ fn boxed_object_at(
     ensures read { IfOk result (λ r. IsObject (state_of bytes.now cursor) (object_tree r.0) (state_of bytes.now r.1)) }
     ensures cursor { IfOk result (λ r. IsCursorOf bytes.now r.1) }
     ensures further { IfOk result (λ r. cursor.end < r.1.end) }
-    ensures fault { IfErr result (λ e. (k : List Symbol) → IsFaultOf bytes.now (ObjectSymbol ∷ k) (state_of bytes.now cursor) e) }
+    ensures fault { IfErr result
+        (λ e. (k : List Symbol) → IsFaultOf bytes.now (ObjectSymbol ∷ k) (state_of bytes.now cursor) e) }
 {
     let (obj, end) = object_at(alloc, bytes, cursor)?;
     Ok((Boxed::new(alloc, obj)?, end))
@@ -75,7 +79,8 @@ fn declaration_at(alloc: Global, bytes: &[u8], cursor: Cursor) -> Result<(ItemBo
     ensures name { IfOk result (λ r. HasDeclarableName (body_of r.0)) }
     ensures cursor { IfOk result (λ r. IsCursorOf bytes.now r.1) }
     ensures further { IfOk result (λ r. cursor.end < r.1.end) }
-    ensures fault { IfErr result (λ e. (k : List Symbol) → IsFaultOf bytes.now (BodySymbol ∷ k) (state_of bytes.now cursor) e) }
+    ensures fault { IfErr result
+        (λ e. (k : List Symbol) → IsFaultOf bytes.now (BodySymbol ∷ k) (state_of bytes.now cursor) e) }
 {
     let (name, behind) = take_name(alloc, bytes, cursor)?;
     let colon = take(bytes, behind, TokenKind::Colon)?;
@@ -96,7 +101,8 @@ fn directive_at(
     ensures name { IfOk result (λ r. HasDeclarableName (body_of r.0)) }
     ensures cursor { IfOk result (λ r. IsCursorOf bytes.now r.1) }
     ensures further { IfOk result (λ r. cursor.end < r.1.end) }
-    ensures fault { IfErr result (λ f. (k : List Symbol) → IsItemFault bytes.now (BodySymbol ∷ k) (state_of bytes.now cursor) f) }
+    ensures fault { IfErr result
+        (λ f. (k : List Symbol) → IsItemFault bytes.now (BodySymbol ∷ k) (state_of bytes.now cursor) f) }
 {
     if let Ok(word) = take_directive(bytes, cursor, "#query") {
         return Ok(query_at(alloc, bytes, word)?);
@@ -113,14 +119,19 @@ fn directive_at(
     Err(unknown_directive(cursor))
 }
 
-/// `d e l a type` behind `#query`.
+/// `d e l a type` after `#query`.
 fn query_at(alloc: Global, bytes: &[u8], cursor: Cursor) -> Result<(ItemBody, Cursor), Stop>
     requires cursor { IsCursorOf bytes.now cursor }
-    ensures read { IfOk result (λ r. (s : State) → TakesDirective (codes "#query") s (state_of bytes.now cursor) → IsBody s (body_of r.0) (state_of bytes.now r.1)) }
+    ensures read { IfOk result (λ r.
+        (s : State) → TakesDirective (codes "#query") s (state_of bytes.now cursor) →
+        IsBody s (body_of r.0) (state_of bytes.now r.1)) }
     ensures name { IfOk result (λ r. HasDeclarableName (body_of r.0)) }
     ensures cursor { IfOk result (λ r. IsCursorOf bytes.now r.1) }
     ensures further { IfOk result (λ r. cursor.end < r.1.end) }
-    ensures fault { IfErr result (λ e. (k : List Symbol) → IsFaultOf bytes.now (BoundSymbol ∷ BoundSymbol ∷ BoundSymbol ∷ BoundSymbol ∷ Whole ∷ k) (state_of bytes.now cursor) e) }
+    ensures fault { IfErr result (λ e.
+        (k : List Symbol) →
+        IsFaultOf bytes.now (BoundSymbol ∷ BoundSymbol ∷ BoundSymbol ∷ BoundSymbol ∷ Whole ∷ k)
+        (state_of bytes.now cursor) e) }
 {
     let (d, behind_d) = bound_at(bytes, cursor)?;
     let (e, behind_e) = bound_at(bytes, behind_d)?;
@@ -130,28 +141,37 @@ fn query_at(alloc: Global, bytes: &[u8], cursor: Cursor) -> Result<(ItemBody, Cu
     Ok((ItemBody::Query { d, e, l, a, ty }, end))
 }
 
-/// `n type` behind `#trace`.
+/// `n type` after `#trace`.
 fn trace_at(alloc: Global, bytes: &[u8], cursor: Cursor) -> Result<(ItemBody, Cursor), Stop>
     requires cursor { IsCursorOf bytes.now cursor }
-    ensures read { IfOk result (λ r. (s : State) → TakesDirective (codes "#trace") s (state_of bytes.now cursor) → IsBody s (body_of r.0) (state_of bytes.now r.1)) }
+    ensures read { IfOk result (λ r.
+        (s : State) → TakesDirective (codes "#trace") s (state_of bytes.now cursor) →
+        IsBody s (body_of r.0) (state_of bytes.now r.1)) }
     ensures name { IfOk result (λ r. HasDeclarableName (body_of r.0)) }
     ensures cursor { IfOk result (λ r. IsCursorOf bytes.now r.1) }
     ensures further { IfOk result (λ r. cursor.end < r.1.end) }
-    ensures fault { IfErr result (λ e. (k : List Symbol) → IsFaultOf bytes.now (BoundSymbol ∷ Whole ∷ k) (state_of bytes.now cursor) e) }
+    ensures fault { IfErr result
+        (λ e. (k : List Symbol) → IsFaultOf bytes.now (BoundSymbol ∷ Whole ∷ k) (state_of bytes.now cursor) e) }
 {
     let (n, behind) = bound_at(bytes, cursor)?;
     let (ty, end) = item_type_at(alloc, bytes, behind)?;
     Ok((ItemBody::Trace { n, ty }, end))
 }
 
-/// `obj = obj : type` behind `#equal`.
+/// `obj = obj : type` after `#equal`.
 fn equal_at(alloc: Global, bytes: &[u8], cursor: Cursor) -> Result<(ItemBody, Cursor), Stop>
     requires cursor { IsCursorOf bytes.now cursor }
-    ensures read { IfOk result (λ r. (s : State) → TakesDirective (codes "#equal") s (state_of bytes.now cursor) → IsBody s (body_of r.0) (state_of bytes.now r.1)) }
+    ensures read { IfOk result (λ r.
+        (s : State) → TakesDirective (codes "#equal") s (state_of bytes.now cursor) →
+        IsBody s (body_of r.0) (state_of bytes.now r.1)) }
     ensures name { IfOk result (λ r. HasDeclarableName (body_of r.0)) }
     ensures cursor { IfOk result (λ r. IsCursorOf bytes.now r.1) }
     ensures further { IfOk result (λ r. cursor.end < r.1.end) }
-    ensures fault { IfErr result (λ e. (k : List Symbol) → IsFaultOf bytes.now (ObjectSymbol ∷ Expect TokenKind.Equals ∷ ObjectSymbol ∷ Expect TokenKind.Colon ∷ Whole ∷ k) (state_of bytes.now cursor) e) }
+    ensures fault { IfErr result (λ e.
+        (k : List Symbol) →
+        IsFaultOf bytes.now
+        (ObjectSymbol ∷ Expect TokenKind.Equals ∷ ObjectSymbol ∷ Expect TokenKind.Colon ∷ Whole ∷ k)
+        (state_of bytes.now cursor) e) }
 {
     let (left, behind_left) = boxed_object_at(alloc, bytes, cursor)?;
     let equals = take(bytes, behind_left, TokenKind::Equals)?;
@@ -162,14 +182,18 @@ fn equal_at(alloc: Global, bytes: &[u8], cursor: Cursor) -> Result<(ItemBody, Cu
     Ok((ItemBody::Equal { left, right, ty }, end))
 }
 
-/// `obj : type` behind `#check`.
+/// `obj : type` after `#check`.
 fn check_at(alloc: Global, bytes: &[u8], cursor: Cursor) -> Result<(ItemBody, Cursor), Stop>
     requires cursor { IsCursorOf bytes.now cursor }
-    ensures read { IfOk result (λ r. (s : State) → TakesDirective (codes "#check") s (state_of bytes.now cursor) → IsBody s (body_of r.0) (state_of bytes.now r.1)) }
+    ensures read { IfOk result (λ r.
+        (s : State) → TakesDirective (codes "#check") s (state_of bytes.now cursor) →
+        IsBody s (body_of r.0) (state_of bytes.now r.1)) }
     ensures name { IfOk result (λ r. HasDeclarableName (body_of r.0)) }
     ensures cursor { IfOk result (λ r. IsCursorOf bytes.now r.1) }
     ensures further { IfOk result (λ r. cursor.end < r.1.end) }
-    ensures fault { IfErr result (λ e. (k : List Symbol) → IsFaultOf bytes.now (ObjectSymbol ∷ Expect TokenKind.Colon ∷ Whole ∷ k) (state_of bytes.now cursor) e) }
+    ensures fault { IfErr result (λ e.
+        (k : List Symbol) →
+        IsFaultOf bytes.now (ObjectSymbol ∷ Expect TokenKind.Colon ∷ Whole ∷ k) (state_of bytes.now cursor) e) }
 {
     let (obj, behind) = boxed_object_at(alloc, bytes, cursor)?;
     let colon = take(bytes, behind, TokenKind::Colon)?;

@@ -16,7 +16,8 @@ pub fn bound_at(bytes: &[u8], cursor: Cursor) -> Result<(Bound, Cursor), Stop>
     ensures read { IfOk result (λ r. IsBound (state_of bytes.now cursor) r.0 (state_of bytes.now r.1)) }
     ensures cursor { IfOk result (λ r. IsCursorOf bytes.now r.1) }
     ensures further { IfOk result (λ r. cursor.end < r.1.end) }
-    ensures fault { IfErr result (λ e. (k : List Symbol) → IsFaultOf bytes.now (BoundSymbol ∷ k) (state_of bytes.now cursor) e) }
+    ensures fault { IfErr result
+        (λ e. (k : List Symbol) → IsFaultOf bytes.now (BoundSymbol ∷ k) (state_of bytes.now cursor) e) }
 {
     match kind_of_next(bytes, cursor) {
         TokenKind::Star => Ok((Bound::Star, take(bytes, cursor, TokenKind::Star)?)),
@@ -30,7 +31,8 @@ pub fn implicit_at(bytes: &[u8], cursor: Cursor) -> Result<(Option<Bound>, Curso
     ensures read { IfOk result (λ r. IsImplicit (state_of bytes.now cursor) r.0 (state_of bytes.now r.1)) }
     ensures cursor { IfOk result (λ r. IsCursorOf bytes.now r.1) }
     ensures further { IfOk result (λ r. cursor.end ≤ r.1.end) }
-    ensures fault { IfErr result (λ e. (k : List Symbol) → IsFaultOf bytes.now (ImplicitSymbol ∷ k) (state_of bytes.now cursor) e) }
+    ensures fault { IfErr result
+        (λ e. (k : List Symbol) → IsFaultOf bytes.now (ImplicitSymbol ∷ k) (state_of bytes.now cursor) e) }
 {
     let TokenKind::LeftBracket = kind_of_next(bytes, cursor) else {
         return Ok((None, cursor));

@@ -23,7 +23,8 @@ pub fn next_item(alloc: Global, bytes: &[u8], at: u32) -> Result<Option<Item>, S
     requires place { at ≤ length bytes.now }
     requires size { length bytes.now ≤ size_limit }
     ensures item { IfOk result (λ found. IfSome found (λ item. IsItemAt bytes.now at (written_item item))) }
-    ensures behind { IfOk result (λ found. IfSome found (λ item. (at < item.span.end) × (item.span.end ≤ length bytes.now))) }
+    ensures behind { IfOk result
+        (λ found. IfSome found (λ item. (at < item.span.end) × (item.span.end ≤ length bytes.now))) }
     ensures name { IfOk result (λ found. IfSome found (λ item. HasDeclarableName (written_item item).body)) }
     ensures none { IfOk result (λ found. IfNone found (at + gap (drop at bytes.now) ≡ length bytes.now)) }
     ensures fault { IfErr result (λ f. f ≢ SyntaxFault.NoMemory → IsFaultAt bytes.now at f) }
@@ -42,10 +43,13 @@ pub fn next_item(alloc: Global, bytes: &[u8], at: u32) -> Result<Option<Item>, S
 #[tactic(auto, using(crate::proofs::Items::item_steps, crate::proofs::BodyFaults::item_faults))]
 fn item_at(alloc: Global, bytes: &[u8], cursor: Cursor) -> Result<Item, SyntaxFault>
     requires cursor { IsCursorOf bytes.now cursor }
-    ensures read { IfOk result (λ item. (at : ℕ) → state_of bytes.now cursor ≡ start_at bytes.now at → IsItemAt bytes.now at (written_item item)) }
+    ensures read { IfOk result (λ item.
+        (at : ℕ) → state_of bytes.now cursor ≡ start_at bytes.now at →
+        IsItemAt bytes.now at (written_item item)) }
     ensures behind { IfOk result (λ item. (cursor.end < item.span.end) × (item.span.end ≤ length bytes.now)) }
     ensures name { IfOk result (λ item. HasDeclarableName (written_item item).body) }
-    ensures fault { IfErr result (λ f. (k : List Symbol) → IsItemFault bytes.now (ItemSymbol ∷ k) (state_of bytes.now cursor) f) }
+    ensures fault { IfErr result
+        (λ f. (k : List Symbol) → IsItemFault bytes.now (ItemSymbol ∷ k) (state_of bytes.now cursor) f) }
 {
     let (body, behind) = body_at(alloc, bytes, cursor)?;
     match take(bytes, behind, TokenKind::Stop) {

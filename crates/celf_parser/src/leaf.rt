@@ -27,7 +27,8 @@ pub fn family_at(
     ensures read { IfOk result (λ r. IsTypeAtom (state_of bytes.now cursor) (surface r.0) (state_of bytes.now r.1)) }
     ensures cursor { IfOk result (λ r. IsCursorOf bytes.now r.1) }
     ensures further { IfOk result (λ r. cursor.end < r.1.end) }
-    ensures fault { IfErr result (λ e. (k : List Symbol) → IsFaultOf bytes.now (TypeAtom ∷ k) (state_of bytes.now cursor) e) }
+    ensures fault { IfErr result
+        (λ e. (k : List Symbol) → IsFaultOf bytes.now (TypeAtom ∷ k) (state_of bytes.now cursor) e) }
 {
     let (name, dollar, behind) = family_name_at(alloc, bytes, cursor)?;
     let (indices, end) = indices_at(alloc, bytes, behind)?;
@@ -44,7 +45,8 @@ pub fn word_at(alloc: Global, bytes: &[u8], cursor: Cursor) -> Result<(Boxed<STy
     ensures read { IfOk result (λ r. IsTypeAtom (state_of bytes.now cursor) (surface r.0) (state_of bytes.now r.1)) }
     ensures cursor { IfOk result (λ r. IsCursorOf bytes.now r.1) }
     ensures further { IfOk result (λ r. cursor.end < r.1.end) }
-    ensures fault { IfErr result (λ e. (k : List Symbol) → IsFaultOf bytes.now (TypeAtom ∷ k) (state_of bytes.now cursor) e) }
+    ensures fault { IfErr result
+        (λ e. (k : List Symbol) → IsFaultOf bytes.now (TypeAtom ∷ k) (state_of bytes.now cursor) e) }
 {
     let end = take(bytes, cursor, TokenKind::KwType)?;
     let ty = form::type_word(alloc, span_from(bytes, cursor, end))?;
@@ -58,7 +60,8 @@ pub fn top_at(alloc: Global, bytes: &[u8], cursor: Cursor) -> Result<(Boxed<STyp
     ensures read { IfOk result (λ r. IsTypeAtom (state_of bytes.now cursor) (surface r.0) (state_of bytes.now r.1)) }
     ensures cursor { IfOk result (λ r. IsCursorOf bytes.now r.1) }
     ensures further { IfOk result (λ r. cursor.end < r.1.end) }
-    ensures fault { IfErr result (λ e. (k : List Symbol) → IsFaultOf bytes.now (TypeAtom ∷ k) (state_of bytes.now cursor) e) }
+    ensures fault { IfErr result
+        (λ e. (k : List Symbol) → IsFaultOf bytes.now (TypeAtom ∷ k) (state_of bytes.now cursor) e) }
 {
     let end = take(bytes, cursor, TokenKind::TopSign)?;
     let ty = form::top(alloc, span_from(bytes, cursor, end))?;
@@ -72,7 +75,8 @@ pub fn one_at(alloc: Global, bytes: &[u8], cursor: Cursor) -> Result<(Boxed<STyp
     ensures read { IfOk result (λ r. IsTypeAtom (state_of bytes.now cursor) (surface r.0) (state_of bytes.now r.1)) }
     ensures cursor { IfOk result (λ r. IsCursorOf bytes.now r.1) }
     ensures further { IfOk result (λ r. cursor.end < r.1.end) }
-    ensures fault { IfErr result (λ e. (k : List Symbol) → IsFaultOf bytes.now (TypeAtom ∷ k) (state_of bytes.now cursor) e) }
+    ensures fault { IfErr result
+        (λ e. (k : List Symbol) → IsFaultOf bytes.now (TypeAtom ∷ k) (state_of bytes.now cursor) e) }
 {
     let end = take_one(bytes, cursor)?;
     let ty = form::one(alloc, span_from(bytes, cursor, end))?;

@@ -10,14 +10,14 @@ use celf_surface::SType;
 use sqlite_items::{Boxed, Items};
 use std::alloc::{AllocError, Global};
 
-/// A factor with a `*` behind it, and where it begins.
+/// A factor with a `*` after it, and where it begins.
 #[derive(Drop)]
 pub struct Factor {
     pub at: Cursor,
     pub ty: Boxed<SType>,
 }
 
-/// The product of factors and of the last one, behind which the product ends.
+/// The product of factors and of the last one, after which the product ends.
 #[tactic(auto, using(crate::proofs::Products::product_steps))]
 pub fn product(
     alloc: Global,
@@ -26,7 +26,8 @@ pub fn product(
     last: Boxed<SType>,
     behind: Cursor,
 ) -> Result<Boxed<SType>, AllocError>
-    ensures { IfOk result (λ t. surface t ≡ product_of (map (factor_of bytes.now) factors) (surface last) (state_of bytes.now behind)) }
+    ensures { IfOk result (λ t.
+        surface t ≡ product_of (map (factor_of bytes.now) factors) (surface last) (state_of bytes.now behind)) }
 {
     let mut left = factors;
     let mut product = last;

@@ -27,7 +27,8 @@ pub fn type_at(alloc: Global, bytes: &[u8], cursor: Cursor) -> Result<(Boxed<STy
     ensures read { IfOk result (λ r. IsType (state_of bytes.now cursor) (surface r.0) (state_of bytes.now r.1)) }
     ensures cursor { IfOk result (λ r. IsCursorOf bytes.now r.1) }
     ensures further { IfOk result (λ r. cursor.end < r.1.end) }
-    ensures fault { IfErr result (λ e. (k : List Symbol) → IsFaultOf bytes.now (Whole ∷ k) (state_of bytes.now cursor) e) }
+    ensures fault { IfErr result
+        (λ e. (k : List Symbol) → IsFaultOf bytes.now (Whole ∷ k) (state_of bytes.now cursor) e) }
 {
     let (mut left, mut behind) = forward_at(alloc, bytes, cursor)?;
     while let Some((arrow, sign)) = open_backward(bytes, behind)? {
@@ -38,14 +39,15 @@ pub fn type_at(alloc: Global, bytes: &[u8], cursor: Cursor) -> Result<(Boxed<STy
     Ok((left, behind))
 }
 
-/// A `Pi` type, or a product with perhaps an arrow and a forward type behind it.
+/// A `Pi` type, or a product with perhaps an arrow and a forward type after it.
 #[cycle(types)]
 fn forward_at(alloc: Global, bytes: &[u8], cursor: Cursor) -> Result<(Boxed<SType>, Cursor), Stop>
     requires cursor { IsCursorOf bytes.now cursor }
     ensures read { IfOk result (λ r. IsForward (state_of bytes.now cursor) (surface r.0) (state_of bytes.now r.1)) }
     ensures cursor { IfOk result (λ r. IsCursorOf bytes.now r.1) }
     ensures further { IfOk result (λ r. cursor.end < r.1.end) }
-    ensures fault { IfErr result (λ e. (k : List Symbol) → IsFaultOf bytes.now (Forward ∷ k) (state_of bytes.now cursor) e) }
+    ensures fault { IfErr result
+        (λ e. (k : List Symbol) → IsFaultOf bytes.now (Forward ∷ k) (state_of bytes.now cursor) e) }
 {
     if let TokenKind::KwPi = kind_of_next(bytes, cursor) {
         return pi_at(alloc, bytes, cursor);
@@ -67,7 +69,8 @@ fn pi_at(alloc: Global, bytes: &[u8], cursor: Cursor) -> Result<(Boxed<SType>, C
     ensures read { IfOk result (λ r. IsForward (state_of bytes.now cursor) (surface r.0) (state_of bytes.now r.1)) }
     ensures cursor { IfOk result (λ r. IsCursorOf bytes.now r.1) }
     ensures further { IfOk result (λ r. cursor.end < r.1.end) }
-    ensures fault { IfErr result (λ e. (k : List Symbol) → IsFaultOf bytes.now (Forward ∷ k) (state_of bytes.now cursor) e) }
+    ensures fault { IfErr result
+        (λ e. (k : List Symbol) → IsFaultOf bytes.now (Forward ∷ k) (state_of bytes.now cursor) e) }
 {
     let (name, colon) = binder_at(alloc, bytes, cursor, TokenKind::KwPi)?;
     let (dom, behind) = type_at(alloc, bytes, colon)?;
@@ -85,7 +88,8 @@ fn sync_at(alloc: Global, bytes: &[u8], cursor: Cursor) -> Result<(Boxed<SType>,
     ensures read { IfOk result (λ r. IsSync (state_of bytes.now cursor) (surface r.0) (state_of bytes.now r.1)) }
     ensures cursor { IfOk result (λ r. IsCursorOf bytes.now r.1) }
     ensures further { IfOk result (λ r. cursor.end < r.1.end) }
-    ensures fault { IfErr result (λ e. (k : List Symbol) → IsFaultOf bytes.now (Sync ∷ k) (state_of bytes.now cursor) e) }
+    ensures fault { IfErr result
+        (λ e. (k : List Symbol) → IsFaultOf bytes.now (Sync ∷ k) (state_of bytes.now cursor) e) }
 {
     let mut factors = Items::new(alloc);
     let mut at = cursor;
@@ -111,7 +115,8 @@ fn exists_at(alloc: Global, bytes: &[u8], cursor: Cursor) -> Result<(Boxed<SType
     ensures read { IfOk result (λ r. IsSync (state_of bytes.now cursor) (surface r.0) (state_of bytes.now r.1)) }
     ensures cursor { IfOk result (λ r. IsCursorOf bytes.now r.1) }
     ensures further { IfOk result (λ r. cursor.end < r.1.end) }
-    ensures fault { IfErr result (λ e. (k : List Symbol) → IsFaultOf bytes.now (Sync ∷ k) (state_of bytes.now cursor) e) }
+    ensures fault { IfErr result
+        (λ e. (k : List Symbol) → IsFaultOf bytes.now (Sync ∷ k) (state_of bytes.now cursor) e) }
 {
     let (name, colon) = binder_at(alloc, bytes, cursor, TokenKind::KwExists)?;
     let (dom, behind) = type_at(alloc, bytes, colon)?;
@@ -121,7 +126,7 @@ fn exists_at(alloc: Global, bytes: &[u8], cursor: Cursor) -> Result<(Boxed<SType
     Ok((ty, end))
 }
 
-/// An additive pair or a single atom, perhaps behind `!` or `@`.
+/// An additive pair or a single atom, perhaps after `!` or `@`.
 #[cycle(types)]
 #[tactic(auto, using(crate::proofs::Reading::factor_steps, crate::proofs::TypeFaults::factor_faults))]
 fn factor_at(alloc: Global, bytes: &[u8], cursor: Cursor) -> Result<(Boxed<SType>, Cursor), Stop>
@@ -129,7 +134,8 @@ fn factor_at(alloc: Global, bytes: &[u8], cursor: Cursor) -> Result<(Boxed<SType
     ensures read { IfOk result (λ r. IsFactor (state_of bytes.now cursor) (surface r.0) (state_of bytes.now r.1)) }
     ensures cursor { IfOk result (λ r. IsCursorOf bytes.now r.1) }
     ensures further { IfOk result (λ r. cursor.end < r.1.end) }
-    ensures fault { IfErr result (λ e. (k : List Symbol) → IsFaultOf bytes.now (FactorSymbol ∷ k) (state_of bytes.now cursor) e) }
+    ensures fault { IfErr result
+        (λ e. (k : List Symbol) → IsFaultOf bytes.now (FactorSymbol ∷ k) (state_of bytes.now cursor) e) }
 {
     match kind_of_next(bytes, cursor) {
         TokenKind::Bang => marked_at(alloc, bytes, cursor, TokenKind::Bang, Mode::Persistent),
@@ -138,7 +144,7 @@ fn factor_at(alloc: Global, bytes: &[u8], cursor: Cursor) -> Result<(Boxed<SType
     }
 }
 
-/// An additive pair or a single atom behind a mark.
+/// An additive pair or a single atom after a mark.
 #[cycle(types)]
 fn marked_at(
     alloc: Global,
@@ -150,10 +156,13 @@ fn marked_at(
     requires cursor { IsCursorOf bytes.now cursor }
     requires kind { kind_next bytes.now cursor ≡ sign }
     requires sign { sign ≢ TokenKind.End }
-    ensures read { IfOk result (λ r. IsMarked sign mode (state_of bytes.now cursor) (surface r.0) (state_of bytes.now r.1)) }
+    ensures read { IfOk result
+        (λ r. IsMarked sign mode (state_of bytes.now cursor) (surface r.0) (state_of bytes.now r.1)) }
     ensures cursor { IfOk result (λ r. IsCursorOf bytes.now r.1) }
     ensures further { IfOk result (λ r. cursor.end < r.1.end) }
-    ensures fault { IfErr result (λ e. (j k : List Symbol) → TakesOn sign j (With ∷ k) (state_of bytes.now cursor) → IsFaultOf bytes.now j (state_of bytes.now cursor) e) }
+    ensures fault { IfErr result (λ e.
+        (j k : List Symbol) → TakesOn sign j (With ∷ k) (state_of bytes.now cursor) →
+        IsFaultOf bytes.now j (state_of bytes.now cursor) e) }
 {
     let mark = take(bytes, cursor, sign)?;
     let (body, end) = with_at(alloc, bytes, mark)?;
@@ -168,7 +177,8 @@ fn with_at(alloc: Global, bytes: &[u8], cursor: Cursor) -> Result<(Boxed<SType>,
     ensures read { IfOk result (λ r. IsWith (state_of bytes.now cursor) (surface r.0) (state_of bytes.now r.1)) }
     ensures cursor { IfOk result (λ r. IsCursorOf bytes.now r.1) }
     ensures further { IfOk result (λ r. cursor.end < r.1.end) }
-    ensures fault { IfErr result (λ e. (k : List Symbol) → IsFaultOf bytes.now (With ∷ k) (state_of bytes.now cursor) e) }
+    ensures fault { IfErr result
+        (λ e. (k : List Symbol) → IsFaultOf bytes.now (With ∷ k) (state_of bytes.now cursor) e) }
 {
     let (left, behind) = atom_at(alloc, bytes, cursor)?;
     let TokenKind::Amp = kind_of_next(bytes, behind) else {
@@ -188,7 +198,8 @@ fn atom_at(alloc: Global, bytes: &[u8], cursor: Cursor) -> Result<(Boxed<SType>,
     ensures read { IfOk result (λ r. IsTypeAtom (state_of bytes.now cursor) (surface r.0) (state_of bytes.now r.1)) }
     ensures cursor { IfOk result (λ r. IsCursorOf bytes.now r.1) }
     ensures further { IfOk result (λ r. cursor.end < r.1.end) }
-    ensures fault { IfErr result (λ e. (k : List Symbol) → IsFaultOf bytes.now (TypeAtom ∷ k) (state_of bytes.now cursor) e) }
+    ensures fault { IfErr result
+        (λ e. (k : List Symbol) → IsFaultOf bytes.now (TypeAtom ∷ k) (state_of bytes.now cursor) e) }
 {
     match kind_of_next(bytes, cursor) {
         TokenKind::LeftParen => {
@@ -211,7 +222,8 @@ fn braces_at(alloc: Global, bytes: &[u8], cursor: Cursor) -> Result<(Boxed<SType
     ensures read { IfOk result (λ r. IsTypeAtom (state_of bytes.now cursor) (surface r.0) (state_of bytes.now r.1)) }
     ensures cursor { IfOk result (λ r. IsCursorOf bytes.now r.1) }
     ensures further { IfOk result (λ r. cursor.end < r.1.end) }
-    ensures fault { IfErr result (λ e. (k : List Symbol) → IsFaultOf bytes.now (TypeAtom ∷ k) (state_of bytes.now cursor) e) }
+    ensures fault { IfErr result
+        (λ e. (k : List Symbol) → IsFaultOf bytes.now (TypeAtom ∷ k) (state_of bytes.now cursor) e) }
 {
     let (open, close) = (TokenKind::LeftBrace, TokenKind::RightBrace);
     let (body, end) = enclosed_at(alloc, bytes, cursor, open, close)?;
@@ -232,10 +244,15 @@ fn enclosed_at(
     requires kind { kind_next bytes.now cursor ≡ opening }
     requires opening { opening ≢ TokenKind.End }
     requires closing { closing ≢ TokenKind.End }
-    ensures read { IfOk result (λ r. Encloses opening closing (state_of bytes.now cursor) (surface r.0) (state_of bytes.now r.1)) }
+    ensures read { IfOk result
+        (λ r. Encloses opening closing (state_of bytes.now cursor) (surface r.0) (state_of bytes.now r.1)) }
     ensures cursor { IfOk result (λ r. IsCursorOf bytes.now r.1) }
     ensures further { IfOk result (λ r. cursor.end < r.1.end) }
-    ensures fault { IfErr result (λ e. (j k : List Symbol) → OpensOn opening j (Whole ∷ Close closing (state_of bytes.now cursor).room ∷ k) (state_of bytes.now cursor) → IsFaultOf bytes.now j (state_of bytes.now cursor) e) }
+    ensures fault { IfErr result (λ e.
+        (j k : List Symbol) →
+        OpensOn opening j (Whole ∷ Close closing (state_of bytes.now cursor).room ∷ k)
+        (state_of bytes.now cursor) →
+        IsFaultOf bytes.now j (state_of bytes.now cursor) e) }
 {
     let inside = open(bytes, cursor, opening)?;
     let (ty, behind) = type_at(alloc, bytes, inside)?;
@@ -256,7 +273,10 @@ fn binder_at(
     ensures read { IfOk result (λ r. Binds keyword (state_of bytes.now cursor) r.0 (state_of bytes.now r.1)) }
     ensures cursor { IfOk result (λ r. IsCursorOf bytes.now r.1) }
     ensures further { IfOk result (λ r. cursor.end < r.1.end) }
-    ensures fault { IfErr result (λ e. (j k : List Symbol) → OpensOn keyword j (NameWord ∷ Expect TokenKind.Colon ∷ k) (state_of bytes.now cursor) → IsFaultOf bytes.now j (state_of bytes.now cursor) e) }
+    ensures fault { IfErr result (λ e.
+        (j k : List Symbol) →
+        OpensOn keyword j (NameWord ∷ Expect TokenKind.Colon ∷ k) (state_of bytes.now cursor) →
+        IsFaultOf bytes.now j (state_of bytes.now cursor) e) }
 {
     let inside = open(bytes, cursor, keyword)?;
     let (name, behind) = take_name(alloc, bytes, inside)?;

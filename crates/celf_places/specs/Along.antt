@@ -16,7 +16,7 @@ abbrev pub read_along : {S X Y : Type 0} → (S → X → Option Y) → (S → X
 read_along read next s [] = Some []
 read_along read next s (x ∷ xs) = combined (◌∷◌) (read s x) (read_along read next (next s x) xs)
 
--- parts with more behind them, if these are there
+-- parts with more after them, if these are there
 abbrev pub with_some : {Y : Type 0} → List Y → Option (List Y) → Option (List Y)
 with_some es more = option_map (λ fs. es ++ fs) more
 

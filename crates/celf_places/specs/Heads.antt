@@ -42,7 +42,7 @@ abbrev pub has_no_implicit : Option PlainEntry → Bool
 has_no_implicit None = true
 has_no_implicit (Some e) = is_zero e.implicit
 
--- The place of a constant or family that leaves nothing to be found: behind `$` every argument is written, and elsewhere there are no implicit ones.
+-- The place of a constant or family that leaves nothing to be found: after `$` every argument is written, and elsewhere there are no implicit ones.
 abbrev pub all_written : PlainSignature → Bool → ℕ → Option ℕ
 all_written sig dollar k = if dollar || has_no_implicit (entry_at sig k) then Some k else None
 

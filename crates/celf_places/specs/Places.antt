@@ -53,7 +53,7 @@ abbrev pub entries_at : Place → List (Mode × SimpleType)
 entries_at (Some (lax s)) = entries_of s
 entries_at t = []
 
--- What is wanted of the next one of several parts, and of those behind it. Beyond the last wanted one nothing is, and a bare part is linear.
+-- What is wanted of the next one of several parts, and of those after it. Beyond the last wanted one nothing is, and a bare part is linear.
 pub record NextPart : Type 0 where
   pub mode : Mode
   pub place : Place

@@ -25,7 +25,7 @@ fn has_no_implicit(sig: &Signature, place: u32) -> bool
     }
 }
 
-/// A place where every argument is written: behind `$`, or where none is implicit.
+/// A place where every argument is written: after `$`, or where none is implicit.
 fn all_written(sig: &Signature, dollar: bool, place: u32) -> Option<u32>
     ensures { result ≡ spec.all_written (plain_signature sig.now) dollar place }
 {
@@ -38,7 +38,8 @@ fn all_written(sig: &Signature, dollar: bool, place: u32) -> Option<u32>
 
 /// The constant of a name, with its simple type.
 fn constant_head<'a>(sig: &'a Signature, name: &PName) -> Option<Found<'a>>
-    ensures { option_map (λ h. (h.head, plain_place (option_copied h.place))) result ≡ spec.constant_head (plain_signature sig.now) name.now }
+    ensures { option_map (λ h. (h.head, plain_place (option_copied h.place))) result
+        ≡ spec.constant_head (plain_signature sig.now) name.now }
 {
     let named = constant_named(sig, name.name.as_str())?;
     let constant = all_written(sig, name.dollar, named)?;
@@ -54,7 +55,9 @@ pub fn head_of<'a>(
     locals: &Locals<'a>,
     name: &PName,
 ) -> Result<Option<Found<'a>>, Shortage>
-    ensures { IfOk result (λ f. option_map (λ h. (h.head, plain_place (option_copied h.place))) f ≡ spec.head (plain_signature sig.now) (plain_locals locals.now) name.now) }
+    ensures { IfOk result (λ f.
+        option_map (λ h. (h.head, plain_place (option_copied h.place))) f
+        ≡ spec.head (plain_signature sig.now) (plain_locals locals.now) name.now) }
 {
     if !name.dollar {
         if let Some(found) = locals.find(&name.name)? {

@@ -108,7 +108,9 @@ impl<'a> Locals<'a> {
 
     /// The newest binder of a name, as a head. It fails only where its number would pass the greatest one.
     pub fn find(&self, name: &Name) -> Result<Option<Found<'a>>, Shortage>
-        ensures { IfOk result (λ f. option_map (λ h. (h.head, plain_place (option_copied h.place))) f ≡ spec.local_from 0 name.now (plain_locals self.now)) }
+        ensures { IfOk result (λ f.
+            option_map (λ h. (h.head, plain_place (option_copied h.place))) f
+            ≡ spec.local_from 0 name.now (plain_locals self.now)) }
     {
         let mut left = self.locals.len();
         let mut number: u32 = 0;

@@ -25,7 +25,7 @@ pub struct PairParts<'a> {
     pub right: Option<&'a Simple>,
 }
 
-/// What is wanted of the next one of several parts, and of those behind it.
+/// What is wanted of the next one of several parts, and of those after it.
 #[derive(Clone, Copy)]
 pub struct NextPart<'a> {
     pub mode: Mode,
@@ -37,8 +37,10 @@ pub struct NextPart<'a> {
 #[tactic(auto, using(clf_syntax::specs::PlainSimple::plain_simple_laws))]
 pub fn function_parts<'a>(place: Option<&'a Simple>) -> FunctionParts<'a>
     ensures mode { result.mode ≡ (spec.function_parts (plain_place (option_copied place.entry))).mode }
-    ensures domain { plain_place (option_copied result.domain) ≡ (spec.function_parts (plain_place (option_copied place.entry))).domain }
-    ensures codomain { plain_place (option_copied result.codomain) ≡ (spec.function_parts (plain_place (option_copied place.entry))).codomain }
+    ensures domain { plain_place (option_copied result.domain)
+        ≡ (spec.function_parts (plain_place (option_copied place.entry))).domain }
+    ensures codomain { plain_place (option_copied result.codomain)
+        ≡ (spec.function_parts (plain_place (option_copied place.entry))).codomain }
 {
     match place {
         Some(Simple::Fun { mode, dom, cod }) => FunctionParts {
@@ -59,8 +61,10 @@ pub fn function_parts<'a>(place: Option<&'a Simple>) -> FunctionParts<'a>
 /// The parts of a pair's place.
 #[tactic(auto, using(clf_syntax::specs::PlainSimple::plain_simple_laws))]
 pub fn pair_parts<'a>(place: Option<&'a Simple>) -> PairParts<'a>
-    ensures left { plain_place (option_copied result.left) ≡ (spec.pair_parts (plain_place (option_copied place.entry))).left }
-    ensures right { plain_place (option_copied result.right) ≡ (spec.pair_parts (plain_place (option_copied place.entry))).right }
+    ensures left { plain_place (option_copied result.left)
+        ≡ (spec.pair_parts (plain_place (option_copied place.entry))).left }
+    ensures right { plain_place (option_copied result.right)
+        ≡ (spec.pair_parts (plain_place (option_copied place.entry))).right }
 {
     match place {
         Some(Simple::With { left, right }) => PairParts {
@@ -92,8 +96,10 @@ pub fn entries_at<'a>(place: Option<&'a Simple>) -> &'a [SimpleEntry]
 #[tactic(auto, using(clf_syntax::specs::PlainSimple::plain_simple_laws))]
 pub fn next_part<'a>(entries: &'a [SimpleEntry]) -> NextPart<'a>
     ensures mode { result.mode ≡ (spec.next_part (map plain_simple_entry entries.now)).mode }
-    ensures place { plain_place (option_copied result.place) ≡ (spec.next_part (map plain_simple_entry entries.now)).place }
-    ensures later { map plain_simple_entry result.later.now ≡ (spec.next_part (map plain_simple_entry entries.now)).later }
+    ensures place { plain_place (option_copied result.place)
+        ≡ (spec.next_part (map plain_simple_entry entries.now)).place }
+    ensures later { map plain_simple_entry result.later.now
+        ≡ (spec.next_part (map plain_simple_entry entries.now)).later }
 {
     match entries {
         [entry, later @ ..] => NextPart {
@@ -112,7 +118,8 @@ pub fn next_part<'a>(entries: &'a [SimpleEntry]) -> NextPart<'a>
 /// The simple type of what goes on by an argument or a projection.
 #[tactic(auto, using(celf_sugar::specs::Plain::elim_laws))]
 pub fn behind_act<'a>(simple: Option<&'a Simple>, act: &PElim) -> Option<&'a Simple>
-    ensures { plain_place (option_copied result) ≡ spec.behind_act (plain_place (option_copied simple.entry)) (desugared_elim act.now) }
+    ensures { plain_place (option_copied result)
+        ≡ spec.behind_act (plain_place (option_copied simple.entry)) (desugared_elim act.now) }
 {
     match act {
         PElim::Arg { .. } => function_parts(simple).codomain,
@@ -123,7 +130,8 @@ pub fn behind_act<'a>(simple: Option<&'a Simple>, act: &PElim) -> Option<&'a Sim
 
 /// The simple type of what goes on by a whole spine.
 pub fn behind_spine<'a>(simple: Option<&'a Simple>, spine: &[PElim]) -> Option<&'a Simple>
-    ensures { plain_place (option_copied result) ≡ spec.behind_spine (plain_place (option_copied simple.entry)) (spine_of (map desugared_elim spine.now)) }
+    ensures { plain_place (option_copied result)
+        ≡ spec.behind_spine (plain_place (option_copied simple.entry)) (spine_of (map desugared_elim spine.now)) }
 {
     let mut place = simple;
     for act in spine {

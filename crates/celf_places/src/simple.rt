@@ -17,7 +17,8 @@ use clf_syntax::{Mode, Name, Shortage, Simple, SimpleEntry};
 use sqlite_items::{Boxed, Items};
 use std::alloc::Global;
 
-/// What is left of a type without its indices; none where a name in it is that of no family. It fails only where memory runs out.
+/// What is left of a type without its indices; none where a name in it is that of no family. It fails only where memory
+/// runs out.
 #[cycle(simple)]
 #[tactic(auto, using(celf_names::proofs::Forms::type_laws, crate::proofs::Forms::simple_top_laws))]
 pub fn simple_of(alloc: Global, sig: &Signature, ty: &PTy) -> Result<Option<Simple>, Shortage>
@@ -75,7 +76,10 @@ fn both(left: Option<Boxed<Simple>>, right: Option<Boxed<Simple>>) -> Option<Sim
 #[cycle(simple)]
 #[tactic(auto, using(celf_names::proofs::Forms::telescope_laws, crate::specs::Along::simple_list_laws))]
 fn simple_monad(alloc: Global, sig: &Signature, tele: &PTele) -> Result<Option<Simple>, Shortage>
-    ensures { IfOk result (λ t. plain_place t ≡ option_map core_type.lax (spec.simple_telescope (plain_signature sig.now) (desugared_telescope tele.now))) }
+    ensures { IfOk result (λ t.
+        plain_place t
+        ≡ option_map core_type.lax
+        (spec.simple_telescope (plain_signature sig.now) (desugared_telescope tele.now))) }
 {
     let entries = simple_entries(alloc, sig, tele.entries.as_slice())?;
     Ok(monad(entries))
@@ -83,7 +87,8 @@ fn simple_monad(alloc: Global, sig: &Signature, tele: &PTele) -> Result<Option<S
 
 #[tactic(auto, using(clf_syntax::specs::PlainSimple::plain_simple_laws))]
 fn monad(entries: Option<Items<SimpleEntry>>) -> Option<Simple>
-    ensures { plain_place result ≡ option_map core_type.lax (option_map simple_telescope_of (option_map (map plain_simple_entry) entries)) }
+    ensures { plain_place result
+        ≡ option_map core_type.lax (option_map simple_telescope_of (option_map (map plain_simple_entry) entries)) }
 {
     let entries = entries?;
     Some(Simple::Monad { entries })
@@ -95,7 +100,10 @@ fn simple_entries(
     sig: &Signature,
     entries: &[PEntry],
 ) -> Result<Option<Items<SimpleEntry>>, Shortage>
-    ensures { IfOk result (λ es. option_map (map plain_simple_entry) es ≡ read_along (simple_entry_of (plain_signature sig.now)) stateless tt (map desugared_entry entries.now)) }
+    ensures { IfOk result (λ es.
+        option_map (map plain_simple_entry) es
+        ≡ read_along (simple_entry_of (plain_signature sig.now)) stateless tt
+        (map desugared_entry entries.now)) }
 {
     let mut simple = Items::new(alloc);
     for entry in entries {
@@ -114,7 +122,9 @@ fn simple_entry(
     sig: &Signature,
     entry: &PEntry,
 ) -> Result<Option<SimpleEntry>, Shortage>
-    ensures { IfOk result (λ e. option_map plain_simple_entry e ≡ simple_entry_of (plain_signature sig.now) tt (desugared_entry entry.now)) }
+    ensures { IfOk result (λ e.
+        option_map plain_simple_entry e
+        ≡ simple_entry_of (plain_signature sig.now) tt (desugared_entry entry.now)) }
 {
     let ty = simple_of(alloc, sig, &entry.ty)?;
     Ok(entry_of(entry.mode, ty))
@@ -135,7 +145,8 @@ pub fn bound_simple(
     name: &Option<Name>,
     ty: &PTy,
 ) -> Result<Option<Boxed<Simple>>, Shortage>
-    ensures { IfOk result (λ t. (name.now, plain_place t) ≡ spec.local_of (plain_signature sig.now) name.now (desugared_type ty.now)) }
+    ensures { IfOk result (λ t.
+        (name.now, plain_place t) ≡ spec.local_of (plain_signature sig.now) name.now (desugared_type ty.now)) }
 {
     match name {
         Some(_) => boxed(alloc, simple_of(alloc, sig, ty)),
@@ -149,7 +160,8 @@ pub fn bound_simples(
     sig: &Signature,
     entries: &[PEntry],
 ) -> Result<Items<Option<Boxed<Simple>>>, Shortage>
-    ensures { IfOk result (λ ts. map plain_place ts ≡ map (bound_place (plain_signature sig.now)) (map desugared_entry entries.now)) }
+    ensures { IfOk result
+        (λ ts. map plain_place ts ≡ map (bound_place (plain_signature sig.now)) (map desugared_entry entries.now)) }
 {
     let mut simples = Items::new(alloc);
     for entry in entries {

@@ -39,7 +39,7 @@ abbrev pub EntryLinesReadBack : Type 0
 EntryLinesReadBack = (sig : PlainSignature) (name : List ℕ) (e : PlainEntry) → WellFormedSignature sig → IsTrue (is_declarable name) → WellFormedEntry sig e → e.implicit < 2 ^ 32 → class_depth e.class < 2 ^ 64
     → ReadsAs sig (entry_line sig name e) (declares name e)
 
--- and what is printed of the object and its type reads back, behind the word of a check, as both.
+-- and what is printed of the object and its type reads back, after the word of a check, as both.
 abbrev pub CheckLinesReadBack : Type 0
 CheckLinesReadBack = (sig : PlainSignature) (n : PlainObject) (a : PlainType) → WellFormedSignature sig → WellFormedType sig [] a → HasType sig [] [] n a → scope_depth n < 2 ^ 64 → type_depth a < 2 ^ 64
     → ReadsAs sig (codes "#check " ++ judgment_text sig n a) (checks n a)

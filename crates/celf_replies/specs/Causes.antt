@@ -22,7 +22,7 @@ cause_text sig (index_differs under found wanted) = codes "index differs: " ++ o
 cause_text sig (family_arity wanted found) = codes "family arity"
 cause_text sig (unknown_head head) = codes "unknown head"
 
--- numbers, each behind a stop
+-- numbers, each after a stop
 abbrev pub stops_text : List ℕ → List ℕ
 stops_text [] = []
 stops_text (k ∷ path) = codes "." ++ decimal k ++ stops_text path

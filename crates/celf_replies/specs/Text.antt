@@ -1,4 +1,4 @@
--- The lines of a reply, over the signature that is held behind it.
+-- The lines of a reply, over the signature that is held after it.
 use Rattle.std.specs.Prelude.{ℕ, ◌≡◌, ◌<◌, ◌^◌, true, false, List, [], ◌++◌, Some, codes}
 use Rattle.std.specs.Fmt.{decimal}
 use Rattle.clf_syntax.specs.Tree.{PlainObject}
@@ -12,7 +12,7 @@ use Rattle.clf_printer.specs.Entry.{entry_text}
 use Rattle.celf_replies.specs.Causes.{cause_text, path_text}
 use Rattle.celf_replies.specs.Reply.{PlainWhy, bad_byte, long_name, unexpected, directive, too_deep, kind_place, not_async, redex, out_of_range, bad_implicit, duplicate, full, unknown_name, kernel, not_yet, PlainReply, entry, checked, equal, different, refused}
 
--- what is said of a refusal behind its byte
+-- what is said of a refusal after its byte
 abbrev pub why_text : PlainSignature → PlainWhy → List ℕ
 why_text sig bad_byte = codes "bad byte"
 why_text sig long_name = codes "long name"

@@ -15,7 +15,8 @@ use std::alloc::AllocError;
 
 /// Writes the words of a cause.
 pub fn push_cause(out: &mut Vec<u8>, sig: &Signature, cause: &Cause) -> Result<(), AllocError>
-    ensures { OnOk result (out.new.items ≡ out.old.items ++ spec.cause_text (plain_signature sig.now) (plain_cause cause.now)) }
+    ensures { OnOk result
+        (out.new.items ≡ out.old.items ++ spec.cause_text (plain_signature sig.now) (plain_cause cause.now)) }
 {
     match cause {
         Cause::NotFunction { .. } => out.extend_from_slice(b"not a function"),
@@ -47,7 +48,8 @@ fn push_families(
     found: u32,
     wanted: u32,
 ) -> Result<(), AllocError>
-    ensures { OnOk result (out.new.items ≡ out.old.items ++ spec.cause_text (plain_signature sig.now) (family_differs found wanted)) }
+    ensures { OnOk result
+        (out.new.items ≡ out.old.items ++ spec.cause_text (plain_signature sig.now) (family_differs found wanted)) }
 {
     out.extend_from_slice(b"family differs: ")?;
     push_place(out, sig, found)?;
@@ -63,7 +65,10 @@ fn push_indices(
     found: &Obj,
     wanted: &Obj,
 ) -> Result<(), AllocError>
-    ensures { OnOk result (out.new.items ≡ out.old.items ++ spec.cause_text (plain_signature sig.now) (index_differs scope (plain_obj found.now) (plain_obj wanted.now))) }
+    ensures { OnOk result (out.new.items
+        ≡ out.old.items
+        ++ spec.cause_text (plain_signature sig.now)
+        (index_differs scope (plain_obj found.now) (plain_obj wanted.now))) }
 {
     let level = u64::from(scope);
     out.extend_from_slice(b"index differs: ")?;
@@ -91,7 +96,7 @@ pub fn push_path(out: &mut Vec<u8>, path: &[u32]) -> Result<(), AllocError>
     push_stops(out, further)
 }
 
-/// Writes the numbers of a path, each behind a stop.
+/// Writes the numbers of a path, each after a stop.
 #[tactic(auto, using(crate::proofs::Causes::path_laws))]
 fn push_stops(out: &mut Vec<u8>, path: &[u32]) -> Result<(), AllocError>
     ensures { OnOk result (out.new.items ≡ out.old.items ++ spec.stops_text path.now) }

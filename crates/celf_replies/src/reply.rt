@@ -49,6 +49,6 @@ pub enum Reply {
     Equal,
     /// Both objects have the type, and are not the same.
     Different,
-    /// The item is refused: the byte of the file at which the fault is told, and why.
+    /// The item is refused: the byte of the file at which the fault is said, and why.
     Refused { at: u32, why: Why },
 }

@@ -17,9 +17,10 @@ use clf_sig::Signature;
 use clf_syntax::{Name, Obj, Ty, Want};
 use std::alloc::{AllocError, Global};
 
-/// The lines of a reply, over the signature that is held behind it.
+/// The lines of a reply, over the signature that is held after it.
 pub fn reply_text(alloc: Global, sig: &Signature, reply: &Reply) -> Result<Vec<u8>, Want>
-    ensures text { IfOk result (λ text. text.items ≡ spec.reply_text (plain_signature sig.now) (plain_reply reply.now)) }
+    ensures text { IfOk result
+        (λ text. text.items ≡ spec.reply_text (plain_signature sig.now) (plain_reply reply.now)) }
     ensures numbered { OnOk result (spec.IsNumbered (plain_signature sig.now) (plain_reply reply.now)) }
     ensures wide { IfErr result IsWant }
 {
@@ -45,8 +46,11 @@ fn entry_line(alloc: Global, sig: &Signature, place: u32) -> Result<Vec<u8>, Wan
 
 /// The line of an object and its type.
 fn check_line(alloc: Global, sig: &Signature, obj: &Obj, ty: &Ty) -> Result<Vec<u8>, Want>
-    ensures line { IfOk result (λ line. line.items ≡ spec.reply_text (plain_signature sig.now) (checked (plain_obj obj.now) (plain_ty ty.now))) }
-    ensures numbered { OnOk result (spec.IsNumbered (plain_signature sig.now) (checked (plain_obj obj.now) (plain_ty ty.now))) }
+    ensures line { IfOk result (λ line.
+        line.items
+        ≡ spec.reply_text (plain_signature sig.now) (checked (plain_obj obj.now) (plain_ty ty.now))) }
+    ensures numbered { OnOk result
+        (spec.IsNumbered (plain_signature sig.now) (checked (plain_obj obj.now) (plain_ty ty.now))) }
     ensures wide { IfErr result IsWant }
 {
     let object = object_text(alloc, sig, 0, &[], obj)?;
@@ -61,7 +65,8 @@ fn check_line(alloc: Global, sig: &Signature, obj: &Obj, ty: &Ty) -> Result<Vec<
 
 /// The line of a refusal.
 fn refusal_line(alloc: Global, sig: &Signature, at: u32, why: &Why) -> Result<Vec<u8>, Want>
-    ensures line { IfOk result (λ line. line.items ≡ spec.refusal_text (plain_signature sig.now) at (plain_why why.now)) }
+    ensures line { IfOk result
+        (λ line. line.items ≡ spec.refusal_text (plain_signature sig.now) at (plain_why why.now)) }
     ensures wide { IfErr result IsWant }
 {
     let mut line = Vec::from_slice(alloc, b"refused at ")?;
@@ -74,7 +79,8 @@ fn refusal_line(alloc: Global, sig: &Signature, at: u32, why: &Why) -> Result<Ve
 
 /// Writes why an item is refused.
 fn push_why(out: &mut Vec<u8>, sig: &Signature, why: &Why) -> Result<(), AllocError>
-    ensures { OnOk result (out.new.items ≡ out.old.items ++ spec.why_text (plain_signature sig.now) (plain_why why.now)) }
+    ensures { OnOk result
+        (out.new.items ≡ out.old.items ++ spec.why_text (plain_signature sig.now) (plain_why why.now)) }
 {
     match why {
         Why::BadByte => out.extend_from_slice(b"bad byte"),
@@ -106,7 +112,10 @@ fn push_named(out: &mut Vec<u8>, words: &[u8], name: &Name) -> Result<(), AllocE
 
 /// Writes why the rules refuse an item, with the path to the part that they refuse.
 fn push_kernel(out: &mut Vec<u8>, sig: &Signature, refusal: &Refusal) -> Result<(), AllocError>
-    ensures { OnOk result (out.new.items ≡ out.old.items ++ spec.why_text (plain_signature sig.now) (kernel refusal.now.path.items (plain_cause refusal.now.cause))) }
+    ensures { OnOk result (out.new.items
+        ≡ out.old.items
+        ++ spec.why_text (plain_signature sig.now)
+        (kernel refusal.now.path.items (plain_cause refusal.now.cause))) }
 {
     push_cause(out, sig, &refusal.cause)?;
     out.extend_from_slice(b" at ")?;

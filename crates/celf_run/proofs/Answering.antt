@@ -117,7 +117,7 @@ accepts options sig new at name e reply may formed is added =
     subst (λ (r : PlainReply). AnswersCore options (holding sig) at (declares name e) r (holding new)) (sym is)
     (subst (λ (s : PlainSignature). AnswersCore options (holding sig) at (declares name e) (entry (length sig)) (holding s)) (sym added) fit)
 
--- What the kernel tells against a part of a core is told, or what is wanted.
+-- What the kernel tells against a part of a core is said, or what is wanted.
 pub fault-told : (options : Options) (sig : PlainSignature) (at part : ℕ) (core : PlainCore) (fault : OrWide Refusal) (r : Result Reply Want) → ExplainsCore sig core part fault → IsReplyToFault at part fault r
     → IfOk r (λ reply. AnswersCore options (holding sig) at core (plain_reply reply) (holding sig)) × IfErr r IsWant
 fault-told options sig at part core (Fault f) (Ok reply) why is =

@@ -27,7 +27,7 @@ plain-formed options held new item reply w (barred x) = w
 plain-formed options held new item reply w (declined p x) = w
 plain-formed options held new item reply w (answered {core = core} p c f) = fits-formed options held new core reply w f
 
--- What is held behind an allowed reply is well formed where what was held before it is.
+-- What is held after an allowed reply is well formed where what was held before it is.
 allowed-formed : (options : Options) (held new : Held) (task : Task) (reply : PlainReply) → WellFormedSignature held.signature
     → Allowed options held task reply new → WellFormedSignature new.signature
 allowed-formed options held new task reply w at_fault = w

@@ -99,7 +99,7 @@ pub turns : (options : Options) (text : List ℕ) (at end : ℕ) (old new : Plai
 turns options text at end old new reply before after r b c a w =
     written-turns options (place_in text at) old reply (place_in text end) new b c a before after text at end refl refl r w
 
--- A turn that takes on goes on with what ends the run behind it.
+-- A turn that takes on goes on with what ends the run after it.
 onward : (w : Way) (options : Options) (source behind : Source) (old new : Held) (reply : PlainReply) (rest : List ℕ) (status : Status)
     → Turn options source old reply behind new → is_refusal reply ≡ false → TextEnds w options behind new status rest
     → TextEnds w options source old status (told options new reply ++ rest)

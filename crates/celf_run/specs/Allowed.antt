@@ -1,4 +1,4 @@
--- Which replies a task may have over what is held, and what is held behind it.
+-- Which replies a task may have over what is held, and what is held after it.
 use Rattle.std.specs.Prelude.{ℕ, ◌≡◌, List, [], ◌∷◌, ◌++◌, length, Option, Some, None}
 use Rattle.clf_syntax.specs.Tree.{PlainObject}
 use Rattle.clf_syntax.specs.TypeTree.{PlainType}
@@ -105,7 +105,7 @@ pub data Declined (sig : PlainSignature) (item : DesugaredItem) : PlainWhy → T
   not_explicit : explicit sig item ≡ None → Declined sig item not_yet
   not_answered : {core : PlainCore} → HasCore sig item core → IsBeyondReach core → Declined sig item not_yet
 
--- The reply fits the core, and this is held behind it.
+-- The reply fits the core, and this is held after it.
 pub data Fits (options : Options) (held : Held) : PlainCore → PlainReply → Held → Type 0 where
   -- A declaration that may follow the signature is its next entry.
   accepted : {name : List ℕ} {e : PlainEntry} → MayFollow held.signature (name, e)
@@ -125,7 +125,7 @@ pub data PlainAllowed (options : Options) (held : Held) (item : DesugaredItem) :
   answered : {core : PlainCore} {reply : PlainReply} {new : Held} → Passes held.signature item → HasCore held.signature item core → Fits options held core reply new
       → PlainAllowed options held item reply new
 
--- What is said of a fault beyond the grammar. No item has want of memory as its fault.
+-- What is said of a fault beyond the grammar. No item has lack of memory as its fault.
 abbrev pub sugar_why : SugarFault → PlainWhy
 sugar_why (KindPlace s) = kind_place
 sugar_why (NotAsync s) = not_async

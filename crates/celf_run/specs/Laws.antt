@@ -24,12 +24,12 @@ IsTaskOfText (faulty refusal) = Unit {0}
 abbrev pub EachTaskHasReply : Type 0
 EachTaskHasReply = (options : Options) (held : Held) (task : Task) → WellFormedSignature held.signature → IsTaskOfText task → (reply : PlainReply) × (new : Held) × Allowed options held task reply new
 
--- Over a well-formed signature a task has one allowed reply, with one thing held behind it.
+-- Over a well-formed signature a task has one allowed reply, with one thing held after it.
 abbrev pub ReplyIsOne : Type 0
 ReplyIsOne = (options : Options) (held new other : Held) (task : Task) (reply further : PlainReply) → WellFormedSignature held.signature
     → Allowed options held task reply new → Allowed options held task further other → (reply ≡ further) × (new ≡ other)
 
--- What comes next is one task, with one source behind it, and none where nothing but blanks and comments is left.
+-- What comes next is one task, with one source after it, and none where nothing but blanks and comments is left.
 abbrev pub NextIsOne : Type 0
 NextIsOne = (source behind other : Source) (task further : Task) → Next source task behind → Next source further other → (task ≡ further) × (behind ≡ other)
 

@@ -43,7 +43,7 @@ start text = record { text = text; at = 0 }
 abbrev pub nothing_held : Held
 nothing_held = holds []
 
--- want of memory or of numbers, to which every exact end yields
+-- lack of memory or of numbers, to which every exact end yields
 abbrev pub IsWant : Status → Type 0
 IsWant NoMemory = Unit {0}
 IsWant (TooFar w) = Unit {0}

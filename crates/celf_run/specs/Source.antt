@@ -18,7 +18,7 @@ pub data Task : Type 0 where
   written : WrittenItem → Task
   faulty : PlainRefusal → Task
 
--- The refusal of a fault of words or grammar; at the end of the text the end is what was not expected. No text has want of memory as its fault.
+-- The refusal of a fault of words or grammar; at the end of the text the end is what was not expected. No text has lack of memory as its fault.
 abbrev pub syntax_refusal : List ℕ → SyntaxFault → PlainRefusal
 syntax_refusal text (Lex (BadByte at)) = record { at = at; why = bad_byte }
 syntax_refusal text (Lex (LongName at)) = record { at = at; why = long_name }
@@ -27,7 +27,7 @@ syntax_refusal text (Directive s) = record { at = s.start; why = directive }
 syntax_refusal text (TooDeep s) = record { at = s.start; why = too_deep }
 syntax_refusal text NoMemory = record { at = length text; why = unexpected true }
 
--- The task comes next, and the source behind it is left. Behind a fault nothing is left.
+-- The task comes next, and the source after it is left. After a fault nothing is left.
 pub data Next (source : Source) : Task → Source → Type 0 where
   next_item : {item : WrittenItem} → IsItemAt source.text source.at item → Next source (written item) (record { text = source.text; at = item.span.end })
   next_fault : (fault : SyntaxFault) → IsFaultAt source.text source.at fault

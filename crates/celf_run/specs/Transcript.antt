@@ -11,11 +11,11 @@ use Rattle.celf_run.specs.declared.status.Status.TheVariants.{Done, Refused}
 use Rattle.celf_run.specs.Source.{Source, Task, Next, IsOver}
 use Rattle.celf_run.specs.Allowed.{Held, Allowed}
 
--- what is written of a reply, over what is held behind it
+-- what is written of a reply, over what is held after it
 abbrev pub told : Options → Held → PlainReply → List ℕ
 told options new reply = reply_text new.signature reply
 
--- The line of an accepted declaration reads back, over the entries before it, as its entry; what the line of a typed object says reads back, behind
+-- The line of an accepted declaration reads back, over the entries before it, as its entry; what the line of a typed object says reads back, after
 -- #check, as the object and its type. The other lines repeat nothing.
 abbrev pub ReadsBack : Options → Held → PlainReply → Held → Type 0
 ReadsBack options old (entry k) new = (name : List ℕ) × (e : PlainEntry) × (new.signature ≡ old.signature ++ (name, e) ∷ []) × ReadsAs old.signature (told options new (entry k)) (declares name e)

@@ -21,7 +21,7 @@ use Rattle.celf_run.specs.Run.{Way, whole, cut, silent, way, Ends as EndsSo, sta
 abbrev pub place_in : List ℕ → ℕ → Source
 place_in text at = record { text = text; at = at }
 
--- What comes next has this reply, and this source and this are behind it.
+-- What comes next has this reply, and this source and this are after it.
 pub record Answers (options : Options) (source : Source) (old : Held) (reply : PlainReply) (behind : Source) (new : Held) : Type 0 where
   pub task : Task
   pub next : Next source task behind
@@ -50,7 +50,7 @@ Writes sig reply end before after (Ends BadWords) = ⊥
 Writes sig reply end before after (Ends ReadFault) = ⊥
 Writes sig reply end before after (Ends TooLarge) = ⊥
 
--- The reply to a task was written and is no refusal, and the run goes on behind it.
+-- The reply to a task was written and is no refusal, and the run goes on after it.
 pub record TakesOn (options : Options) (source : Source) (old : Held) (behind : Source) (new : Held) (before after : Option (List ℕ)) : Type 0 where
   pub reply : PlainReply
   pub turn : Turn options source old reply behind new

@@ -26,7 +26,8 @@ use std::alloc::Global;
 
 /// Answers one item. Only an accepted declaration changes the signature.
 ///
-/// The signature is well formed, and stays so. The name of a declaration is one that may be declared, as in every item of a text.
+/// The signature is well formed, and stays so. The name of a declaration is one that may be declared, as in every item
+/// of a text.
 pub fn answer_item(
     alloc: Global,
     sig: &mut Signature,
@@ -35,7 +36,9 @@ pub fn answer_item(
 ) -> Result<Reply, Want>
     requires formed { WellFormedSignature (plain_signature sig.old) }
     requires name { HasDeclarableName (written_item item.now).body }
-    ensures allowed { IfOk result (λ reply. Allowed options.now (holding (plain_signature sig.old)) (written (written_item item.now)) (plain_reply reply) (holding (plain_signature sig.new))) }
+    ensures allowed { IfOk result (λ reply.
+        Allowed options.now (holding (plain_signature sig.old)) (written (written_item item.now))
+        (plain_reply reply) (holding (plain_signature sig.new))) }
     ensures formed { WellFormedSignature (plain_signature sig.new) }
     ensures unchanged { OnErr result (sig.new ≡ sig.old) }
     ensures wide { IfErr result IsWant }
@@ -60,7 +63,9 @@ fn answer_plain(
 ) -> Result<Reply, Want>
     requires formed { WellFormedSignature (plain_signature sig.old) }
     requires name { MayBeDeclared (desugared_item plain.now) }
-    ensures allowed { IfOk result (λ reply. PlainAllowed options.now (holding (plain_signature sig.old)) (desugared_item plain.now) (plain_reply reply) (holding (plain_signature sig.new))) }
+    ensures allowed { IfOk result (λ reply.
+        PlainAllowed options.now (holding (plain_signature sig.old)) (desugared_item plain.now)
+        (plain_reply reply) (holding (plain_signature sig.new))) }
     ensures formed { WellFormedSignature (plain_signature sig.new) }
     ensures unchanged { OnErr result (sig.new ≡ sig.old) }
     ensures wide { IfErr result IsWant }
@@ -83,7 +88,9 @@ fn answer_named(
     requires formed { WellFormedSignature (plain_signature sig.old) }
     requires name { MayBeDeclared (desugared_item plain.now) }
     requires passes { NamePasses (plain_signature sig.old) (desugared_item plain.now) }
-    ensures allowed { IfOk result (λ reply. PlainAllowed options.now (holding (plain_signature sig.old)) (desugared_item plain.now) (plain_reply reply) (holding (plain_signature sig.new))) }
+    ensures allowed { IfOk result (λ reply.
+        PlainAllowed options.now (holding (plain_signature sig.old)) (desugared_item plain.now)
+        (plain_reply reply) (holding (plain_signature sig.new))) }
     ensures formed { WellFormedSignature (plain_signature sig.new) }
     ensures unchanged { OnErr result (sig.new ≡ sig.old) }
     ensures wide { IfErr result IsWant }

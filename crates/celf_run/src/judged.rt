@@ -31,7 +31,9 @@ pub fn answer_core(
 ) -> Result<Reply, Want>
     requires formed { WellFormedSignature (plain_signature sig.old) }
     requires added { MayBeAdded (plain_signature sig.old) (plain_core core) }
-    ensures answered { IfOk result (λ reply. AnswersCore options.now (holding (plain_signature sig.old)) at (plain_core core) (plain_reply reply) (holding (plain_signature sig.new))) }
+    ensures answered { IfOk result (λ reply.
+        AnswersCore options.now (holding (plain_signature sig.old)) at (plain_core core) (plain_reply reply)
+        (holding (plain_signature sig.new))) }
     ensures formed { WellFormedSignature (plain_signature sig.new) }
     ensures unchanged { OnErr result (sig.new ≡ sig.old) }
     ensures wide { IfErr result IsWant }
@@ -79,7 +81,9 @@ fn declare(
 ) -> Result<Reply, Want>
     requires formed { WellFormedSignature (plain_signature sig.old) }
     requires added { MayBeAdded (plain_signature sig.old) (declares name.now (plain_entry entry)) }
-    ensures answered { IfOk result (λ reply. AnswersCore options.now (holding (plain_signature sig.old)) at (declares name.now (plain_entry entry)) (plain_reply reply) (holding (plain_signature sig.new))) }
+    ensures answered { IfOk result (λ reply.
+        AnswersCore options.now (holding (plain_signature sig.old)) at (declares name.now (plain_entry entry))
+        (plain_reply reply) (holding (plain_signature sig.new))) }
     ensures formed { WellFormedSignature (plain_signature sig.new) }
     ensures unchanged { OnErr result (sig.new ≡ sig.old) }
     ensures wide { IfErr result IsWant }
@@ -99,7 +103,8 @@ fn accept(sig: &mut Signature, name: &Name, entry: Entry) -> Result<Reply, Want>
     requires added { MayBeAdded (plain_signature sig.old) (declares name.now (plain_entry entry)) }
     requires entry { WellFormedEntry (plain_signature sig.old) (plain_entry entry) }
     ensures place { IfOk result (λ reply. plain_reply reply ≡ entry_reply (length (plain_signature sig.old))) }
-    ensures added { OnOk result (plain_signature sig.new ≡ plain_signature sig.old ++ (name.now, plain_entry entry) ∷ []) }
+    ensures added { OnOk result
+        (plain_signature sig.new ≡ plain_signature sig.old ++ (name.now, plain_entry entry) ∷ []) }
     ensures formed { WellFormedSignature (plain_signature sig.new) }
     ensures unchanged { OnErr result (sig.new ≡ sig.old) }
     ensures wide { IfErr result IsWant }
@@ -122,13 +127,16 @@ fn check(
     ty: Ty,
 ) -> Result<Reply, Want>
     requires formed { WellFormedSignature (plain_signature sig.now) }
-    ensures answered { IfOk result (λ reply. AnswersCore options.now (holding (plain_signature sig.now)) at (checks (plain_obj obj) (plain_ty ty)) (plain_reply reply) (holding (plain_signature sig.now))) }
+    ensures answered { IfOk result (λ reply.
+        AnswersCore options.now (holding (plain_signature sig.now)) at (checks (plain_obj obj) (plain_ty ty))
+        (plain_reply reply) (holding (plain_signature sig.now))) }
     ensures wide { IfErr result IsWant }
 {
     match form_closed(alloc, sig, &ty) {
         Ok(()) => judge(alloc, sig, options, at, obj, ty),
         Err(fault) => {
-            // By calls, as in the other functions: dropped at the end, each form of the trees would be a case of this function.
+            // By calls, as in the other functions: dropped at the end, each form of the trees would be a case of this
+            // function.
             drop(obj);
             drop(ty);
             refusal_of(at, 0, fault)
@@ -147,7 +155,9 @@ fn judge(
 ) -> Result<Reply, Want>
     requires formed { WellFormedSignature (plain_signature sig.now) }
     requires type_formed { WellFormedType (plain_signature sig.now) [] (plain_ty ty) }
-    ensures answered { IfOk result (λ reply. AnswersCore options.now (holding (plain_signature sig.now)) at (checks (plain_obj obj) (plain_ty ty)) (plain_reply reply) (holding (plain_signature sig.now))) }
+    ensures answered { IfOk result (λ reply.
+        AnswersCore options.now (holding (plain_signature sig.now)) at (checks (plain_obj obj) (plain_ty ty))
+        (plain_reply reply) (holding (plain_signature sig.now))) }
     ensures wide { IfErr result IsWant }
 {
     match check_closed(alloc, sig, &obj, &ty) {
@@ -171,7 +181,10 @@ fn equate(
     ty: &Ty,
 ) -> Result<Reply, Want>
     requires formed { WellFormedSignature (plain_signature sig.now) }
-    ensures answered { IfOk result (λ reply. AnswersCore options.now (holding (plain_signature sig.now)) at (equates (plain_obj left.now) (plain_obj right.now) (plain_ty ty.now)) (plain_reply reply) (holding (plain_signature sig.now))) }
+    ensures answered { IfOk result (λ reply.
+        AnswersCore options.now (holding (plain_signature sig.now)) at
+        (equates (plain_obj left.now) (plain_obj right.now) (plain_ty ty.now)) (plain_reply reply)
+        (holding (plain_signature sig.now))) }
     ensures wide { IfErr result IsWant }
 {
     if let Err(fault) = form_closed(alloc, sig, ty) {
@@ -240,7 +253,8 @@ fn refusal_of(at: u32, part: u32, fault: OrWide<Refusal>) -> Result<Reply, Want>
 
 /// The refusal of an item whose part with this number the rules refuse.
 fn refused_part(at: u32, part: u32, refusal: Refusal) -> Result<Reply, Want>
-    ensures refusal { IfOk result (λ reply. plain_reply reply ≡ refused_by_rules at (part ∷ refusal.path.items) (plain_cause refusal.cause)) }
+    ensures refusal { IfOk result
+        (λ reply. plain_reply reply ≡ refused_by_rules at (part ∷ refusal.path.items) (plain_cause refusal.cause)) }
     ensures wide { IfErr result IsWant }
 {
     let Refusal { path, cause } = refusal;

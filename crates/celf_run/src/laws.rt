@@ -11,8 +11,8 @@ pub fn each_task_has_a_reply()
     ensures { EachTaskHasReply }
 {}
 
-/// Over a well-formed signature a task has one reply. What comes next in a text is one task, and none where nothing but blanks and comments is left. So a
-/// text has one transcript.
+/// Over a well-formed signature a task has one reply. What comes next in a text is one task, and none where nothing but
+/// blanks and comments is left. So a text has one transcript.
 pub fn one_transcript()
     ensures reply { ReplyIsOne }
     ensures next { NextIsOne }

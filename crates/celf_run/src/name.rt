@@ -14,7 +14,8 @@ use std::alloc::{AllocError, Global};
 
 /// Why the name of an item may not be declared; none where it may be, or where the item declares none.
 pub fn barred_name(alloc: Global, sig: &Signature, plain: &Plain) -> Result<Option<Why>, AllocError>
-    ensures { IfOk result (λ why. NameVerdict (plain_signature sig.now) (desugared_item plain.now) (option_map plain_why why)) }
+    ensures { IfOk result
+        (λ why. NameVerdict (plain_signature sig.now) (desugared_item plain.now) (option_map plain_why why)) }
 {
     let Some(name) = declared_name(plain) else {
         return Ok(None);

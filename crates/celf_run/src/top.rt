@@ -23,19 +23,21 @@ const MAX_BYTES: u32 = 16_777_216;
 /// Reads the file that the words name and answers its items in order, each by the lines of its reply.
 ///
 /// The words are the program's name and a file's name. The lines of an item are written before the next item is begun.
-/// `Status` says how the run ended; want of memory is the one end that no clause ties to a cause.
+/// `Status` says how the run ended; lack of memory is the one end that no clause ties to a cause.
 pub fn run<F: Shelf, W: Sink>(alloc: Global, words: &[Name], shelf: &mut F, out: &mut W) -> Status
     ensures bad_words { (result ≡ Status.BadWords) ↔ IsNone (file_word_of words.now) }
     ensures idle { result ≡ Status.BadWords → shelf.new ≡ shelf.old }
 
     // What is written, by what the shelf tells of its files.
-    ensures run { (name : List ℕ) → file_word_of words.now ≡ Some name → Run default_options name (F.told shelf.old) result (W.written out.old) (W.written out.new) }
+    ensures run { (name : List ℕ) → file_word_of words.now ≡ Some name →
+        Run default_options name (F.told shelf.old) result (W.written out.old) (W.written out.new) }
     ensures silent { way result ≡ silent → out.new ≡ out.old }
 
     // A fault is answered only where the device's count of faults rose in this call, and no other file is asked for.
     ensures read_fault { result ≡ Status.ReadFault → Rose (F.faults shelf.old) (F.faults shelf.new) }
     ensures write_fault { result ≡ Status.WriteFault → Rose (W.faults out.old) (W.faults out.new) }
-    ensures lacks { (name : List ℕ) → file_word_of words.now ≡ Some name → CountsLack (F.told shelf.old name) (F.lacks shelf.old) (F.lacks shelf.new) }
+    ensures lacks { (name : List ℕ) → file_word_of words.now ≡ Some name →
+        CountsLack (F.told shelf.old name) (F.lacks shelf.old) (F.lacks shelf.new) }
     ensures told { F.told shelf.new ≡ F.told shelf.old }
 
     // A number is past its range only with the long list that was counted.

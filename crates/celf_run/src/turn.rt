@@ -30,7 +30,7 @@ pub enum Turn {
     Ended(Status),
 }
 
-/// A reply, and the byte behind what it answers.
+/// A reply, and the byte after what it answers.
 #[derive(Drop)]
 struct Answer {
     reply: Reply,
@@ -49,7 +49,8 @@ pub fn next_turn<W: Sink>(
     requires place { at ≤ length bytes.now }
     requires size { length bytes.now ≤ size_limit }
     requires formed { WellFormedSignature (plain_signature sig.old) }
-    ensures turned { Turns options.now bytes.now at (holding (plain_signature sig.old)) (holding (plain_signature sig.new)) (W.written out.old) (W.written out.new) result }
+    ensures turned { Turns options.now bytes.now at (holding (plain_signature sig.old))
+        (holding (plain_signature sig.new)) (W.written out.old) (W.written out.new) result }
     ensures onward { (end : ℕ) → result ≡ Turn.Next end → (at < end) × (end ≤ length bytes.now) }
     ensures write_fault { result ≡ Turn.Ended Status.WriteFault → Rose (W.faults out.old) (W.faults out.new) }
     ensures faults { W.faults out.old ≤ W.faults out.new }
@@ -80,8 +81,10 @@ fn next_answer(
     requires size { length bytes.now ≤ size_limit }
     requires formed { WellFormedSignature (plain_signature sig.old) }
     ensures over { IfOk result (λ found. IfNone found (IsOver (place_in bytes.now at) × (sig.new ≡ sig.old))) }
-    ensures answered { IfOk result (λ found. IfSome found (λ answer.
-        Answers options.now (place_in bytes.now at) (holding (plain_signature sig.old)) (plain_reply answer.reply) (place_in bytes.now answer.end) (holding (plain_signature sig.new)))) }
+    ensures answered { IfOk result (λ found.
+        IfSome found (λ answer.
+        Answers options.now (place_in bytes.now at) (holding (plain_signature sig.old))
+        (plain_reply answer.reply) (place_in bytes.now answer.end) (holding (plain_signature sig.new)))) }
     ensures onward { IfOk result (λ found. IfSome found (λ answer.
         is_refusal (plain_reply answer.reply) ≡ false → (at < answer.end) × (answer.end ≤ length bytes.now))) }
     ensures unchanged { OnErr result (sig.new ≡ sig.old) }
@@ -107,9 +110,10 @@ fn next_answer(
     }
 }
 
-/// Writes the lines of a reply. Behind a refusal nothing is answered.
+/// Writes the lines of a reply. After a refusal nothing is answered.
 fn tell<W: Sink>(alloc: Global, sig: &Signature, reply: &Reply, end: u32, out: &mut W) -> Turn
-    ensures wrote { Writes (plain_signature sig.now) (plain_reply reply.now) end (W.written out.old) (W.written out.new) result }
+    ensures wrote { Writes (plain_signature sig.now) (plain_reply reply.now) end (W.written out.old) (W.written out.new)
+        result }
     ensures write_fault { result ≡ Turn.Ended Status.WriteFault → Rose (W.faults out.old) (W.faults out.new) }
     ensures faults { W.faults out.old ≤ W.faults out.new }
     ensures wide { EndsWide result }

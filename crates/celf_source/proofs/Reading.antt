@@ -10,7 +10,7 @@ Began untold bytes left = ⊤
 Began lacking bytes left = ⊥
 Began (holding file) bytes left = (rest : List ℕ) × (left ≡ Some rest) × (file ≡ bytes ++ rest)
 
--- After a read the shelf stands behind the bytes that it gave.
+-- After a read the shelf stands after the bytes that it gave.
 pub Began-taken : (t : Told) (bytes : List ℕ) (left : Option (List ℕ)) (count : ℕ) (buffer : List ℕ) (after : Option (List ℕ)) →
     Began t bytes left → IfSome left (λ rest. ReadsNext count buffer rest after) → StandsBehind t (length bytes + count) after
 Began-taken untold bytes left count buffer after began reads = tt

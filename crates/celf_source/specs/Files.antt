@@ -42,7 +42,7 @@ pub record ManyFiles : Type 0 where
 abbrev pub unopened : List NamedFile → List ℕ → ManyFiles
 unopened files failing = record { files = files; left = []; lacks = 0; calls = no_calls failing }
 
--- what is left of the opened file behind the bytes taken: nothing, where none was opened
+-- what is left of the opened file after the bytes taken: nothing, where none was opened
 abbrev pub left_in : List NamedFile → Option ℕ → ℕ → List ℕ
 left_in files None taken = []
 left_in files (Some place) taken = drop taken (bytes_at files place)
@@ -52,7 +52,7 @@ abbrev pub IsOpenedIn : List NamedFile → Option ℕ → ℕ → Type 0
 IsOpenedIn files None taken = taken ≡ 0
 IsOpenedIn files (Some place) taken = (place < length files) × (taken ≤ length (bytes_at files place))
 
--- the lacks after a name was opened of which this is told
+-- the lacks after a name was opened of which this is said
 abbrev pub lacks_after : Told → ℕ → ℕ
 lacks_after untold lacks = lacks
 lacks_after lacking lacks = next_count lacks

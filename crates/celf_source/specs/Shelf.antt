@@ -20,7 +20,7 @@ CountsLack untold old new = new ≡ old
 CountsLack lacking old new = Rose old new
 CountsLack (holding bytes) old new = new ≡ old
 
--- A read that answered `count` put the next bytes of `rest` in front of the buffer, and the bytes behind them are left.
+-- A read that answered `count` put the next bytes of `rest` in front of the buffer, and the bytes after them are left.
 pub record ReadsNext (count : ℕ) (buffer rest : List ℕ) (left : Option (List ℕ)) : Type 0 where
   pub within : count ≤ length rest
   pub next : take count buffer ≡ take count rest
@@ -38,7 +38,7 @@ IsLonger untold limit = ⊤
 IsLonger lacking limit = ⊥
 IsLonger (holding file) limit = limit < length file
 
--- The shelf stands behind the first `taken` bytes of the file, where it tells the file.
+-- The shelf stands after the first `taken` bytes of the file, where it tells the file.
 abbrev pub StandsBehind : Told → ℕ → Option (List ℕ) → Type 0
 StandsBehind untold taken left = ⊤
 StandsBehind lacking taken left = ⊥

@@ -35,7 +35,7 @@ pub(crate) fn place_of(files: &[ShelfFile], name: &str) -> Option<usize>
     None
 }
 
-/// What is left of the opened file behind the bytes taken: nothing, where none was opened.
+/// What is left of the opened file after the bytes taken: nothing, where none was opened.
 pub(crate) fn left_of(files: &[ShelfFile], opened: Option<usize>, taken: usize) -> &[u8]
     requires { IsOpenedIn files.now opened taken }
     ensures left { result.now ≡ left_in files.now opened taken }

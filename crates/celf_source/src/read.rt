@@ -44,7 +44,7 @@ const PIECE: usize = 4096;
 
 /// All bytes of the file of a name, where there are at most `limit` of them.
 ///
-/// It takes at most one byte past the limit. After `TooLarge` and `NoMemory` the shelf stands behind the bytes
+/// It takes at most one byte past the limit. After `TooLarge` and `NoMemory` the shelf stands after the bytes
 /// that were taken. Of what is left after `ReadFault` nothing is said.
 pub fn read_all<F: Shelf>(
     alloc: Global,

@@ -1,4 +1,4 @@
-//! A sink in memory that fails by want of memory alone.
+//! A sink in memory that fails by lack of memory alone.
 ghost use Rattle.std.specs.Prelude.{◌≡◌, [], ◌++◌, length, IfOk, OnOk, OnErr, IsErrOf, Some};
 
 use crate::sink::{Sink, SinkFault};

@@ -29,7 +29,7 @@ colon-ends rest us tokens =
     let b = tokens-colon (32 ∷ rest) us (tokens-blank 32 (58 ∷ 32 ∷ rest) us refl tokens) in
     rw (b.is, b.kind_is) refl
 
--- the tokens of a check, one behind the other
+-- the tokens of a check, one after the other
 record CheckTokens (o : plain.DesugaredObject) (a : plain.DesugaredType) (ts : List Lexeme) : Type 0 where
   after_word : List ℕ
   word : BeginsWith kind.Directive (codes "#check") after_word ts

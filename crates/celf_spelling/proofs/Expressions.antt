@@ -20,7 +20,7 @@ use Rattle.celf_spelling.proofs.Patterns.{Binds}
 use Rattle.celf_spelling.proofs.Tuples.{TupleStands}
 use Rattle.celf_spelling.proofs.Written.{IsWritten, IsWrittenNeutral, written-whole, IsWrittenTuple, AreWrittenSteps, written-no_steps, written-step, written-braces}
 
--- steps, and a tuple behind them
+-- steps, and a tuple after them
 abbrev Parts : Type 0
 Parts = List (WrittenPattern × WrittenObject) × WrittenTuple
 
@@ -66,7 +66,7 @@ done-spelled dt x s rest ts ends follows tokens =
 
 -- ---- a step
 
--- the tokens of a step, one behind the other
+-- the tokens of a step, one after the other
 record StepTokens (bs : List PBinder) (h : PName) (as_ : List plain.DesugaredAct) (ts : List Lexeme) (rest : List ℕ) : Type 0 where
   after_let : List ℕ
   let_word : BeginsWith kind.KwLet (codes "let") after_let ts

@@ -78,7 +78,7 @@ count-first (suc n) rest ts small begins tokens =
 
 -- ---- declarations
 
--- the tokens of a declaration, one behind the other
+-- the tokens of a declaration, one after the other
 record DeclarationTokens (name : List ℕ) (n : ℕ) (c : plain.DesugaredClass) (ts : List Lexeme) : Type 0 where
   capital : Bool
   after_name : List ℕ

@@ -46,7 +46,7 @@ pub record IsReadObject (P : WrittenObject → Type 0) (s : State) (us : List Le
   pub end : ℕ
   pub parse : IsObject s tree (state us m end)
 
--- an atom and arguments behind it
+-- an atom and arguments after it
 pub record IsReadChain (Q : WrittenObject → List (SMode × WrittenObject) → Type 0) (s : State) (us : List Lexeme) (m : ℕ) : Type 0 where
   pub tree : WrittenObject
   pub others : List (SMode × WrittenObject)

@@ -1,4 +1,4 @@
--- The text of an object may stand behind a <: it makes no other sign of it.
+-- The text of an object may stand after a <: it makes no other sign of it.
 use Rattle.std.proofs.Common.{ℕ, ◌≡◌, ◌==◌, Bool, true, false, refl, Some, List, [], ◌∷◌, ◌++◌, append_assoc, slice_get, codes, IsTrue}
 use Rattle.std.proofs.lemmas.Bool.{and_parts, and_right}
 use Rattle.clf_syntax.specs.declared.tree.Head.TheVariants.{Const, Var, Meta}

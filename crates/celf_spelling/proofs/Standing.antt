@@ -12,11 +12,11 @@ use Rattle.celf_grammar.specs.State.{State, TakesToken, Takes, Opens, Closes, En
 abbrev pub state : List Lexeme → ℕ → ℕ → State
 state ts n e = record { rest = ts; room = n; end = e }
 
--- the byte behind a token
+-- the byte after a token
 abbrev pub end_of : Lexeme → ℕ
 end_of t = t.start + length t.spelling
 
--- the state behind a token
+-- the state after a token
 abbrev pub behind : Lexeme → List Lexeme → ℕ → State
 behind t us n = state us n (end_of t)
 
@@ -71,7 +71,7 @@ pub record IsRead {T : Type 0} (R : State → T → State → Type 0) (P : T →
   pub end : ℕ
   pub parse : R s tree (state us m end)
 
--- The tokens ts begin with such a tree, and the tokens us follow it. However much room is left behind it, as long as it is so
+-- The tokens ts begin with such a tree, and the tokens us follow it. However much room is left after it, as long as it is so
 -- deep, so many parts more are open before it: both together are no more than these tokens open.
 pub record Stands {T : Type 0} (R : State → T → State → Type 0) (P : T → Type 0) (ts us : List Lexeme) : Type 0 where
   pub depth : ℕ

@@ -119,7 +119,7 @@ type-grouped P x s rest ts ends follows tokens =
     let r = tokens-right_paren rest part.others part.rest_tokens in
     record { others = r.others; rest_tokens = r.rest_tokens; stands = group-stands P (x ++ 41 ∷ rest) rest ts part.others l part.stands r }
 
--- Nothing more behind a text spells the same.
+-- Nothing more after a text spells the same.
 pub type-padded : (p : Place) (P : WrittenType → Type 0) (x : List ℕ) → SpellsType p P x → SpellsType p P (x ++ [])
 type-padded p P x s = rw (append-nil x) s
 
@@ -319,7 +319,7 @@ arrow-stands m a P Q rest ts us vs l f r has = record { begins = l.begins; stand
           parse = forward_arrow (sync_alone (factor_bare left.parse) no_star) sign right.parse;
         })
 
--- a type in front of an arrow, and what stands behind it
+-- a type in front of an arrow, and what stands after it
 pub arrow-spelled : (m : Mode) (a : plain.DesugaredType) (P Q : WrittenType → Type 0) (x y : List ℕ) → ((s : Span) (l r : WrittenType) → IsWrittenType a l → P r → Q (arrow s (arrow_for m) l r))
     → SpellsType operand (IsWrittenType a) x → SpellsType whole P y → SpellsType whole Q ((x ++ arrow_text m) ++ y)
 arrow-spelled m a P Q x y has l r rest ts ends follows tokens =
@@ -435,7 +435,7 @@ pi-stands name a P Q rest ts us f r ends has =
           parse = forward_pi left.opened left.named left.colon left.domain left.stop (type_all (back_first right.parse) ends);
         })
 
--- a function or argument that is named, and what stands behind it
+-- a function or argument that is named, and what stands after it
 pub pi-spelled : (level : ℕ) (a : plain.DesugaredType) (P Q : WrittenType → Type 0) (x y : List ℕ) → level + 1 < 2 ^ 64 → ((s : Span) (l r : WrittenType) → IsWrittenType a l → P r → Q (pi s (new_variable_text level) l r))
     → SpellsType whole (IsWrittenType a) x → SpellsType whole P y → SpellsType whole Q ((codes "Pi " ++ named_text level x) ++ y)
 pi-spelled level a P Q x y small has l r rest ts ends follows tokens =

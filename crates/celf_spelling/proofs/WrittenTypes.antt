@@ -159,7 +159,7 @@ written-braced d s t p = record {
 
 -- ---- kinds and classes
 
--- The tree is a kind with these arguments, and has no fault behind the colon of a declaration.
+-- The tree is a kind with these arguments, and has no fault after the colon of a declaration.
 pub record IsWrittenKind (d : plain.DesugaredTelescope) (t : WrittenType) : Type 0 where
   pub kind : is_kind t ≡ true
   pub are : placeless_telescope (plain.telescope_of (kind_arguments t)) ≡ d
@@ -193,7 +193,7 @@ written-kind_pi n a d s l r p q = record {
   leads = ap (λ n. n + 1) q.leads;
 }
 
--- The tree is this kind or this type, and has no fault behind the colon of a declaration.
+-- The tree is this kind or this type, and has no fault after the colon of a declaration.
 pub record IsWrittenClass (c : plain.DesugaredClass) (t : WrittenType) : Type 0 where
   pub is : placeless_class (class t) ≡ c
   pub no_word : kind_places true t ≡ []

@@ -27,7 +27,7 @@ pub record IsPrintableEntry (sig : PlainSignature) (name : List ℕ) (e : PlainE
 abbrev pub EntriesAreSpelled : Type 0
 EntriesAreSpelled = (sig : PlainSignature) (metas name : List ℕ) (e : PlainEntry) → IsPrintableEntry sig name e → SpellsItem (declaration_text sig metas name e ++ codes "\n") (printed_entry sig name e)
 
--- An object under no binders and a type, with a colon between and behind the word of a check, spell the question whether the object has the type.
+-- An object under no binders and a type, with a colon between and after the word of a check, spell the question whether the object has the type.
 abbrev pub ChecksAreSpelled : Type 0
 ChecksAreSpelled = (sig : PlainSignature) (metas others : List ℕ) (n : PlainObject) (a : PlainType) → IsPrintableObject sig 0 n → IsPrintableType sig 0 a
     → SpellsItem (codes "#check " ++ (object_text sig metas 0 n ++ codes " : " ++ type_text sig others 0 Whole a ++ codes ".\n")) (printed_check sig n a)

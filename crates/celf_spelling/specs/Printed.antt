@@ -83,7 +83,7 @@ module _ (sig : PlainSignature) where
     printed_steps level (core.step ms r e) = step (printed_binders level ms) (printed_head level r) (spine_of (printed_acts level r)) (printed_steps (level + length ms) e)
     printed_steps level (core.done t) = no_steps
 
-    -- the tuple behind the steps
+    -- the tuple after the steps
     pub printed_result : ℕ → core.PlainExpression → DesugaredTuple
     printed_result level (core.step ms r e) = printed_result (level + length ms) e
     printed_result level (core.done t) = printed_tuple level t

@@ -5,8 +5,8 @@ use std::alloc::AllocError;
 /// Why an item has no plain form. Each span is that of the part at fault.
 #[derive(Debug, Drop)]
 pub enum SugarFault {
-    /// The word `type` stands elsewhere than at the end of a declaration's kind, or that kind has an arrow other than `->`,
-    /// `<-` and `Pi`.
+    /// The word `type` stands elsewhere than at the end of a declaration's kind, or that kind has an arrow other than
+    /// `->`, `<-` and `Pi`.
     KindPlace(Span),
     /// A synchronous type stands where none may.
     NotAsync(Span),
@@ -14,7 +14,7 @@ pub enum SugarFault {
     Redex(Span),
     /// A number is outside its range.
     OutOfRange(Span),
-    /// The type or kind behind `[n]` does not begin with `n` persistent functions or arguments.
+    /// The type or kind after `[n]` does not begin with `n` persistent functions or arguments.
     BadImplicit(Span),
     /// Memory ran out.
     NoMemory,

@@ -18,8 +18,8 @@ use std::alloc::Global;
 
 /// The item without its sugar.
 ///
-/// Where it has faults, it answers the one with the least start, and at equal starts the first in the order of `SugarFault`;
-/// of two synchronous types that start at one byte the outer one.
+/// Where it has faults, it answers the one with the least start, and at equal starts the first in the order of
+/// `SugarFault`; of two synchronous types that start at one byte the outer one.
 /// `NoMemory` comes only where memory runs out.
 #[tactic(auto, using(crate::proofs::AnswerLaws::answer_laws))]
 pub fn desugar(alloc: Global, item: &Item) -> Result<Plain, SugarFault>

@@ -7,8 +7,8 @@ ghost use Rattle.celf_sugar.specs.ClassLeading.{class_leading as class_leading_o
 use crate::plain::{PClass, PTy, PTyForm};
 use clf_syntax::Mode;
 
-/// How many arguments a family has, or how many persistent functions a constant's type begins with. The count stops at the
-/// greatest `u64`.
+/// How many arguments a family has, or how many persistent functions a constant's type begins with. The count stops at
+/// the greatest `u64`.
 #[tactic(auto, using(crate::specs::Plain::plain_laws, crate::proofs::LeadingLaws::leading_laws))]
 pub fn class_leading(class: &PClass) -> u64
     ensures { result ≡ min (class_leading_of (class_of class.now)) (2 ^ 64 - 1) }
@@ -31,7 +31,7 @@ fn leading(ty: &PTy) -> u64
     count
 }
 
-/// The type behind the persistent function that a type begins with.
+/// The type after the persistent function that a type begins with.
 #[tactic(auto, using(crate::specs::Plain::plain_laws))]
 fn behind_persistent(ty: &PTy) -> Option<&PTy>
     ensures { MatchOption result (leading_of (desugared_type ty.now) ≡ 0)

@@ -34,8 +34,8 @@ pub fn implicit_outside(implicit: Option<Bound>) -> Option<Span>
     }
 }
 
-/// The span of a number of implicit arguments greater than `leading`, the number of persistent functions or arguments that
-/// the type or kind begins with.
+/// The span of a number of implicit arguments greater than `leading`, the number of persistent functions or arguments
+/// that the type or kind begins with.
 pub fn too_many(implicit: Option<Bound>, leading: u64) -> Option<Span>
     ensures { (t : WrittenType) → min (leading_of (reading t).as_type) (2 ^ 64 - 1) ≡ leading
         → result ≡ earliest start (too_many_of implicit t) }

@@ -118,7 +118,7 @@ fn spine_of_head(alloc: Global, obj: &SObj) -> Result<Items<PElim>, AllocError>
     }
 }
 
-/// A spine with more behind it.
+/// A spine with more after it.
 fn joined(spine: Items<PElim>, more: Items<PElim>) -> Result<Items<PElim>, AllocError>
     ensures { IfOk result (λ es. map desugared_elim es ≡ map desugared_elim spine ++ map desugared_elim more) }
 {
@@ -127,7 +127,7 @@ fn joined(spine: Items<PElim>, more: Items<PElim>) -> Result<Items<PElim>, Alloc
     Ok(spine)
 }
 
-/// A spine with a projection behind it.
+/// A spine with a projection after it.
 fn projected(spine: Items<PElim>, projection: PElim) -> Result<Items<PElim>, AllocError>
     ensures { IfOk result (λ es. map desugared_elim es ≡ map desugared_elim spine ++ desugared_elim projection ∷ []) }
 {

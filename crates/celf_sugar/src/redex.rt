@@ -9,7 +9,8 @@ ghost use Rattle.celf_sugar.specs.FaultLists.{of_argument, of_head, of_step};
 use crate::earliest::sooner;
 use celf_surface::{SArg, SExpr, SObj, SObjForm, SStep, STuple, SType, STypeForm, Span};
 
-/// The first lambda, pair, `<>`, braces or `_` in an object that is applied, is projected or is the right side of a `let`.
+/// The first lambda, pair, `<>`, braces or `_` in an object that is applied, is projected or is the right side of a
+/// `let`.
 #[cycle(redex)]
 #[tactic(auto, using(crate::specs::SugarLists::written_object_laws, crate::proofs::EarliestLaws::earliest_laws, crate::specs::FaultLists::listed_laws))]
 pub fn redex(obj: &SObj) -> Option<Span>

@@ -170,7 +170,7 @@ pub fn entries(alloc: Global, ty: &SType) -> Result<Items<PEntry>, AllocError>
     }
 }
 
-/// The entries of a telescope behind one that binds a name, and that one first.
+/// The entries of a telescope after one that binds a name, and that one first.
 #[cycle(types)]
 fn entries_behind(
     alloc: Global,
@@ -185,7 +185,7 @@ fn entries_behind(
     joined(bound, entries(alloc, rest)?)
 }
 
-/// The entries of the later factors of a product, which may be many, behind those of the first.
+/// The entries of the later factors of a product, which may be many, after those of the first.
 #[cycle(types)]
 #[tactic(auto, using(crate::specs::SugarLists::written_type_laws))]
 fn entries_of_factors(
@@ -205,7 +205,7 @@ fn entries_of_factors(
     joined(found, entries(alloc, rest)?)
 }
 
-/// Some entries, and more behind them.
+/// Some entries, and more after them.
 fn joined(entries: Items<PEntry>, more: Items<PEntry>) -> Result<Items<PEntry>, AllocError>
     ensures { IfOk result (λ es. map desugared_entry es ≡ map desugared_entry entries ++ map desugared_entry more) }
 {
@@ -273,8 +273,10 @@ fn family_type(
     at: Span,
     indices: &[SObj],
 ) -> Result<PTy, AllocError>
-    ensures { IfOk result (λ t. desugared_type t
-        ≡ family span (record { name = name.now; dollar = dollar; span = at }) (map object_of (map object_tree indices.now))) }
+    ensures { IfOk result (λ t.
+        desugared_type t
+        ≡ family span (record { name = name.now; dollar = dollar; span = at })
+        (map object_of (map object_tree indices.now))) }
 {
     let head = PName {
         name: name.copy(alloc)?,
@@ -362,7 +364,7 @@ pub fn class(alloc: Global, ty: &SType) -> Result<PClass, AllocError>
     }
 }
 
-/// Whether the word `type` stands at the end, behind `Pi`, `->` and `<-` alone.
+/// Whether the word `type` stands at the end, after `Pi`, `->` and `<-` alone.
 #[tactic(auto, using(crate::specs::SugarLists::written_type_laws))]
 fn is_kind(ty: &SType) -> bool
     ensures { result ≡ is_kind_of (surface ty.now) }
@@ -418,7 +420,7 @@ fn kind_arguments(alloc: Global, ty: &SType) -> Result<Items<PEntry>, AllocError
     }
 }
 
-/// The arguments of a kind behind one, and that one first.
+/// The arguments of a kind after one, and that one first.
 #[cycle(kind_arguments)]
 fn arguments_behind(
     alloc: Global,

@@ -1,5 +1,5 @@
-//! Runs over files that are held in memory, whose calls fail in turn. What is answered to which text stands in tests/, as files,
-//! and tools/check-limits tries the words of the command.
+//! Runs over files that are held in memory, whose calls fail in turn. What is answered to which text stands in tests/,
+//! as files, and tools/check-limits tries the words of the command.
 use celf_run::run;
 use celf_source::{MemShelf, MemSink, Shelf, ShelfFile, Sink, SureSink};
 use clf_syntax::Name;

@@ -38,7 +38,9 @@ fn place(alloc: Global) -> Result<Ty, AllocError>
 /// A persistent and a linear entry of that place.
 #[tactic(auto, using(clf_syntax::specs::PlainTypes::plain_type_laws))]
 fn start(alloc: Global) -> Result<State, AllocError>
-    ensures context { IfOk result (λ s. context s.ctx ≡ (Linear, monad (binding Linear top end)) ∷ (Persistent, monad (binding Linear top end)) ∷ []) }
+    ensures context { IfOk result (λ s.
+        context s.ctx
+        ≡ (Linear, monad (binding Linear top end)) ∷ (Persistent, monad (binding Linear top end)) ∷ []) }
     ensures marks { IfOk result (λ s. marks s.holding ≡ true ∷ true ∷ []) }
 {
     let mut ctx = Ctx::empty(alloc);

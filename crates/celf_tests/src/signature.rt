@@ -1,5 +1,5 @@
-//! The calls of a signature and its entries that the program does not make. Those that it makes are tried by files in tests/, and
-//! a full signature by tools/check-limits.
+//! The calls of a signature and its entries that the program does not make. Those that it makes are tried by files in
+//! tests/, and a full signature by tools/check-limits.
 use crate::trees::{atom, constant, family, function};
 use clf_sig::{Entry, Signature};
 use clf_syntax::Mode;

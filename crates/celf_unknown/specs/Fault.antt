@@ -10,7 +10,7 @@ use Rattle.celf_unknown.specs.declared.fault.UnknownName.{UnknownName}
 abbrev pub standing : PName → List ℕ × Span
 standing n = (n.name, n.span)
 
--- the fault of a name: the name, or want of memory for it
+-- the fault of a name: the name, or lack of memory for it
 abbrev pub IsUnknown : PName → OrWide UnknownName → Type 0
 IsUnknown n (Fault u) = (u.name ≡ n.name) × (u.span ≡ n.span)
 IsUnknown n NoMemory = Unit {0}

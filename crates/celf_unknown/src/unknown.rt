@@ -24,7 +24,10 @@ fn unknown_in_object<'a>(
     sig: &Signature,
     scope: &mut Scope<'a>,
 ) -> Result<Option<&'a PName>, AllocError>
-    ensures first { IfOk result (λ n. option_copied n ≡ earliest spec.place (spec.unknown_in_object (plain_signature sig.now) scope.old (desugared_object obj.now))) }
+    ensures first { IfOk result (λ n.
+        option_copied n
+        ≡ earliest spec.place
+        (spec.unknown_in_object (plain_signature sig.now) scope.old (desugared_object obj.now))) }
     ensures kept { OnOk result (scope.new ≡ scope.old) }
 {
     match &obj.form {
@@ -61,7 +64,8 @@ fn unknown_in_object<'a>(
 
 /// The name of an object, where it has no meaning.
 fn unknown_head<'a>(head: &'a PName, sig: &Signature, scope: &Scope<'a>) -> Option<&'a PName>
-    ensures { option_copied result ≡ earliest spec.place (spec.unknown_head (plain_signature sig.now) scope.now head.now) }
+    ensures { option_copied result
+        ≡ earliest spec.place (spec.unknown_head (plain_signature sig.now) scope.now head.now) }
 {
     if scope.knows(sig, head) {
         None
@@ -76,7 +80,10 @@ fn unknown_in_spine<'a>(
     sig: &Signature,
     scope: &mut Scope<'a>,
 ) -> Result<Option<&'a PName>, AllocError>
-    ensures first { IfOk result (λ n. option_copied n ≡ earliest spec.place (flat_map (spec.unknown_in_act (plain_signature sig.now) scope.old) (map desugared_elim spine.now))) }
+    ensures first { IfOk result (λ n.
+        option_copied n
+        ≡ earliest spec.place (flat_map (spec.unknown_in_act (plain_signature sig.now) scope.old)
+        (map desugared_elim spine.now))) }
     ensures kept { OnOk result (scope.new ≡ scope.old) }
 {
     let mut found = None;
@@ -93,7 +100,10 @@ fn unknown_in_act<'a>(
     sig: &Signature,
     scope: &mut Scope<'a>,
 ) -> Result<Option<&'a PName>, AllocError>
-    ensures first { IfOk result (λ n. option_copied n ≡ earliest spec.place (spec.unknown_in_act (plain_signature sig.now) scope.old (desugared_elim act.now))) }
+    ensures first { IfOk result (λ n.
+        option_copied n
+        ≡ earliest spec.place
+        (spec.unknown_in_act (plain_signature sig.now) scope.old (desugared_elim act.now))) }
     ensures kept { OnOk result (scope.new ≡ scope.old) }
 {
     match act {
@@ -110,8 +120,13 @@ fn unknown_in_expression<'a>(
     sig: &Signature,
     scope: &mut Scope<'a>,
 ) -> Result<Option<&'a PName>, AllocError>
-    ensures first { IfOk result (λ n. option_copied n ≡ earliest spec.place (spec.unknown_in_steps (plain_signature sig.now) scope.old (desugared_expression expr.now).0
-        ++ spec.unknown_in_tuple (plain_signature sig.now) (scope.old ++ spec.bound_by_steps (desugared_expression expr.now).0) (desugared_expression expr.now).1)) }
+    ensures first { IfOk result (λ n.
+        option_copied n
+        ≡ earliest spec.place (spec.unknown_in_steps (plain_signature sig.now) scope.old
+        (desugared_expression expr.now).0
+        ++ spec.unknown_in_tuple (plain_signature sig.now)
+        (scope.old ++ spec.bound_by_steps (desugared_expression expr.now).0)
+        (desugared_expression expr.now).1)) }
     ensures bound { OnOk result (scope.new ≡ scope.old ++ spec.bound_by_steps (desugared_expression expr.now).0) }
 {
     let first = unknown_in_steps(expr.steps.as_slice(), sig, scope)?;
@@ -126,7 +141,10 @@ fn unknown_in_steps<'a>(
     sig: &Signature,
     scope: &mut Scope<'a>,
 ) -> Result<Option<&'a PName>, AllocError>
-    ensures first { IfOk result (λ n. option_copied n ≡ earliest spec.place (unknown_along (unknown_in_step (plain_signature sig.now)) bound_by_step scope.old (map desugared_step steps.now))) }
+    ensures first { IfOk result (λ n.
+        option_copied n
+        ≡ earliest spec.place (unknown_along (unknown_in_step (plain_signature sig.now)) bound_by_step scope.old
+        (map desugared_step steps.now))) }
     ensures bound { OnOk result (scope.new ≡ scope.old ++ flat_map bound_by_step (map desugared_step steps.now)) }
 {
     let mut found = None;
@@ -144,7 +162,9 @@ fn unknown_in_one_step<'a>(
     sig: &Signature,
     scope: &mut Scope<'a>,
 ) -> Result<Option<&'a PName>, AllocError>
-    ensures first { IfOk result (λ n. option_copied n ≡ earliest spec.place (unknown_in_step (plain_signature sig.now) scope.old (desugared_step step.now))) }
+    ensures first { IfOk result (λ n.
+        option_copied n
+        ≡ earliest spec.place (unknown_in_step (plain_signature sig.now) scope.old (desugared_step step.now))) }
     ensures bound { OnOk result (scope.new ≡ scope.old ++ bound_by_step (desugared_step step.now)) }
 {
     let first = unknown_head(&step.head, sig, scope);
@@ -159,7 +179,10 @@ fn unknown_in_tuple<'a>(
     sig: &Signature,
     scope: &mut Scope<'a>,
 ) -> Result<Option<&'a PName>, AllocError>
-    ensures first { IfOk result (λ n. option_copied n ≡ earliest spec.place (flat_map (unknown_in_marked (plain_signature sig.now) scope.old) (map desugared_marked tuple.now))) }
+    ensures first { IfOk result (λ n.
+        option_copied n
+        ≡ earliest spec.place (flat_map (unknown_in_marked (plain_signature sig.now) scope.old)
+        (map desugared_marked tuple.now))) }
     ensures kept { OnOk result (scope.new ≡ scope.old) }
 {
     let mut found = None;
@@ -176,7 +199,10 @@ fn unknown_in_tuple_entry<'a>(
     sig: &Signature,
     scope: &mut Scope<'a>,
 ) -> Result<Option<&'a PName>, AllocError>
-    ensures first { IfOk result (λ n. option_copied n ≡ earliest spec.place (unknown_in_marked (plain_signature sig.now) scope.old (desugared_marked entry.now))) }
+    ensures first { IfOk result (λ n.
+        option_copied n
+        ≡ earliest spec.place
+        (unknown_in_marked (plain_signature sig.now) scope.old (desugared_marked entry.now))) }
     ensures kept { OnOk result (scope.new ≡ scope.old) }
 {
     unknown_in_object(&entry.obj, sig, scope)
@@ -190,7 +216,10 @@ fn unknown_in_type<'a>(
     sig: &Signature,
     scope: &mut Scope<'a>,
 ) -> Result<Option<&'a PName>, AllocError>
-    ensures first { IfOk result (λ n. option_copied n ≡ earliest spec.place (spec.unknown_in_type (plain_signature sig.now) scope.old (desugared_type ty.now))) }
+    ensures first { IfOk result (λ n.
+        option_copied n
+        ≡ earliest spec.place
+        (spec.unknown_in_type (plain_signature sig.now) scope.old (desugared_type ty.now))) }
     ensures kept { OnOk result (scope.new ≡ scope.old) }
 {
     match &ty.form {
@@ -238,7 +267,10 @@ fn unknown_in_indices<'a>(
     sig: &Signature,
     scope: &mut Scope<'a>,
 ) -> Result<Option<&'a PName>, AllocError>
-    ensures first { IfOk result (λ n. option_copied n ≡ earliest spec.place (flat_map (spec.unknown_in_object (plain_signature sig.now) scope.old) (map desugared_object indices.now))) }
+    ensures first { IfOk result (λ n.
+        option_copied n
+        ≡ earliest spec.place (flat_map (spec.unknown_in_object (plain_signature sig.now) scope.old)
+        (map desugared_object indices.now))) }
     ensures kept { OnOk result (scope.new ≡ scope.old) }
 {
     let mut found = None;
@@ -255,7 +287,10 @@ fn unknown_in_telescope<'a>(
     sig: &Signature,
     scope: &mut Scope<'a>,
 ) -> Result<Option<&'a PName>, AllocError>
-    ensures first { IfOk result (λ n. option_copied n ≡ earliest spec.place (spec.unknown_in_telescope (plain_signature sig.now) scope.old (desugared_telescope tele.now))) }
+    ensures first { IfOk result (λ n.
+        option_copied n
+        ≡ earliest spec.place
+        (spec.unknown_in_telescope (plain_signature sig.now) scope.old (desugared_telescope tele.now))) }
     ensures kept { OnOk result (scope.new ≡ scope.old) }
 {
     let outer = scope.len();
@@ -271,7 +306,10 @@ fn unknown_in_entries<'a>(
     sig: &Signature,
     scope: &mut Scope<'a>,
 ) -> Result<Option<&'a PName>, AllocError>
-    ensures first { IfOk result (λ n. option_copied n ≡ earliest spec.place (unknown_along (unknown_in_entry (plain_signature sig.now)) bound_by_entry scope.old (map desugared_entry entries.now))) }
+    ensures first { IfOk result (λ n.
+        option_copied n
+        ≡ earliest spec.place (unknown_along (unknown_in_entry (plain_signature sig.now)) bound_by_entry
+        scope.old (map desugared_entry entries.now))) }
     ensures bound { OnOk result (scope.new ≡ scope.old ++ flat_map bound_by_entry (map desugared_entry entries.now)) }
 {
     let mut found = None;
@@ -289,7 +327,10 @@ fn unknown_in_one_entry<'a>(
     sig: &Signature,
     scope: &mut Scope<'a>,
 ) -> Result<Option<&'a PName>, AllocError>
-    ensures first { IfOk result (λ n. option_copied n ≡ earliest spec.place (unknown_in_entry (plain_signature sig.now) scope.old (desugared_entry entry.now))) }
+    ensures first { IfOk result (λ n.
+        option_copied n
+        ≡ earliest spec.place
+        (unknown_in_entry (plain_signature sig.now) scope.old (desugared_entry entry.now))) }
     ensures bound { OnOk result (scope.new ≡ scope.old ++ bound_by_entry (desugared_entry entry.now)) }
 {
     let found = unknown_in_type(&entry.ty, sig, scope)?;
@@ -303,7 +344,8 @@ pub fn first_unknown<'a>(
     sig: &Signature,
     item: &'a Plain,
 ) -> Result<Option<&'a PName>, AllocError>
-    ensures { IfOk result (λ n. option_copied n ≡ spec.first_unknown (plain_signature sig.now) (desugared_item item.now)) }
+    ensures { IfOk result
+        (λ n. option_copied n ≡ spec.first_unknown (plain_signature sig.now) (desugared_item item.now)) }
 {
     let mut scope = Scope::new(alloc);
     match &item.body {
@@ -336,8 +378,12 @@ fn unknown_in_equation<'a>(
     sig: &Signature,
     scope: &mut Scope<'a>,
 ) -> Result<Option<&'a PName>, AllocError>
-    ensures { IfOk result (λ n. option_copied n ≡ earliest spec.place (spec.unknown_in_object (plain_signature sig.now) scope.old (desugared_object left.now)
-        ++ (spec.unknown_in_object (plain_signature sig.now) scope.old (desugared_object right.now) ++ spec.unknown_in_type (plain_signature sig.now) scope.old (desugared_type ty.now)))) }
+    ensures { IfOk result (λ n.
+        option_copied n
+        ≡ earliest spec.place (spec.unknown_in_object (plain_signature sig.now) scope.old
+        (desugared_object left.now)
+        ++ (spec.unknown_in_object (plain_signature sig.now) scope.old (desugared_object right.now)
+        ++ spec.unknown_in_type (plain_signature sig.now) scope.old (desugared_type ty.now)))) }
 {
     let first = unknown_in_object(left, sig, scope)?;
     let other = unknown_in_check(right, ty, sig, scope)?;
@@ -352,7 +398,11 @@ fn unknown_in_check<'a>(
     sig: &Signature,
     scope: &mut Scope<'a>,
 ) -> Result<Option<&'a PName>, AllocError>
-    ensures { IfOk result (λ n. option_copied n ≡ earliest spec.place (spec.unknown_in_object (plain_signature sig.now) scope.old (desugared_object obj.now) ++ spec.unknown_in_type (plain_signature sig.now) scope.old (desugared_type ty.now))) }
+    ensures { IfOk result (λ n.
+        option_copied n
+        ≡ earliest spec.place (spec.unknown_in_object (plain_signature sig.now) scope.old
+        (desugared_object obj.now)
+        ++ spec.unknown_in_type (plain_signature sig.now) scope.old (desugared_type ty.now))) }
 {
     let first = unknown_in_object(obj, sig, scope)?;
     let other = unknown_in_type(ty, sig, scope)?;
@@ -365,7 +415,10 @@ fn unknown_in_class<'a>(
     sig: &Signature,
     scope: &mut Scope<'a>,
 ) -> Result<Option<&'a PName>, AllocError>
-    ensures { IfOk result (λ n. option_copied n ≡ earliest spec.place (spec.unknown_in_class (plain_signature sig.now) scope.old (class_of class.now))) }
+    ensures { IfOk result (λ n.
+        option_copied n
+        ≡ earliest spec.place
+        (spec.unknown_in_class (plain_signature sig.now) scope.old (class_of class.now))) }
 {
     match class {
         PClass::Family(tele) => unknown_in_telescope(tele, sig, scope),

@@ -31,7 +31,7 @@ use Rattle.clf_decision.proofs.Tests.{other-mode, other-number}
 use Rattle.clf_decision.proofs.Marked.{outside-marked}
 
 -- ---- steps
--- what is known of what follows a step, behind a row
+-- what is known of what follows a step, after a row
 abbrev RestExplained : PlainSignature → Context → List Mode → PlainExpression → PlainTelescope → ℕ → PlainTelescope → Holding → Outcome Leftover → Type 0
 RestExplained sig g ms e s place u row o =
     Agrees (modes (with_entries u g)) (all_held ms row) (answer_of o) (λ p. ExpressionHasType sig (with_entries u g) p e (ren_telescope (up (length ms)) s))

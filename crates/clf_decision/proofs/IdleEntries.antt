@@ -68,7 +68,7 @@ idle-is-left g h (l, s) P i a w m e f =
       bare = no-slack (modes g) h l s P i a w e f;
     }
 
--- ---- the row behind so many entries
+-- ---- the row after so many entries
 abbrev pub beyond : ℕ → Holding → Holding
 beyond zero l = l
 beyond (suc k) l = older (beyond k l)

@@ -1,4 +1,4 @@
--- The kinds that a check of formation meets are simply formed: those of the signature, and what is left of them behind an index.
+-- The kinds that a check of formation meets are simply formed: those of the signature, and what is left of them after an index.
 use Rattle.std.specs.Prelude.{ℕ, zero, suc, ◌≡◌, true, [], ◌∷◌, Some}
 use Rattle.std.proofs.Common.{subst, ◌∙◌}
 use Rattle.clf_syntax.specs.declared.tree.Head.{Head}

@@ -158,12 +158,12 @@ abbrev pub step_left : ℕ → List Mode → Context → PlainType × Leftover �
 step_left place ms g ((monad u), x) rest = and_then (at_part place (pattern_left ms u)) (λ same. rest_left place u g x.1 (rest u (all_held ms x.0)))
 step_left place ms g (t, x) rest = refused (place ∷ []) (not_monad t)
 
--- behind so many entries of a tuple, its end: the telescope has to end as well
+-- after so many entries of a tuple, its end: the telescope has to end as well
 abbrev pub end_left : ℕ → Holding → PlainTelescope → Outcome Leftover
 end_left before h end = passed (h, false)
 end_left before h (binding m a s) = refused [] (width (before + telescope_width (binding m a s)) before)
 
--- behind so many entries of a tuple, its next one, which has the mode of the telescope's; it is put for its variable in the later types
+-- after so many entries of a tuple, its next one, which has the mode of the telescope's; it is put for its variable in the later types
 abbrev pub entry_left : Puts → ℕ → ℕ → Mode → Context → Holding → PlainObject → PlainTuple → PlainTelescope → (Holding → PlainType → Outcome Leftover) → (Holding → PlainTelescope → Outcome Leftover)
     → Outcome Leftover
 entry_left puts steps before m g h n t end object later = refused [] (width before (before + tuple_width (entry m n t)))
@@ -197,7 +197,7 @@ abbrev mutual
       and_then (at_part place (inferred puts sig g h r)) (λ f. step_left place ms g f (λ u row. checked_expression puts sig (with_entries u g) row (suc place) e (ren_telescope (up (length ms)) s)))
   checked_expression puts sig g h place (done t) s = checked_tuple puts sig g h place 0 t s
 
-  -- and with the tuple t behind so many steps and entries
+  -- and with the tuple t after so many steps and entries
   pub checked_tuple : Puts → PlainSignature → Context → Holding → ℕ → ℕ → PlainTuple → PlainTelescope → Outcome Leftover
   checked_tuple puts sig g h steps before empty s = end_left before h s
   checked_tuple puts sig g h steps before (entry m n t) s =

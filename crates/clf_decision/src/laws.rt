@@ -8,7 +8,8 @@ pub fn one_leftover()
     ensures slack { SlackIsIdle }
 {}
 
-/// Typing and formation are decided, in words of the rules alone, and where they fail there is one refusal that explains it.
+/// Typing and formation are decided, in words of the rules alone, and where they fail there is one refusal that
+/// explains it.
 pub fn decided()
     ensures objects { ObjectsAreDecided }
     ensures neutrals { NeutralsAreDecided }

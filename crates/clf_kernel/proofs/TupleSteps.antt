@@ -46,7 +46,7 @@ module _ (puts : Puts) (sig : PlainSignature) (g : Context) (steps : ℕ) where
   abbrev pub tuple_rest : ℕ → PlainTuple → PlainTelescope × Leftover → Outcome Leftover
   tuple_rest i t f = and_then (checked_tuple puts sig g f.1.0 steps i t f.0) (with_slack f.1.1)
 
-  -- the entry at a place, and then those behind it
+  -- the entry at a place, and then those after it
   behind : (i : ℕ) (m : Mode) (n : PlainObject) (t : PlainTuple) (k : Mode) (a : PlainType) (u : PlainTelescope) (x : Leftover)
       → tuple_rest i (entry m n t) (binding k a u, x) ≡ and_then (entry_behind puts sig g (steps + i) (m, n) (binding k a u, x)) (tuple_rest (suc i) t)
   behind i m n t k a u x = by (same_mode m k) (checked puts sig g (allowed m (modes g) x.0) n a)

@@ -21,13 +21,13 @@ abbrev pub Gives : {X A : Type 0} → (X → A) → Outcome A → Result X Stop 
 Gives plain want (Ok x) = want ≡ passed (plain x)
 Gives plain want (Err stop) = Stops want stop
 
--- A check is refused at this path for this cause, if it does not end for want of memory or of numbers.
+-- A check is refused at this path for this cause, if it does not end for lack of memory or of numbers.
 abbrev pub Ends : List ℕ → Cause → Stop → Type 0
 Ends path cause (Refused outward c) = (reverse outward.items ≡ path) × (plain_cause c ≡ cause)
 Ends path cause StopNoMemory = Unit {0}
 Ends path cause (StopTooFar w) = IsWide w
 
--- A check ends for want of memory or of numbers.
+-- A check ends for lack of memory or of numbers.
 abbrev pub IsShort : Stop → Type 0
 IsShort (Refused outward cause) = ⊥
 IsShort StopNoMemory = Unit {0}

@@ -22,7 +22,7 @@ use Rattle.clf_kernel.specs.Stops.{Stops}
 abbrev pub closed_mode : Mode → ℕ → Leftover → Outcome Leftover
 closed_mode m level a = if is_unused m (newest a.0) a.1 then refused [] (unused level) else passed (older a.0, a.1)
 
--- the ends of the scopes of variables of these modes, behind so many older ones; that of the newest first
+-- the ends of the scopes of variables of these modes, after so many older ones; that of the newest first
 abbrev pub closed_modes : List Mode → ℕ → Leftover → Outcome Leftover
 closed_modes [] n a = passed a
 closed_modes (m ∷ ms) n a = and_then (closed_modes ms (suc n) a) (closed_mode m (suc n))
@@ -40,7 +40,7 @@ abbrev pub opened_width : List (List Mode × Bool) → ℕ
 opened_width [] = 0
 opened_width (d ∷ ds) = length d.0 + opened_width ds
 
--- the end of a step behind so many variables, after what follows it
+-- the end of a step after so many variables, after what follows it
 abbrev pub closed_step : ℕ → List Mode → ℕ → Bool → Outcome Leftover → Outcome Leftover
 closed_step place ms n slack o = and_then o (λ y. and_then (at_part place (closed_modes ms n y)) (with_slack slack))
 

@@ -19,7 +19,7 @@ use Rattle.clf_kernel.specs.Spine.{argument_used}
 abbrev pub plain_rest : Rest → PlainTelescope × Leftover
 plain_rest r = (telescope_of (map plain_tele_entry r.types), plain_left r.left)
 
--- what is left behind one entry, which stands at this place
+-- what is left after one entry, which stands at this place
 abbrev pub entry_behind : Puts → PlainSignature → Context → ℕ → Mode × PlainObject → PlainTelescope × Leftover → Outcome (PlainTelescope × Leftover)
 entry_behind puts sig g place e ((binding k a u), x) =
     if same_mode e.0 k then and_then (argument_used e.0 g place x (λ row. checked puts sig g row e.1 a)) (λ y. passed (puts.into_telescope e.1 a u, y)) else refused (place ∷ []) (mode_differs k e.0)

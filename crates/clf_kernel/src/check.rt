@@ -25,7 +25,8 @@ impl Judge<'_> {
     pub fn check(&mut self, obj: &Obj, ty: &Ty, row: Holding) -> Result<Left, Stop>
         requires marked { length (marks row) ≡ length (context_of self.old) }
         requires numbered { length (context_of self.old) < 2 ^ 32 }
-        ensures outcome { Gives plain_left (checked hereditary (signature_of self.old) (context_of self.old) (marks row) (plain_obj obj.now) (plain_ty ty.now)) result }
+        ensures outcome { Gives plain_left (checked hereditary (signature_of self.old) (context_of self.old) (marks row)
+            (plain_obj obj.now) (plain_ty ty.now)) result }
         ensures marked { IfOk result (λ left. length (marks left.row) ≡ length (context_of self.old)) }
         ensures kept { OnOk result (self.new ≡ self.old) }
     {
@@ -56,7 +57,9 @@ impl Judge<'_> {
     fn check_neutral(&mut self, neutral: &Neutral, ty: &Ty, row: Holding) -> Result<Left, Stop>
         requires marked { length (marks row) ≡ length (context_of self.old) }
         requires numbered { length (context_of self.old) < 2 ^ 32 }
-        ensures outcome { Gives plain_left (and_then (inferred hereditary (signature_of self.old) (context_of self.old) (marks row) (plain_neutral neutral.now)) (atomic_left (context_of self.old) (plain_ty ty.now))) result }
+        ensures outcome { Gives plain_left (and_then (inferred hereditary (signature_of self.old) (context_of self.old)
+            (marks row) (plain_neutral neutral.now)) (atomic_left (context_of self.old) (plain_ty ty.now)))
+            result }
         ensures marked { IfOk result (λ left. length (marks left.row) ≡ length (context_of self.old)) }
         ensures kept { OnOk result (self.new ≡ self.old) }
     {
@@ -70,7 +73,8 @@ impl Judge<'_> {
     fn check_left(&mut self, obj: &Obj, ty: &Ty, row: &Holding) -> Result<Left, Stop>
         requires marked { length (marks row.now) ≡ length (context_of self.old) }
         requires numbered { length (context_of self.old) < 2 ^ 32 }
-        ensures outcome { Gives plain_left (at_part 0 (checked hereditary (signature_of self.old) (context_of self.old) (marks row.now) (plain_obj obj.now) (plain_ty ty.now))) result }
+        ensures outcome { Gives plain_left (at_part 0 (checked hereditary (signature_of self.old) (context_of self.old)
+            (marks row.now) (plain_obj obj.now) (plain_ty ty.now))) result }
         ensures marked { IfOk result (λ left. length (marks left.row) ≡ length (context_of self.old)) }
         ensures kept { OnOk result (self.new ≡ self.old) }
     {
@@ -85,7 +89,11 @@ impl Judge<'_> {
         requires marked { length (marks row) ≡ length (context_of self.old) }
         requires numbered { length (context_of self.old) < 2 ^ 32 }
         requires first_marked { length (marks first.row) ≡ length (context_of self.old) }
-        ensures outcome { Gives plain_left (and_then (at_part 1 (checked hereditary (signature_of self.old) (context_of self.old) (marks row) (plain_obj obj.now) (plain_ty ty.now))) (λ y. joined_left (context_of self.old) (plain_left first) y (newest_difference (modes (context_of self.old)) (marks first.row) first.slack y.0 y.1))) result }
+        ensures outcome { Gives plain_left (and_then (at_part 1 (checked hereditary (signature_of self.old)
+            (context_of self.old) (marks row) (plain_obj obj.now) (plain_ty ty.now))) (λ y.
+            joined_left (context_of self.old) (plain_left first) y
+            (newest_difference (modes (context_of self.old)) (marks first.row) first.slack y.0 y.1)))
+            result }
         ensures marked { IfOk result (λ left. length (marks left.row) ≡ length (context_of self.old)) }
         ensures kept { OnOk result (self.new ≡ self.old) }
     {
@@ -104,7 +112,8 @@ impl Judge<'_> {
     ) -> Result<Left, Stop>
         requires marked { length (marks row) ≡ length (context_of self.old) }
         requires numbered { length (context_of self.old) < 2 ^ 32 }
-        ensures outcome { Gives plain_left (at_part place (checked hereditary (signature_of self.old) (context_of self.old) (marks row) (plain_obj obj.now) (plain_ty ty.now))) result }
+        ensures outcome { Gives plain_left (at_part place (checked hereditary (signature_of self.old)
+            (context_of self.old) (marks row) (plain_obj obj.now) (plain_ty ty.now))) result }
         ensures marked { IfOk result (λ left. length (marks left.row) ≡ length (context_of self.old)) }
         ensures kept { OnOk result (self.new ≡ self.old) }
     {
@@ -119,7 +128,9 @@ impl Judge<'_> {
     fn check_lambda(&mut self, mode: Mode, body: &Obj, ty: &Ty, row: Holding) -> Result<Left, Stop>
         requires marked { length (marks row) ≡ length (context_of self.old) }
         requires numbered { length (context_of self.old) < 2 ^ 32 }
-        ensures outcome { Gives plain_left (lambda_left mode (context_of self.old) (plain_ty ty.now) (λ a c. checked hereditary (signature_of self.old) ((mode, a) ∷ context_of self.old) (true ∷ marks row) (plain_obj body.now) c)) result }
+        ensures outcome { Gives plain_left (lambda_left mode (context_of self.old) (plain_ty ty.now) (λ a c.
+            checked hereditary (signature_of self.old) ((mode, a) ∷ context_of self.old) (true ∷ marks row)
+            (plain_obj body.now) c)) result }
         ensures marked { IfOk result (λ left. length (marks left.row) ≡ length (context_of self.old)) }
         ensures kept { OnOk result (self.new ≡ self.old) }
     {
@@ -159,7 +170,9 @@ impl Judge<'_> {
     ) -> Result<Left, Stop>
         requires marked { length (marks row) ≡ length (context_of self.old) }
         requires numbered { length (context_of self.old) < 2 ^ 32 }
-        ensures outcome { Gives plain_left (and_then (at_part 0 (checked hereditary (signature_of self.old) ((mode, plain_ty dom.now) ∷ context_of self.old) (true ∷ marks row) (plain_obj body.now) (plain_ty cod.now))) (closed_scope mode (context_of self.old))) result }
+        ensures outcome { Gives plain_left (and_then (at_part 0 (checked hereditary (signature_of self.old)
+            ((mode, plain_ty dom.now) ∷ context_of self.old) (true ∷ marks row) (plain_obj body.now)
+            (plain_ty cod.now))) (closed_scope mode (context_of self.old))) result }
         ensures marked { IfOk result (λ left. length (marks left.row) ≡ length (context_of self.old)) }
         ensures kept { OnOk result (self.new ≡ self.old) }
     {

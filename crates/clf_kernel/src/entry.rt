@@ -17,8 +17,8 @@ use use_contexts::Ctx;
 
 /// Whether an entry is well formed over a signature.
 ///
-/// It refuses where it is not, with the path and the cause of a part of its class that the rules refuse. There is one such path with one
-/// such cause (`clf_decision::decided`).
+/// It refuses where it is not, with the path and the cause of a part of its class that the rules refuse. There is one
+/// such path with one such cause (`clf_decision::decided`).
 #[tactic(auto, using(crate::proofs::Stops::answer_laws, crate::proofs::Exactness::exact_laws))]
 pub fn check_entry(alloc: Global, sig: &Signature, entry: &Entry) -> Result<(), OrWide<Refusal>>
     requires starts { EntryStarts (plain_signature sig.now) (plain_entry entry.now) }
@@ -32,7 +32,8 @@ pub fn check_entry(alloc: Global, sig: &Signature, entry: &Entry) -> Result<(), 
 
 /// Whether a type is well formed in a context.
 ///
-/// It refuses where it is not, with the path and the cause of a part of it that the rules refuse; there is one such path with one such cause.
+/// It refuses where it is not, with the path and the cause of a part of it that the rules refuse; there is one such
+/// path with one such cause.
 #[tactic(auto, using(crate::proofs::Stops::answer_laws, crate::proofs::Exactness::exact_laws))]
 pub fn check_type(alloc: Global, sig: &Signature, ctx: &Ctx, ty: &Ty) -> Result<(), OrWide<Refusal>>
     requires starts { FormationStarts (plain_signature sig.now) (context ctx.now) }
@@ -46,7 +47,8 @@ pub fn check_type(alloc: Global, sig: &Signature, ctx: &Ctx, ty: &Ty) -> Result<
 
 /// Whether a kind is well formed in a context.
 ///
-/// It refuses where it is not, with the path and the cause of a part of it that the rules refuse; there is one such path with one such cause.
+/// It refuses where it is not, with the path and the cause of a part of it that the rules refuse; there is one such
+/// path with one such cause.
 #[tactic(auto, using(crate::proofs::Stops::answer_laws, crate::proofs::Exactness::exact_laws))]
 pub fn check_kind(
     alloc: Global,
@@ -66,7 +68,8 @@ pub fn check_kind(
 /// The check in a copy of the context, which grows and shrinks with the scopes of the type.
 #[tactic(auto, using(crate::proofs::Stops::stop_laws))]
 fn form_type_in_copy(alloc: Global, sig: &Signature, ctx: &Ctx, ty: &Ty) -> Result<(), Stop>
-    ensures { Gives (λ x. x) (type_formed hereditary (plain_signature sig.now) (context ctx.now) (plain_ty ty.now)) result }
+    ensures { Gives (λ x. x) (type_formed hereditary (plain_signature sig.now) (context ctx.now) (plain_ty ty.now))
+        result }
 {
     let mut judge = Judge::over(alloc, sig, ctx)?;
     judge.form_type(ty)
@@ -75,7 +78,8 @@ fn form_type_in_copy(alloc: Global, sig: &Signature, ctx: &Ctx, ty: &Ty) -> Resu
 /// The check in a copy of the context, which grows and shrinks with the scopes of the kind.
 #[tactic(auto, using(crate::proofs::Stops::stop_laws))]
 fn form_kind_in_copy(alloc: Global, sig: &Signature, ctx: &Ctx, kind: &Kind) -> Result<(), Stop>
-    ensures { Gives (λ x. x) (kind_formed hereditary (plain_signature sig.now) (context ctx.now) 0 (plain_kind kind.now)) result }
+    ensures { Gives (λ x. x)
+        (kind_formed hereditary (plain_signature sig.now) (context ctx.now) 0 (plain_kind kind.now)) result }
 {
     let mut judge = Judge::over(alloc, sig, ctx)?;
     judge.form_arguments(kind.args.as_slice())

@@ -25,7 +25,9 @@ impl Judge<'_> {
     pub fn check_monadic(&mut self, expr: &Expr, ty: &Ty, row: Holding) -> Result<Left, Stop>
         requires marked { length (marks row) ≡ length (context_of self.old) }
         requires numbered { length (context_of self.old) < 2 ^ 32 }
-        ensures outcome { Gives plain_left (monadic_left (plain_ty ty.now) (λ s. checked_expression hereditary (signature_of self.old) (context_of self.old) (marks row) 0 (plain_expr expr.now) s)) result }
+        ensures outcome { Gives plain_left (monadic_left (plain_ty ty.now) (λ s.
+            checked_expression hereditary (signature_of self.old) (context_of self.old) (marks row) 0
+            (plain_expr expr.now) s)) result }
         ensures marked { IfOk result (λ left. length (marks left.row) ≡ length (context_of self.old)) }
         ensures kept { OnOk result (self.new ≡ self.old) }
     {
@@ -37,14 +39,15 @@ impl Judge<'_> {
         }
     }
 
-    /// What the check of an expression against a telescope leaves of a row: forward along its steps, then its tuple, and back over the ends
-    /// of the steps' scopes.
+    /// What the check of an expression against a telescope leaves of a row: forward along its steps, then its tuple,
+    /// and back over the ends of the steps' scopes.
     #[cycle(check)]
     #[tactic(auto, using(clf_syntax::specs::Plain::plain_laws, crate::proofs::Stops::stop_laws))]
     pub fn check_expression(&mut self, expr: &Expr, tele: &Tele, row: Holding) -> Result<Left, Stop>
         requires marked { length (marks row) ≡ length (context_of self.old) }
         requires numbered { length (context_of self.old) < 2 ^ 32 }
-        ensures outcome { Gives plain_left (checked_expression hereditary (signature_of self.old) (context_of self.old) (marks row) 0 (plain_expr expr.now) (plain_tele tele.now)) result }
+        ensures outcome { Gives plain_left (checked_expression hereditary (signature_of self.old) (context_of self.old)
+            (marks row) 0 (plain_expr expr.now) (plain_tele tele.now)) result }
         ensures marked { IfOk result (λ left. length (marks left.row) ≡ length (context_of self.old)) }
         ensures kept { OnOk result (self.new ≡ self.old) }
     {
@@ -64,9 +67,12 @@ impl Judge<'_> {
     fn open_steps(&mut self, steps: &[Step], row: Holding) -> Result<Trail, Stop>
         requires marked { length (marks row) ≡ length (context_of self.old) }
         requires numbered { length (context_of self.old) < 2 ^ 32 }
-        ensures outcome { OpensSteps hereditary (signature_of self.old) (map plain_step steps.now) (context_of self.old) (marks row) (context_of self.new) result }
+        ensures outcome { OpensSteps hereditary (signature_of self.old) (map plain_step steps.now) (context_of self.old)
+            (marks row) (context_of self.new) result }
         ensures grown { OnOk result (IsGrown self.old self.new) }
-        ensures width { IfOk result (λ trail. length (context_of self.new) ≡ opened_width (opened_by trail.opened) + length (context_of self.old)) }
+        ensures width { IfOk result (λ trail.
+            length (context_of self.new)
+            ≡ opened_width (opened_by trail.opened) + length (context_of self.old)) }
         ensures marked { IfOk result (λ trail. length (marks trail.row) ≡ length (context_of self.new)) }
         ensures numbered { OnOk result (length (context_of self.new) < 2 ^ 32) }
     {
@@ -88,9 +94,11 @@ impl Judge<'_> {
     fn open_step(&mut self, place: usize, step: &Step, row: Holding) -> Result<Entered, Stop>
         requires marked { length (marks row) ≡ length (context_of self.old) }
         requires numbered { length (context_of self.old) < 2 ^ 32 }
-        ensures outcome { OpensStep hereditary (signature_of self.old) place (plain_step step.now) (context_of self.old) (marks row) (context_of self.new) result }
+        ensures outcome { OpensStep hereditary (signature_of self.old) place (plain_step step.now) (context_of self.old)
+            (marks row) (context_of self.new) result }
         ensures grown { OnOk result (IsGrown self.old self.new) }
-        ensures width { IfOk result (λ entered. length (context_of self.new) ≡ length entered.opened.modes + length (context_of self.old)) }
+        ensures width { IfOk result
+            (λ entered. length (context_of self.new) ≡ length entered.opened.modes + length (context_of self.old)) }
         ensures marked { IfOk result (λ entered. length (marks entered.row) ≡ length (context_of self.new)) }
         ensures numbered { OnOk result (length (context_of self.new) < 2 ^ 32) }
     {

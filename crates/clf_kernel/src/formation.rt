@@ -26,7 +26,9 @@ impl Judge<'_> {
     #[tactic(auto, using(crate::proofs::Stops::stop_laws))]
     pub fn form_arguments(&mut self, args: &[Ty]) -> Result<(), Stop>
         requires numbered { length (context_of self.old) < 2 ^ 32 }
-        ensures { Gives (λ x. x) (kind_formed hereditary (signature_of self.old) (context_of self.old) 0 (map plain_ty args.now)) result }
+        ensures { Gives (λ x. x)
+            (kind_formed hereditary (signature_of self.old) (context_of self.old) 0 (map plain_ty args.now))
+            result }
     {
         let mut place = 0;
         for arg in args {
@@ -41,7 +43,9 @@ impl Judge<'_> {
     #[tactic(auto, using(crate::proofs::Stops::stop_laws))]
     fn form_entry(&mut self, place: usize, mode: Mode, ty: &Ty) -> Result<(), Stop>
         requires numbered { length (context_of self.old) < 2 ^ 32 }
-        ensures formed { Gives (λ x. x) (at_part place (type_formed hereditary (signature_of self.old) (context_of self.old) (plain_ty ty.now))) result }
+        ensures formed { Gives (λ x. x)
+            (at_part place (type_formed hereditary (signature_of self.old) (context_of self.old) (plain_ty ty.now)))
+            result }
         ensures context { OnOk result (context_of self.new ≡ (mode, plain_ty ty.now) ∷ context_of self.old) }
         ensures entry { OnOk result (IsEntered self.old self.new) }
         ensures numbered { OnOk result (length (context_of self.new) < 2 ^ 32) }
@@ -54,7 +58,9 @@ impl Judge<'_> {
     #[cycle(form)]
     fn form_part(&mut self, place: usize, ty: &Ty) -> Result<(), Stop>
         requires numbered { length (context_of self.old) < 2 ^ 32 }
-        ensures formed { Gives (λ x. x) (at_part place (type_formed hereditary (signature_of self.old) (context_of self.old) (plain_ty ty.now))) result }
+        ensures formed { Gives (λ x. x)
+            (at_part place (type_formed hereditary (signature_of self.old) (context_of self.old) (plain_ty ty.now)))
+            result }
         ensures kept { OnOk result (self.new ≡ self.old) }
     {
         match self.form_type(ty) {
@@ -68,7 +74,8 @@ impl Judge<'_> {
     #[tactic(auto, using(clf_syntax::specs::PlainTypes::plain_type_laws, crate::proofs::Stops::stop_laws))]
     pub fn form_type(&mut self, ty: &Ty) -> Result<(), Stop>
         requires numbered { length (context_of self.old) < 2 ^ 32 }
-        ensures formed { Gives (λ x. x) (type_formed hereditary (signature_of self.old) (context_of self.old) (plain_ty ty.now)) result }
+        ensures formed { Gives (λ x. x)
+            (type_formed hereditary (signature_of self.old) (context_of self.old) (plain_ty ty.now)) result }
         ensures kept { OnOk result (self.new ≡ self.old) }
     {
         match ty {
@@ -93,7 +100,8 @@ impl Judge<'_> {
     #[tactic(auto, using(crate::proofs::Stops::stop_laws))]
     fn form_telescope(&mut self, entries: &[TeleEntry]) -> Result<(), Stop>
         requires numbered { length (context_of self.old) < 2 ^ 32 }
-        ensures formed { Gives (λ x. x) (telescope_formed hereditary (signature_of self.old) (context_of self.old) 0 (telescope_of (map plain_tele_entry entries.now))) result }
+        ensures formed { Gives (λ x. x) (telescope_formed hereditary (signature_of self.old) (context_of self.old) 0
+            (telescope_of (map plain_tele_entry entries.now))) result }
         ensures kept { OnOk result (self.new ≡ self.old) }
     {
         let older = self.ctx.len();
@@ -110,7 +118,8 @@ impl Judge<'_> {
     #[tactic(auto, using(crate::proofs::Stops::stop_laws))]
     fn form_family(&mut self, family: u32, indices: &[Obj]) -> Result<(), Stop>
         requires numbered { length (context_of self.old) < 2 ^ 32 }
-        ensures formed { Gives (λ x. x) (family_formed hereditary (signature_of self.old) (context_of self.old) family (map plain_obj indices.now) (kind_of_family (signature_of self.old) family)) result }
+        ensures formed { Gives (λ x. x) (family_formed hereditary (signature_of self.old) (context_of self.old) family
+            (map plain_obj indices.now) (kind_of_family (signature_of self.old) family)) result }
         ensures kept { OnOk result (self.new ≡ self.old) }
     {
         match family_kind(self.sig, family) {
@@ -129,7 +138,8 @@ impl Judge<'_> {
     #[tactic(auto, using(crate::proofs::Stops::stop_laws))]
     fn form_indices(&mut self, indices: &[Obj], kind: &Kind) -> Result<(), Stop>
         requires numbered { length (context_of self.old) < 2 ^ 32 }
-        ensures formed { Gives (λ x. x) (indices_formed hereditary (signature_of self.old) (context_of self.old) 0 (map plain_obj indices.now) (plain_kind kind.now)) result }
+        ensures formed { Gives (λ x. x) (indices_formed hereditary (signature_of self.old) (context_of self.old) 0
+            (map plain_obj indices.now) (plain_kind kind.now)) result }
         ensures kept { OnOk result (self.new ≡ self.old) }
     {
         let mut rest = kind.copy(self.alloc)?.args;
@@ -149,7 +159,8 @@ impl Judge<'_> {
     fn form_index(&mut self, place: usize, obj: &Obj, rest: Items<Ty>) -> Result<Items<Ty>, Stop>
         requires there { 0 < length rest }
         requires numbered { length (context_of self.old) < 2 ^ 32 }
-        ensures outcome { Gives (map plain_ty) (index_behind hereditary (signature_of self.old) (context_of self.old) place (plain_obj obj.now) (map plain_ty rest)) result }
+        ensures outcome { Gives (map plain_ty) (index_behind hereditary (signature_of self.old) (context_of self.old)
+            place (plain_obj obj.now) (map plain_ty rest)) result }
         ensures kept { OnOk result (self.new ≡ self.old) }
     {
         let start = self.persistent_alone()?;

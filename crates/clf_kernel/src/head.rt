@@ -24,7 +24,8 @@ impl Judge<'_> {
     pub fn infer_head(&self, head: Head, row: Holding) -> Result<Inferred, Stop>
         requires marked { length (marks row) ≡ length (context_of self.now) }
         requires numbered { length (context_of self.now) < 2 ^ 32 }
-        ensures outcome { Gives plain_inferred (head_left (signature_of self.now) (context_of self.now) (marks row) head) result }
+        ensures outcome { Gives plain_inferred
+            (head_left (signature_of self.now) (context_of self.now) (marks row) head) result }
         ensures marked { IfOk result (λ found. length (marks found.left.row) ≡ length (context_of self.now)) }
     {
         match head {
@@ -35,7 +36,8 @@ impl Judge<'_> {
     }
 
     fn infer_constant(&self, constant: u32, row: Holding) -> Result<Inferred, Stop>
-        ensures outcome { Gives plain_inferred (constant_left constant (marks row) (type_of_constant (signature_of self.now) constant)) result }
+        ensures outcome { Gives plain_inferred
+            (constant_left constant (marks row) (type_of_constant (signature_of self.now) constant)) result }
         ensures row { IfOk result (λ found. found.left.row ≡ row) }
     {
         match constant_type(self.sig, constant) {
@@ -52,7 +54,8 @@ impl Judge<'_> {
     fn infer_variable(&self, var: u32, row: Holding) -> Result<Inferred, Stop>
         requires marked { length (marks row) ≡ length (context_of self.now) }
         requires numbered { length (context_of self.now) < 2 ^ 32 }
-        ensures outcome { Gives plain_inferred (variable_left (context_of self.now) (marks row) var (slice_get (context_of self.now) var)) result }
+        ensures outcome { Gives plain_inferred
+            (variable_left (context_of self.now) (marks row) var (slice_get (context_of self.now) var)) result }
         ensures marked { IfOk result (λ found. length (marks found.left.row) ≡ length (context_of self.now)) }
     {
         if var as usize >= self.ctx.len() {
@@ -99,7 +102,8 @@ fn constant_type(sig: &Signature, constant: u32) -> Option<&Ty>
 #[tactic(auto, using(crate::proofs::Stops::stop_laws))]
 fn variable_of(alloc: Global, ty: &Ty, var: u32, row: Holding) -> Result<Inferred, Stop>
     requires { var + 1 < 2 ^ 32 }
-    ensures outcome { Gives plain_inferred (passed (ren_type (up (var + 1)) (plain_ty ty.now), (marks row, false))) result }
+    ensures outcome { Gives plain_inferred (passed (ren_type (up (var + 1)) (plain_ty ty.now), (marks row, false)))
+        result }
     ensures row { IfOk result (λ found. found.left.row ≡ row) }
 {
     Ok(Inferred {

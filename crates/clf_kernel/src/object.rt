@@ -22,9 +22,9 @@ use use_contexts::{Ctx, Holding, Left};
 
 /// What the check of an object against a type leaves of a holding.
 ///
-/// It refuses where no part of the holding types the object, with the path and the cause of a part that the rules refuse.
-/// There is one such path with one such cause, and one such rest (`clf_decision::decided`), but for slack where no linear entry is left: there it
-/// has nothing to take, and is answered or not.
+/// It refuses where no part of the holding types the object, with the path and the cause of a part that the rules
+/// refuse. There is one such path with one such cause, and one such rest (`clf_decision::decided`), but for slack where
+/// no linear entry is left: there it has nothing to take, and is answered or not.
 #[tactic(auto, using(crate::proofs::Stops::answer_laws, crate::proofs::Exactness::exact_laws))]
 pub fn check_object(
     alloc: Global,
@@ -35,8 +35,10 @@ pub fn check_object(
     ty: &Ty,
 ) -> Result<Left, OrWide<Refusal>>
     requires starts { Starts (plain_signature sig.now) (context ctx.now) (marks holding.now) }
-    requires formed { SimplyFormed (families_of (plain_signature sig.now)) (simple_of (plain_signature sig.now) (context ctx.now)) (plain_ty ty.now) }
-    ensures exact { ChecksObject (plain_signature sig.now) (context ctx.now) (marks holding.now) (plain_obj obj.now) (plain_ty ty.now) result }
+    requires formed { SimplyFormed (families_of (plain_signature sig.now))
+        (simple_of (plain_signature sig.now) (context ctx.now)) (plain_ty ty.now) }
+    ensures exact { ChecksObject (plain_signature sig.now) (context ctx.now) (marks holding.now) (plain_obj obj.now)
+        (plain_ty ty.now) result }
 {
     match check_in_copy(alloc, sig, ctx, holding, obj, ty) {
         Ok(left) => Ok(left),
@@ -46,8 +48,9 @@ pub fn check_object(
 
 /// The type of a neutral, and what it leaves of a holding.
 ///
-/// It refuses where no part of the holding types the neutral, with the path and the cause of a part that the rules refuse.
-/// There is one such path with one such cause, and one such type and rest (`clf_decision::decided`), but for slack as at `check_object`.
+/// It refuses where no part of the holding types the neutral, with the path and the cause of a part that the rules
+/// refuse. There is one such path with one such cause, and one such type and rest (`clf_decision::decided`), but for
+/// slack as at `check_object`.
 #[tactic(auto, using(crate::proofs::Stops::answer_laws, crate::proofs::Exactness::exact_laws))]
 pub fn infer(
     alloc: Global,
@@ -57,7 +60,8 @@ pub fn infer(
     neutral: &Neutral,
 ) -> Result<Inferred, OrWide<Refusal>>
     requires starts { Starts (plain_signature sig.now) (context ctx.now) (marks holding.now) }
-    ensures exact { InfersNeutral (plain_signature sig.now) (context ctx.now) (marks holding.now) (plain_neutral neutral.now) result }
+    ensures exact { InfersNeutral (plain_signature sig.now) (context ctx.now) (marks holding.now)
+        (plain_neutral neutral.now) result }
 {
     match infer_in_copy(alloc, sig, ctx, holding, neutral) {
         Ok(found) => Ok(found),
@@ -76,8 +80,10 @@ pub fn check_run(
     tele: &Tele,
 ) -> Result<Left, OrWide<Refusal>>
     requires starts { Starts (plain_signature sig.now) (context ctx.now) (marks holding.now) }
-    requires formed { SimplyFormedTelescope (families_of (plain_signature sig.now)) (simple_of (plain_signature sig.now) (context ctx.now)) (plain_tele tele.now) }
-    ensures exact { ChecksExpression (plain_signature sig.now) (context ctx.now) (marks holding.now) (plain_expr expr.now) (plain_tele tele.now) result }
+    requires formed { SimplyFormedTelescope (families_of (plain_signature sig.now))
+        (simple_of (plain_signature sig.now) (context ctx.now)) (plain_tele tele.now) }
+    ensures exact { ChecksExpression (plain_signature sig.now) (context ctx.now) (marks holding.now)
+        (plain_expr expr.now) (plain_tele tele.now) result }
 {
     match run_in_copy(alloc, sig, ctx, holding, expr, tele) {
         Ok(left) => Ok(left),
@@ -96,7 +102,8 @@ fn run_in_copy(
     tele: &Tele,
 ) -> Result<Left, Stop>
     requires { length (marks holding.now) ≡ length (context ctx.now) }
-    ensures { Gives plain_left (checked_expression hereditary (plain_signature sig.now) (context ctx.now) (marks holding.now) 0 (plain_expr expr.now) (plain_tele tele.now)) result }
+    ensures { Gives plain_left (checked_expression hereditary (plain_signature sig.now) (context ctx.now)
+        (marks holding.now) 0 (plain_expr expr.now) (plain_tele tele.now)) result }
 {
     let mut judge = Judge::over(alloc, sig, ctx)?;
     let row = holding.copy(alloc)?;
@@ -114,7 +121,8 @@ fn check_in_copy(
     ty: &Ty,
 ) -> Result<Left, Stop>
     requires { length (marks holding.now) ≡ length (context ctx.now) }
-    ensures { Gives plain_left (checked hereditary (plain_signature sig.now) (context ctx.now) (marks holding.now) (plain_obj obj.now) (plain_ty ty.now)) result }
+    ensures { Gives plain_left (checked hereditary (plain_signature sig.now) (context ctx.now) (marks holding.now)
+        (plain_obj obj.now) (plain_ty ty.now)) result }
 {
     let mut judge = Judge::over(alloc, sig, ctx)?;
     let row = holding.copy(alloc)?;
@@ -131,7 +139,8 @@ fn infer_in_copy(
     neutral: &Neutral,
 ) -> Result<Inferred, Stop>
     requires { length (marks holding.now) ≡ length (context ctx.now) }
-    ensures { Gives plain_inferred (inferred hereditary (plain_signature sig.now) (context ctx.now) (marks holding.now) (plain_neutral neutral.now)) result }
+    ensures { Gives plain_inferred (inferred hereditary (plain_signature sig.now) (context ctx.now) (marks holding.now)
+        (plain_neutral neutral.now)) result }
 {
     let mut judge = Judge::over(alloc, sig, ctx)?;
     let row = holding.copy(alloc)?;

@@ -37,7 +37,8 @@ impl Judge<'_> {
     #[tactic(auto, using(clf_syntax::specs::PlainTypes::plain_type_laws, crate::proofs::Stops::stop_laws))]
     pub fn check_atomic(&self, ty: &Ty, found: Inferred) -> Result<Left, Stop>
         requires numbered { length (context_of self.now) < 2 ^ 32 }
-        ensures outcome { Gives plain_left (atomic_left (context_of self.now) (plain_ty ty.now) (plain_inferred found)) result }
+        ensures outcome { Gives plain_left (atomic_left (context_of self.now) (plain_ty ty.now) (plain_inferred found))
+            result }
         ensures row { IfOk result (λ left. left.row ≡ found.left.row) }
     {
         match ty {
@@ -53,7 +54,8 @@ impl Judge<'_> {
     #[tactic(auto, using(clf_syntax::specs::PlainTypes::plain_type_laws, crate::proofs::Stops::stop_laws))]
     fn check_family(&self, wanted: u32, indices: &[Obj], found: Inferred) -> Result<Left, Stop>
         requires numbered { length (context_of self.now) < 2 ^ 32 }
-        ensures outcome { Gives plain_left (found_left (context_of self.now) wanted (map plain_obj indices.now) (plain_ty found.ty) (plain_left found.left)) result }
+        ensures outcome { Gives plain_left (found_left (context_of self.now) wanted (map plain_obj indices.now)
+            (plain_ty found.ty) (plain_left found.left)) result }
         ensures row { IfOk result (λ left. left.row ≡ found.left.row) }
     {
         let Inferred { ty, left } = found;
@@ -79,7 +81,8 @@ impl Judge<'_> {
     #[tactic(auto, using(crate::proofs::Stops::stop_laws, crate::proofs::Differences::none_differs))]
     fn check_indices(&self, found: &[Obj], wanted: &[Obj], left: Left) -> Result<Left, Stop>
         requires numbered { length (context_of self.now) < 2 ^ 32 }
-        ensures outcome { Gives plain_left (indices_left (context_of self.now) (first_unjoined (map plain_obj found.now) (map plain_obj wanted.now)) (plain_left left)) result }
+        ensures outcome { Gives plain_left (indices_left (context_of self.now)
+            (first_unjoined (map plain_obj found.now) (map plain_obj wanted.now)) (plain_left left)) result }
         ensures row { IfOk result (λ outer. outer.row ≡ left.row) }
     {
         match first_difference(self.alloc, found, wanted)? {
@@ -88,7 +91,8 @@ impl Judge<'_> {
         }
     }
 
-    /// A refusal at two indices that are not joined, unless the lists differ by their lengths, which formation has excluded.
+    /// A refusal at two indices that are not joined, unless the lists differ by their lengths, which formation has
+    /// excluded.
     #[tactic(auto, using(crate::proofs::Stops::stop_laws, crate::proofs::Differences::one_ends))]
     fn differ_at(
         &self,
@@ -99,7 +103,8 @@ impl Judge<'_> {
     ) -> Result<Left, Stop>
         requires numbered { length (context_of self.now) < 2 ^ 32 }
         requires there { DiffersAt place (map plain_obj found.now) (map plain_obj wanted.now) }
-        ensures outcome { Gives plain_left (indices_left (context_of self.now) (first_unjoined (map plain_obj found.now) (map plain_obj wanted.now)) (plain_left left)) result }
+        ensures outcome { Gives plain_left (indices_left (context_of self.now)
+            (first_unjoined (map plain_obj found.now) (map plain_obj wanted.now)) (plain_left left)) result }
         ensures row { IfOk result (λ outer. outer.row ≡ left.row) }
     {
         if place >= found.len() || place >= wanted.len() {
@@ -111,7 +116,8 @@ impl Judge<'_> {
     /// A refusal at two indices that are not joined.
     fn refuse_indices(&self, found: &Obj, wanted: &Obj) -> Stop
         requires numbered { length (context_of self.now) < 2 ^ 32 }
-        ensures { Ends [] (index_differs (length (context_of self.now)) (plain_obj found.now) (plain_obj wanted.now)) result }
+        ensures { Ends [] (index_differs (length (context_of self.now)) (plain_obj found.now) (plain_obj wanted.now))
+            result }
     {
         let scope = self.ctx.len() as u32;
         match (found.copy(self.alloc), wanted.copy(self.alloc)) {
@@ -133,7 +139,8 @@ impl Judge<'_> {
         requires first_marked { length (marks first.row) ≡ length (context_of self.now) }
         requires second_marked { length (marks second.row) ≡ length (context_of self.now) }
         requires numbered { length (context_of self.now) < 2 ^ 32 }
-        ensures outcome { Gives plain_left (joined_left (context_of self.now) (plain_left first) (plain_left second) (newest_difference (modes (context_of self.now)) (marks first.row) first.slack (marks second.row) second.slack)) result }
+        ensures outcome { Gives plain_left (joined_left (context_of self.now) (plain_left first) (plain_left second) (newest_difference (modes (context_of self.now)) (marks first.row) first.slack (marks second.row)
+            second.slack)) result }
         ensures marked { IfOk result (λ left. length (marks left.row) ≡ length (context_of self.now)) }
     {
         match join_add(&self.ctx, first, second) {

@@ -1,5 +1,5 @@
-//! What follows a variable, once an object is put for it. Where the object has not the variable's type, it stays as it is: then nothing
-//! is derived of it either way.
+//! What follows a variable, once an object is put for it. Where the object has not the variable's type, it stays as it
+//! is: then nothing is derived of it either way.
 ghost use Rattle.std.specs.Prelude.{◌≡◌, IfOk, IfErr, map};
 ghost use Rattle.clf_syntax.specs.Plain.{plain_obj};
 ghost use Rattle.clf_syntax.specs.PlainTypes.{plain_ty, plain_tele_entry};
@@ -16,7 +16,8 @@ use std::alloc::Global;
 /// A function's range with an argument put for its variable, which has the domain's type.
 #[tactic(auto, using(clf_decision::proofs::Hereditary::hereditary_laws))]
 pub fn put_in_range(alloc: Global, obj: &Obj, dom: &Ty, cod: &Ty) -> Result<Ty, Stop>
-    ensures put { IfOk result (λ t. plain_ty t ≡ hereditary.into_type (plain_obj obj.now) (plain_ty dom.now) (plain_ty cod.now)) }
+    ensures put { IfOk result
+        (λ t. plain_ty t ≡ hereditary.into_type (plain_obj obj.now) (plain_ty dom.now) (plain_ty cod.now)) }
     ensures short { IfErr result IsShort }
 {
     let simple = erase(alloc, dom)?;
@@ -36,7 +37,10 @@ pub fn put_in_entries(
     ty: &Ty,
     later: &[TeleEntry],
 ) -> Result<Items<TeleEntry>, Stop>
-    ensures put { IfOk result (λ es. telescope_of (map plain_tele_entry es) ≡ hereditary.into_telescope (plain_obj obj.now) (plain_ty ty.now) (telescope_of (map plain_tele_entry later.now))) }
+    ensures put { IfOk result (λ es.
+        telescope_of (map plain_tele_entry es)
+        ≡ hereditary.into_telescope (plain_obj obj.now) (plain_ty ty.now)
+        (telescope_of (map plain_tele_entry later.now))) }
     ensures short { IfErr result IsShort }
 {
     let simple = erase(alloc, ty)?;
@@ -51,7 +55,8 @@ pub fn put_in_entries(
 /// The later arguments of a kind with an object put for the first one's variable.
 #[tactic(auto, using(clf_decision::proofs::Hereditary::hereditary_laws))]
 pub fn put_in_arguments(alloc: Global, obj: &Obj, ty: &Ty, later: &[Ty]) -> Result<Items<Ty>, Stop>
-    ensures put { IfOk result (λ k. map plain_ty k ≡ hereditary.into_kind (plain_obj obj.now) (plain_ty ty.now) (map plain_ty later.now)) }
+    ensures put { IfOk result (λ k.
+        map plain_ty k ≡ hereditary.into_kind (plain_obj obj.now) (plain_ty ty.now) (map plain_ty later.now)) }
     ensures short { IfErr result IsShort }
 {
     let simple = erase(alloc, ty)?;

@@ -17,7 +17,8 @@ impl Judge<'_> {
     #[tactic(auto, using(crate::proofs::RowSteps::length_laws))]
     pub fn allowed_of(&self, mode: Mode, row: &Holding) -> Result<Holding, AllocError>
         requires { length (marks row.now) ≡ length (context_of self.now) }
-        ensures marks { IfOk result (λ start. marks start ≡ allowed mode (modes (context_of self.now)) (marks row.now)) }
+        ensures marks { IfOk result
+            (λ start. marks start ≡ allowed mode (modes (context_of self.now)) (marks row.now)) }
         ensures marked { IfOk result (λ start. length (marks start) ≡ length (context_of self.now)) }
     {
         match mode {
@@ -37,7 +38,8 @@ impl Judge<'_> {
     ) -> Result<Holding, AllocError>
         requires row_length { length (marks row) ≡ length (context_of self.now) }
         requires left_length { length (marks left) ≡ length (context_of self.now) }
-        ensures marks { IfOk result (λ rest. marks rest ≡ outside mode (modes (context_of self.now)) (marks row) (marks left)) }
+        ensures marks { IfOk result
+            (λ rest. marks rest ≡ outside mode (modes (context_of self.now)) (marks row) (marks left)) }
         ensures marked { IfOk result (λ rest. length (marks rest) ≡ length (context_of self.now)) }
     {
         match mode {
@@ -66,7 +68,8 @@ impl Judge<'_> {
     #[tactic(auto, using(crate::proofs::RowSteps::length_laws))]
     fn without_linear(&self, row: &Holding) -> Result<Holding, AllocError>
         requires { length (marks row.now) ≡ length (context_of self.now) }
-        ensures marks { IfOk result (λ left. marks left ≡ without_linear_marks (modes (context_of self.now)) (marks row.now)) }
+        ensures marks { IfOk result
+            (λ left. marks left ≡ without_linear_marks (modes (context_of self.now)) (marks row.now)) }
         ensures marked { IfOk result (λ left. length (marks left) ≡ length (context_of self.now)) }
     {
         let mut held = Items::new(self.alloc);
@@ -83,7 +86,8 @@ impl Judge<'_> {
     fn linear_of(&self, first: &Holding, second: &Holding) -> Result<Holding, AllocError>
         requires first_length { length (marks first.now) ≡ length (context_of self.now) }
         requires second_length { length (marks second.now) ≡ length (context_of self.now) }
-        ensures marks { IfOk result (λ left. marks left ≡ linear_marks (modes (context_of self.now)) (marks first.now) (marks second.now)) }
+        ensures marks { IfOk result
+            (λ left. marks left ≡ linear_marks (modes (context_of self.now)) (marks first.now) (marks second.now)) }
         ensures marked { IfOk result (λ left. length (marks left) ≡ length (context_of self.now)) }
     {
         let mut held = Items::new(self.alloc);

@@ -86,7 +86,7 @@ impl Judge<'_> {
     }
 }
 
-/// The end of the scope of the newest variable, behind so many older ones.
+/// The end of the scope of the newest variable, after so many older ones.
 #[tactic(auto, using(crate::proofs::Stops::stop_laws, crate::proofs::RowSteps::length_laws))]
 fn close_mode(alloc: Global, mode: Mode, older: usize, left: Left) -> Result<Left, Stop>
     requires marked { length (marks left.row) ≡ suc older }
@@ -103,7 +103,7 @@ fn close_mode(alloc: Global, mode: Mode, older: usize, left: Left) -> Result<Lef
     Ok(Left { row, slack })
 }
 
-/// The ends of the scopes of variables of these modes, behind so many older ones; that of the newest first.
+/// The ends of the scopes of variables of these modes, after so many older ones; that of the newest first.
 #[tactic(auto, using(crate::proofs::Stops::stop_laws))]
 pub fn close_modes(alloc: Global, modes: &[Mode], older: usize, left: Left) -> Result<Left, Stop>
     requires marked { length (marks left.row) ≡ older + length modes.now }

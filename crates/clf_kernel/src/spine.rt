@@ -25,7 +25,8 @@ impl Judge<'_> {
     pub fn infer_neutral(&mut self, neutral: &Neutral, row: Holding) -> Result<Inferred, Stop>
         requires marked { length (marks row) ≡ length (context_of self.old) }
         requires numbered { length (context_of self.old) < 2 ^ 32 }
-        ensures outcome { Gives plain_inferred (inferred hereditary (signature_of self.old) (context_of self.old) (marks row) (plain_neutral neutral.now)) result }
+        ensures outcome { Gives plain_inferred (inferred hereditary (signature_of self.old) (context_of self.old)
+            (marks row) (plain_neutral neutral.now)) result }
         ensures marked { IfOk result (λ found. length (marks found.left.row) ≡ length (context_of self.old)) }
         ensures kept { OnOk result (self.new ≡ self.old) }
     {
@@ -39,7 +40,8 @@ impl Judge<'_> {
     fn infer_spine(&mut self, spine: &[Elim], found: Inferred) -> Result<Inferred, Stop>
         requires marked { length (marks found.left.row) ≡ length (context_of self.old) }
         requires numbered { length (context_of self.old) < 2 ^ 32 }
-        ensures outcome { Gives plain_inferred (spine_left hereditary (signature_of self.old) (context_of self.old) 0 (map plain_elim spine.now) (plain_inferred found)) result }
+        ensures outcome { Gives plain_inferred (spine_left hereditary (signature_of self.old) (context_of self.old) 0
+            (map plain_elim spine.now) (plain_inferred found)) result }
         ensures marked { IfOk result (λ found. length (marks found.left.row) ≡ length (context_of self.old)) }
         ensures kept { OnOk result (self.new ≡ self.old) }
     {
@@ -58,7 +60,8 @@ impl Judge<'_> {
     fn eliminate(&mut self, act: &Elim, place: usize, found: Inferred) -> Result<Inferred, Stop>
         requires marked { length (marks found.left.row) ≡ length (context_of self.old) }
         requires numbered { length (context_of self.old) < 2 ^ 32 }
-        ensures outcome { Gives plain_inferred (elimination_left hereditary (signature_of self.old) (context_of self.old) place (plain_elim act.now) (plain_inferred found)) result }
+        ensures outcome { Gives plain_inferred (elimination_left hereditary (signature_of self.old)
+            (context_of self.old) place (plain_elim act.now) (plain_inferred found)) result }
         ensures marked { IfOk result (λ found. length (marks found.left.row) ≡ length (context_of self.old)) }
         ensures kept { OnOk result (self.new ≡ self.old) }
     {
@@ -81,7 +84,10 @@ impl Judge<'_> {
     ) -> Result<Inferred, Stop>
         requires marked { length (marks found.left.row) ≡ length (context_of self.old) }
         requires numbered { length (context_of self.old) < 2 ^ 32 }
-        ensures outcome { Gives plain_inferred (argument_left hereditary mode (context_of self.old) (plain_obj obj.now) place (plain_inferred found) (λ row a. checked hereditary (signature_of self.old) (context_of self.old) row (plain_obj obj.now) a)) result }
+        ensures outcome { Gives plain_inferred (argument_left hereditary mode (context_of self.old) (plain_obj obj.now)
+            place (plain_inferred found) (λ row a.
+            checked hereditary (signature_of self.old) (context_of self.old) row (plain_obj obj.now) a))
+            result }
         ensures marked { IfOk result (λ found. length (marks found.left.row) ≡ length (context_of self.old)) }
         ensures kept { OnOk result (self.new ≡ self.old) }
     {
@@ -127,7 +133,9 @@ impl Judge<'_> {
     ) -> Result<Left, Stop>
         requires marked { length (marks left.row) ≡ length (context_of self.old) }
         requires numbered { length (context_of self.old) < 2 ^ 32 }
-        ensures outcome { Gives plain_left (argument_used mode (context_of self.old) place (plain_left left) (λ row. checked hereditary (signature_of self.old) (context_of self.old) row (plain_obj obj.now) (plain_ty ty.now))) result }
+        ensures outcome { Gives plain_left (argument_used mode (context_of self.old) place (plain_left left) (λ row.
+            checked hereditary (signature_of self.old) (context_of self.old) row (plain_obj obj.now)
+            (plain_ty ty.now))) result }
         ensures marked { IfOk result (λ left. length (marks left.row) ≡ length (context_of self.old)) }
         ensures kept { OnOk result (self.new ≡ self.old) }
     {

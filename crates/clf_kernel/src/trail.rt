@@ -51,7 +51,8 @@ impl Judge<'_> {
     ) -> Result<Entered, Stop>
         requires marked { length (marks found.left.row) ≡ length (context_of self.old) }
         requires numbered { length (context_of self.old) < 2 ^ 32 }
-        ensures outcome { EntersStep place modes.now (context_of self.old) (plain_inferred found) (context_of self.new) result }
+        ensures outcome { EntersStep place modes.now (context_of self.old) (plain_inferred found) (context_of self.new)
+            result }
         ensures grown { OnOk result (IsGrown self.old self.new) }
         ensures marked { IfOk result (λ entered. length (marks entered.row) ≡ length (context_of self.new)) }
         ensures numbered { OnOk result (length (context_of self.new) < 2 ^ 32) }
@@ -80,7 +81,8 @@ impl Judge<'_> {
     #[tactic(auto, using(crate::proofs::Stops::stop_laws))]
     fn hold_entries(&self, entries: usize, row: Holding) -> Result<Holding, Stop>
         requires marked { length (marks row) ≡ length (context_of self.now) }
-        ensures row { IfOk result (λ inner. (ms : List Mode) → length ms ≡ entries → marks inner ≡ all_held ms (marks row)) }
+        ensures row { IfOk result
+            (λ inner. (ms : List Mode) → length ms ≡ entries → marks inner ≡ all_held ms (marks row)) }
         ensures marked { IfOk result (λ inner. length (marks inner) ≡ entries + length (context_of self.now)) }
         ensures numbered { OnOk result (entries + length (context_of self.now) < 2 ^ 32) }
         ensures short { IfErr result IsShort }
@@ -141,8 +143,11 @@ pub fn close_steps(alloc: Global, opened: &[Opened], older: usize, left: Left) -
 fn close_step(alloc: Global, place: usize, opened: &Opened, left: Left) -> Result<Left, Stop>
     requires width { length (opened.now).modes ≤ length (marks left.row) }
     requires numbered { length (marks left.row) < 2 ^ 32 }
-    ensures outcome { (n : ℕ) → n + length (opened.now).modes ≡ length (marks left.row) → Gives plain_left (and_then (at_part place (closed_modes (opened.now).modes n (plain_left left))) (with_slack (opened.now).slack)) result }
-    ensures marked { IfOk result (λ outer. length (marks outer.row) + length (opened.now).modes ≡ length (marks left.row)) }
+    ensures outcome { (n : ℕ) → n + length (opened.now).modes ≡ length (marks left.row) →
+        Gives plain_left (and_then (at_part place (closed_modes (opened.now).modes n (plain_left left)))
+        (with_slack (opened.now).slack)) result }
+    ensures marked { IfOk result
+        (λ outer. length (marks outer.row) + length (opened.now).modes ≡ length (marks left.row)) }
 {
     let older = left.row.held.len() - opened.modes.len();
     match close_modes(alloc, opened.modes.as_slice(), older, left) {

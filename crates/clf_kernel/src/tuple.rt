@@ -29,7 +29,7 @@ pub struct Rest {
 }
 
 impl Judge<'_> {
-    /// What the entries of a tuple leave of a row, behind so many steps.
+    /// What the entries of a tuple leave of a row, after so many steps.
     #[cycle(check)]
     #[tactic(auto, using(crate::proofs::Stops::stop_laws))]
     pub fn check_tuple(
@@ -42,7 +42,9 @@ impl Judge<'_> {
         requires room { steps + length entries.now < 2 ^ 64 }
         requires marked { length (marks row) ≡ length (context_of self.old) }
         requires numbered { length (context_of self.old) < 2 ^ 32 }
-        ensures outcome { Gives plain_left (checked_tuple hereditary (signature_of self.old) (context_of self.old) (marks row) steps 0 (tuple_of (map plain_entry entries.now)) (telescope_of (map plain_tele_entry types))) result }
+        ensures outcome { Gives plain_left (checked_tuple hereditary (signature_of self.old) (context_of self.old)
+            (marks row) steps 0 (tuple_of (map plain_entry entries.now))
+            (telescope_of (map plain_tele_entry types))) result }
         ensures marked { IfOk result (λ left. length (marks left.row) ≡ length (context_of self.old)) }
         ensures kept { OnOk result (self.new ≡ self.old) }
     {
@@ -76,7 +78,8 @@ impl Judge<'_> {
         requires there { 0 < length rest.types }
         requires marked { length (marks rest.left.row) ≡ length (context_of self.old) }
         requires numbered { length (context_of self.old) < 2 ^ 32 }
-        ensures outcome { Gives plain_rest (entry_behind hereditary (signature_of self.old) (context_of self.old) place (plain_entry entry.now) (plain_rest rest)) result }
+        ensures outcome { Gives plain_rest (entry_behind hereditary (signature_of self.old) (context_of self.old) place
+            (plain_entry entry.now) (plain_rest rest)) result }
         ensures marked { IfOk result (λ rest. length (marks rest.left.row) ≡ length (context_of self.old)) }
         ensures kept { OnOk result (self.new ≡ self.old) }
     {

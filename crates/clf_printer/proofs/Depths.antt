@@ -95,7 +95,7 @@ in-arrow Persistent = omega arith
 in-arrow Affine = omega arith
 in-arrow Linear = omega arith
 
--- an argument in front of the rest has its arrow, or the dot behind its name
+-- an argument in front of the rest has its arrow, or the dot after its name
 in-domain : (m : Mode) (named : Bool) (level : ℕ) (alone left : List ℕ) (d : ℕ) → d ≤ length alone → d ≤ length left → d + 1 ≤ length (domain_text m named level alone left)
 in-domain m true level alone left d h k =
     omega (arith, h, length-append (codes "Pi ") (named_text level alone), length-four (new_variable_text level) (codes ": ") alone (codes ". "))

@@ -42,7 +42,7 @@ positive : (n : ℕ) → nat_lt 0 (suc n) ≡ true
 positive n = grind arith
 
 module _ (sig : PlainSignature) (metas : List ℕ) where
-  -- a step, and the binders behind it
+  -- a step, and the binders after it
   pub step-appended : (level n i : ℕ) (s : Step) (xs : List Step) (r : PlainExpression) (o p : List ℕ) → i < length xs → s ≡ get_or xs i s → n ≡ level + length s.modes
       → p ≡ o ++ step_text level (plain_step s).0 (neutral_text sig metas level (plain_step s).1)
       → p ++ expression_text sig metas n (steps_on (map plain_step (drop (i + 1) xs)) r) ≡ o ++ expression_text sig metas level (steps_on (map plain_step (drop i xs)) r)
@@ -73,7 +73,7 @@ module _ (sig : PlainSignature) (metas : List ℕ) where
   comma-entries [] = refl
   comma-entries (t ∷ ts) = ap (λ b. when b (codes ", ")) (positive (length ts))
 
-  -- an entry of a tuple, and the comma behind it
+  -- an entry of a tuple, and the comma after it
   pub entry-appended : (level i left : ℕ) (t : TupleEntry) (xs : List TupleEntry) (o p q : List ℕ) → i < length xs → t ≡ get_or xs i t → left ≡ length xs - (i + 1)
       → p ≡ o ++ tuple_entry_text (plain_entry t).0 (is_atom (plain_entry t).1) (object_text sig metas level (plain_entry t).1)
       → q ≡ p ++ when (nat_lt 0 left) (codes ", ")

@@ -57,7 +57,7 @@ module _ (sig : PlainSignature) (metas : List ℕ) (level : ℕ) where
       ∙ sym (append_assoc sign before (f ++ (h ++ (b ++ behind))))
       ∙ sym (append_assoc (sign ++ before) f (h ++ (b ++ behind)))
 
-  -- A neutral is what stands in front of its head, the head, and what stands behind it.
+  -- A neutral is what stands in front of its head, the head, and what stands after it.
   pub neutral_text-along : (r : PlainNeutral) → neutral_text sig metas level r ≡ front_text r ++ (head_text sig metas level (head_of r) ++ back_text sig metas level r)
   neutral_text-along (head_alone h) = sym (append-nil (head_text sig metas level h))
   neutral_text-along (app m r n) =
@@ -88,7 +88,7 @@ module _ (sig : PlainSignature) (metas : List ℕ) (level : ℕ) where
       ∙ ap (λ k. o ++ (f ++ (head_text sig metas level k ++ b))) (sym (head_of-spine (map plain_elim spine) (head_alone n.head)))
       ∙ ap (λ l. o ++ l) (sym (neutral_text-along s) ∙ ap (λ x. neutral_text sig metas level x) (sym plain))
 
-  -- an elimination behind a neutral
+  -- an elimination after a neutral
   pub elimination-appended : (spine : List Elim) (i : ℕ) (act : Elim) (applied : Bool) (o p q : List ℕ) (h : Head) → i < length spine → act ≡ get_or spine i act
       → applied ≡ is_application (spine_on (map plain_elim (take i spine)) (head_alone h))
       → p ≡ o ++ back_text sig metas level (spine_on (map plain_elim (take i spine)) (head_alone h))

@@ -14,7 +14,7 @@ pub is_end-entries : (es : List TeleEntry) → is_end (telescope_of (map plain_t
 is_end-entries [] = refl
 is_end-entries (e ∷ es) = not_zero (length es)
 
--- a text behind another, in parentheses where they are wanted
+-- a text after another, in parentheses where they are wanted
 pub in_parentheses : (o text : List ℕ) (wanted asked : Bool) {p q r : List ℕ} → asked ≡ wanted → p ≡ o ++ when asked (codes "(") → q ≡ p ++ text → r ≡ q ++ when asked (codes ")") → r ≡ o ++ grouped wanted text
 in_parentheses o text wanted asked {p} {q} same opened written closed =
     joined o (when wanted (codes "(") ++ text) (when wanted (codes ")"))

@@ -1,4 +1,4 @@
--- Inner: a neutral's text as it is written along its spine: what stands in front of the head, the head, and what stands behind it.
+-- Inner: a neutral's text as it is written along its spine: what stands in front of the head, the head, and what stands after it.
 use Rattle.std.specs.Prelude.{ℕ, Bool, true, false, List, [], ◌++◌, codes}
 use Rattle.clf_syntax.specs.Tree.{PlainNeutral, head_alone, app, fst, snd, PlainElimination, arg, first, second}
 use Rattle.clf_sig.specs.Entry.{PlainSignature}
@@ -23,7 +23,7 @@ is_argument first = false
 is_argument second = false
 
 module _ (sig : PlainSignature) (metas : List ℕ) (level : ℕ) where
-  -- what an elimination adds behind a neutral, which is an application or is not
+  -- what an elimination adds after a neutral, which is an application or is not
   abbrev pub elimination_text : Bool → PlainElimination → List ℕ
   elimination_text applied (arg m n) = argument_text m (is_atom n) (object_text sig metas level n)
   elimination_text applied first = when applied (codes ")")

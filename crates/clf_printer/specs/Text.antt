@@ -173,7 +173,7 @@ is_persistent Persistent = true
 is_persistent Affine = false
 is_persistent Linear = false
 
--- a new variable with its type, behind Pi or Exists
+-- a new variable with its type, after Pi or Exists
 abbrev pub named_text : ℕ → List ℕ → List ℕ
 named_text level ty = new_variable_text level ++ codes ": " ++ ty ++ codes ". "
 

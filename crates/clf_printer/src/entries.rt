@@ -28,7 +28,8 @@ fn push_class(
     metas: &[u32],
     class: &Class,
 ) -> Result<(), AllocError>
-    ensures { OnOk result (out.new.items ≡ out.old.items ++ spec.class_text (plain_signature sig.now) metas.now (plain_class class.now)) }
+    ensures { OnOk result (out.new.items
+        ≡ out.old.items ++ spec.class_text (plain_signature sig.now) metas.now (plain_class class.now)) }
 {
     match class {
         Class::Family(kind) => push_kind(out, sig, metas, kind.args.as_slice()),
@@ -44,7 +45,9 @@ pub fn push_declaration(
     name: &str,
     entry: &Entry,
 ) -> Result<(), AllocError>
-    ensures { OnOk result (out.new.items ≡ out.old.items ++ spec.declaration_text (plain_signature sig.now) metas.now name.now (plain_entry entry.now)) }
+    ensures { OnOk result (out.new.items
+        ≡ out.old.items
+        ++ spec.declaration_text (plain_signature sig.now) metas.now name.now (plain_entry entry.now)) }
 {
     out.extend_from_slice(name.as_bytes())?;
     out.extend_from_slice(b" : ")?;

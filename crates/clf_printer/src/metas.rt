@@ -101,7 +101,8 @@ fn note_expression(metas: &mut Vec<u32>, expr: &Expr) -> Result<(), AllocError>
 
 #[cycle(note_object)]
 fn note_tuple(metas: &mut Vec<u32>, tuple: &[TupleEntry]) -> Result<(), AllocError>
-    ensures { OnOk result (metas.new.items ≡ spec.appearing_tuple metas.old.items (tuple_of (map plain_entry tuple.now))) }
+    ensures { OnOk result
+        (metas.new.items ≡ spec.appearing_tuple metas.old.items (tuple_of (map plain_entry tuple.now))) }
 {
     for entry in tuple {
         note_object(metas, &entry.obj)?;
@@ -140,7 +141,8 @@ pub fn note_type(metas: &mut Vec<u32>, ty: &Ty) -> Result<(), AllocError>
 
 #[cycle(note_type)]
 fn note_telescope(metas: &mut Vec<u32>, entries: &[TeleEntry]) -> Result<(), AllocError>
-    ensures { OnOk result (metas.new.items ≡ spec.appearing_telescope metas.old.items (telescope_of (map plain_tele_entry entries.now))) }
+    ensures { OnOk result (metas.new.items
+        ≡ spec.appearing_telescope metas.old.items (telescope_of (map plain_tele_entry entries.now))) }
 {
     for entry in entries {
         note_type(metas, &entry.ty)?;

@@ -26,7 +26,8 @@ fn is_argument(act: &Elim) -> bool
 /// Whether a head under the first eliminations of a spine is an application.
 fn is_applied(spine: &[Elim], end: usize) -> bool
     requires { end ≤ length spine.now }
-    ensures { (h : Head) → result ≡ spec.is_application (spine_on (map plain_elim (take end spine.now)) (head_alone h)) }
+    ensures { (h : Head) →
+        result ≡ spec.is_application (spine_on (map plain_elim (take end spine.now)) (head_alone h)) }
 {
     end > 0 && is_argument(&spine[end - 1])
 }
@@ -48,7 +49,9 @@ fn is_atom(obj: &Obj) -> bool
 
 /// Writes what stands in front of a head: the projections, the last one first.
 fn push_front(out: &mut Vec<u8>, spine: &[Elim]) -> Result<(), AllocError>
-    ensures { OnOk result ((h : Head) → out.new.items ≡ out.old.items ++ along.front_text (spine_on (map plain_elim spine.now) (head_alone h))) }
+    ensures { OnOk result ((h : Head) →
+        out.new.items
+        ≡ out.old.items ++ along.front_text (spine_on (map plain_elim spine.now) (head_alone h))) }
 {
     let mut end = spine.len();
     while end > 0 {
@@ -85,7 +88,8 @@ pub fn push_object(
     level: u64,
     obj: &Obj,
 ) -> Result<(), AllocError>
-    ensures { OnOk result (out.new.items ≡ out.old.items ++ spec.object_text (plain_signature sig.now) metas.now level (plain_obj obj.now)) }
+    ensures { OnOk result (out.new.items
+        ≡ out.old.items ++ spec.object_text (plain_signature sig.now) metas.now level (plain_obj obj.now)) }
 {
     match obj {
         Obj::Lam { mode, body } => push_lambda(out, sig, metas, level, *mode, body.get()),
@@ -117,7 +121,9 @@ fn push_lambda(
     mode: Mode,
     body: &Obj,
 ) -> Result<(), AllocError>
-    ensures { OnOk result (out.new.items ≡ out.old.items ++ spec.object_text (plain_signature sig.now) metas.now level (lam mode (plain_obj body.now))) }
+    ensures { OnOk result (out.new.items
+        ≡ out.old.items
+        ++ spec.object_text (plain_signature sig.now) metas.now level (lam mode (plain_obj body.now))) }
 {
     out.push(b'\\')?;
     push_binder(out, level, mode)?;
@@ -134,7 +140,10 @@ pub fn push_atom(
     level: u64,
     obj: &Obj,
 ) -> Result<(), AllocError>
-    ensures { OnOk result (out.new.items ≡ out.old.items ++ spec.grouped (not (spec.is_atom (plain_obj obj.now))) (spec.object_text (plain_signature sig.now) metas.now level (plain_obj obj.now))) }
+    ensures { OnOk result (out.new.items
+        ≡ out.old.items
+        ++ spec.grouped (not (spec.is_atom (plain_obj obj.now)))
+        (spec.object_text (plain_signature sig.now) metas.now level (plain_obj obj.now))) }
 {
     let grouped = !is_atom(obj);
     push_if(out, grouped, b"(")?;
@@ -150,7 +159,9 @@ fn push_neutral(
     level: u64,
     neutral: &Neutral,
 ) -> Result<(), AllocError>
-    ensures { OnOk result (out.new.items ≡ out.old.items ++ spec.neutral_text (plain_signature sig.now) metas.now level (plain_neutral neutral.now)) }
+    ensures { OnOk result (out.new.items
+        ≡ out.old.items
+        ++ spec.neutral_text (plain_signature sig.now) metas.now level (plain_neutral neutral.now)) }
 {
     let spine = neutral.spine.as_slice();
     push_front(out, spine)?;
@@ -158,7 +169,7 @@ fn push_neutral(
     push_back(out, sig, metas, level, spine)
 }
 
-/// Writes what stands behind a head.
+/// Writes what stands after a head.
 #[cycle(push_object)]
 fn push_back(
     out: &mut Vec<u8>,
@@ -167,7 +178,11 @@ fn push_back(
     level: u64,
     spine: &[Elim],
 ) -> Result<(), AllocError>
-    ensures { OnOk result ((h : Head) → out.new.items ≡ out.old.items ++ along.back_text (plain_signature sig.now) metas.now level (spine_on (map plain_elim spine.now) (head_alone h))) }
+    ensures { OnOk result ((h : Head) →
+        out.new.items
+        ≡ out.old.items
+        ++ along.back_text (plain_signature sig.now) metas.now level
+        (spine_on (map plain_elim spine.now) (head_alone h))) }
 {
     let mut applied = false;
     for act in spine {
@@ -177,7 +192,7 @@ fn push_back(
     Ok(())
 }
 
-/// Writes what an elimination adds behind a neutral, which is an application or is not.
+/// Writes what an elimination adds after a neutral, which is an application or is not.
 #[cycle(push_object)]
 fn push_elimination(
     out: &mut Vec<u8>,
@@ -187,7 +202,9 @@ fn push_elimination(
     act: &Elim,
     applied: bool,
 ) -> Result<(), AllocError>
-    ensures { OnOk result (out.new.items ≡ out.old.items ++ along.elimination_text (plain_signature sig.now) metas.now level applied (plain_elim act.now)) }
+    ensures { OnOk result (out.new.items
+        ≡ out.old.items
+        ++ along.elimination_text (plain_signature sig.now) metas.now level applied (plain_elim act.now)) }
 {
     match act {
         Elim::Arg { mode, obj } => {
@@ -208,7 +225,9 @@ fn push_expression(
     level: u64,
     expr: &Expr,
 ) -> Result<(), AllocError>
-    ensures { OnOk result (out.new.items ≡ out.old.items ++ spec.expression_text (plain_signature sig.now) metas.now level (plain_expr expr.now)) }
+    ensures { OnOk result (out.new.items
+        ≡ out.old.items
+        ++ spec.expression_text (plain_signature sig.now) metas.now level (plain_expr expr.now)) }
 {
     let mut inner = level;
     for step in expr.steps.as_slice() {
@@ -227,7 +246,10 @@ fn push_step(
     level: u64,
     step: &Step,
 ) -> Result<(), AllocError>
-    ensures { OnOk result (out.new.items ≡ out.old.items ++ spec.step_text level (plain_step step.now).0 (spec.neutral_text (plain_signature sig.now) metas.now level (plain_step step.now).1)) }
+    ensures { OnOk result (out.new.items
+        ≡ out.old.items
+        ++ spec.step_text level (plain_step step.now).0
+        (spec.neutral_text (plain_signature sig.now) metas.now level (plain_step step.now).1)) }
 {
     out.extend_from_slice(b"let {")?;
     push_pattern(out, level, step.modes.as_slice())?;
@@ -244,7 +266,10 @@ fn push_tuple(
     level: u64,
     tuple: &[TupleEntry],
 ) -> Result<(), AllocError>
-    ensures { OnOk result (out.new.items ≡ out.old.items ++ spec.listed (length tuple.now) (spec.tuple_text (plain_signature sig.now) metas.now level (tuple_of (map plain_entry tuple.now)))) }
+    ensures { OnOk result (out.new.items
+        ≡ out.old.items
+        ++ spec.listed (length tuple.now) (spec.tuple_text (plain_signature sig.now) metas.now level
+        (tuple_of (map plain_entry tuple.now)))) }
 {
     push_if(out, tuple.is_empty(), b"1")?;
     push_if(out, tuple.len() > 1, b"[")?;
@@ -260,7 +285,10 @@ fn push_entries(
     level: u64,
     tuple: &[TupleEntry],
 ) -> Result<(), AllocError>
-    ensures { OnOk result (out.new.items ≡ out.old.items ++ spec.tuple_text (plain_signature sig.now) metas.now level (tuple_of (map plain_entry tuple.now))) }
+    ensures { OnOk result (out.new.items
+        ≡ out.old.items
+        ++ spec.tuple_text (plain_signature sig.now) metas.now level
+        (tuple_of (map plain_entry tuple.now))) }
 {
     let mut left = tuple.len();
     for entry in tuple {
@@ -279,7 +307,10 @@ fn push_entry(
     level: u64,
     entry: &TupleEntry,
 ) -> Result<(), AllocError>
-    ensures { OnOk result (out.new.items ≡ out.old.items ++ spec.tuple_entry_text (plain_entry entry.now).0 (spec.is_atom (plain_entry entry.now).1) (spec.object_text (plain_signature sig.now) metas.now level (plain_entry entry.now).1)) }
+    ensures { OnOk result (out.new.items
+        ≡ out.old.items
+        ++ spec.tuple_entry_text (plain_entry entry.now).0 (spec.is_atom (plain_entry entry.now).1)
+        (spec.object_text (plain_signature sig.now) metas.now level (plain_entry entry.now).1)) }
 {
     match entry.mode {
         Mode::Persistent => {

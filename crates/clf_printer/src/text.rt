@@ -21,8 +21,9 @@ use std::alloc::{AllocError, Global};
 
 /// The text of an object under `level` binders.
 ///
-/// `metas` lists the metavariables that have their numbers already, the first of them `?1`; the others are numbered behind
-/// them, by first appearance. It fails only where memory runs out, so an object that has a text nests fewer binders than
+/// `metas` lists the metavariables that have their numbers already, the first of them `?1`; the others are numbered
+/// after them, by first appearance. It fails only where memory runs out, so an object that has a text nests fewer
+/// binders than
 /// 2^64.
 pub fn object_text(
     alloc: Global,
@@ -31,7 +32,10 @@ pub fn object_text(
     metas: &[u32],
     obj: &Obj,
 ) -> Result<Vec<u8>, AllocError>
-    ensures text { IfOk result (λ text. text.items ≡ spec.object_text (plain_signature sig.now) (appearing metas.now (plain_obj obj.now)) level (plain_obj obj.now)) }
+    ensures text { IfOk result (λ text.
+        text.items
+        ≡ spec.object_text (plain_signature sig.now) (appearing metas.now (plain_obj obj.now)) level
+        (plain_obj obj.now)) }
     ensures depth { OnOk result (level + scope_depth (plain_obj obj.now) < 2 ^ 64) }
 {
     let mut numbered = Vec::from_slice(alloc, metas)?;
@@ -41,8 +45,8 @@ pub fn object_text(
     Ok(text)
 }
 
-/// The text of a type under `level` binders, where metavariables are numbered as in an object. It fails only where memory
-/// runs out, so a type that has a text nests fewer binders than 2^64; so it is with an entry.
+/// The text of a type under `level` binders, where metavariables are numbered as in an object. It fails only where
+/// memory runs out, so a type that has a text nests fewer binders than 2^64; so it is with an entry.
 pub fn type_text(
     alloc: Global,
     sig: &Signature,
@@ -50,7 +54,10 @@ pub fn type_text(
     metas: &[u32],
     ty: &Ty,
 ) -> Result<Vec<u8>, AllocError>
-    ensures text { IfOk result (λ text. text.items ≡ spec.type_text (plain_signature sig.now) (appearing_type metas.now (plain_ty ty.now)) level Whole (plain_ty ty.now)) }
+    ensures text { IfOk result (λ text.
+        text.items
+        ≡ spec.type_text (plain_signature sig.now) (appearing_type metas.now (plain_ty ty.now)) level Whole
+        (plain_ty ty.now)) }
     ensures depth { OnOk result (level + type_depth (plain_ty ty.now) < 2 ^ 64) }
 {
     let mut numbered = Vec::from_slice(alloc, metas)?;
@@ -70,7 +77,8 @@ pub fn type_text(
 /// The text of the entry at a place of the signature, or `$` where there is none. It fails only where memory runs out.
 pub fn entry_text(alloc: Global, sig: &Signature, k: u32) -> Result<Vec<u8>, AllocError>
     ensures text { IfOk result (λ text. text.items ≡ entry_text_of (plain_signature sig.now) k) }
-    ensures depth { OnOk result ((e : PlainEntry) → entry_at (plain_signature sig.now) k ≡ Some e → class_depth e.class < 2 ^ 64) }
+    ensures depth { OnOk result
+        ((e : PlainEntry) → entry_at (plain_signature sig.now) k ≡ Some e → class_depth e.class < 2 ^ 64) }
 {
     let mut text = Vec::new(alloc);
     let Some(name) = sig.name(k) else {
@@ -87,14 +95,16 @@ pub fn entry_text(alloc: Global, sig: &Signature, k: u32) -> Result<Vec<u8>, All
     Ok(text)
 }
 
-/// The text of an entry without metavariables under a name, over the entries before it. It fails only where memory runs out.
+/// The text of an entry without metavariables under a name, over the entries before it. It fails only where memory runs
+/// out.
 pub fn declaration_text(
     alloc: Global,
     sig: &Signature,
     name: &str,
     entry: &Entry,
 ) -> Result<Vec<u8>, AllocError>
-    ensures text { IfOk result (λ text. text.items ≡ spec.declaration_text (plain_signature sig.now) [] name.now (plain_entry entry.now)) }
+    ensures text { IfOk result
+        (λ text. text.items ≡ spec.declaration_text (plain_signature sig.now) [] name.now (plain_entry entry.now)) }
     ensures depth { OnOk result (class_depth (plain_class entry.now.class) < 2 ^ 64) }
 {
     let mut text = Vec::new(alloc);

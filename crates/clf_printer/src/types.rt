@@ -46,7 +46,9 @@ fn names_argument(mode: Mode, rest: &Ty) -> bool
 #[tactic(auto, using(std::proofs::lemmas::Slice::between_to_end))]
 fn names_entry(mode: Mode, entries: &[TeleEntry], later: usize) -> bool
     requires { later ≤ length entries.now }
-    ensures { result ≡ (spec.is_persistent mode && occurs_telescope_of 0 (telescope_of (map plain_tele_entry (drop later entries.now)))) }
+    ensures { result
+        ≡ (spec.is_persistent mode
+        && occurs_telescope_of 0 (telescope_of (map plain_tele_entry (drop later entries.now)))) }
 {
     is_persistent(mode) && occurs_in_entries(&entries[later..], 0)
 }
@@ -59,7 +61,9 @@ fn push_indices(
     level: u64,
     indices: &[Obj],
 ) -> Result<(), AllocError>
-    ensures { OnOk result (out.new.items ≡ out.old.items ++ spec.indices_text (plain_signature sig.now) metas.now level (map plain_obj indices.now)) }
+    ensures { OnOk result (out.new.items
+        ≡ out.old.items
+        ++ spec.indices_text (plain_signature sig.now) metas.now level (map plain_obj indices.now)) }
 {
     for index in indices {
         out.extend_from_slice(b" !")?;
@@ -78,7 +82,8 @@ pub fn push_type(
     place: Place,
     ty: &Ty,
 ) -> Result<(), AllocError>
-    ensures { OnOk result (out.new.items ≡ out.old.items ++ spec.type_text (plain_signature sig.now) metas.now level place (plain_ty ty.now)) }
+    ensures { OnOk result (out.new.items
+        ≡ out.old.items ++ spec.type_text (plain_signature sig.now) metas.now level place (plain_ty ty.now)) }
 {
     match ty {
         Ty::Fam { family, indices } => {
@@ -117,7 +122,11 @@ fn push_argument(
     dom: &Ty,
     cod: &Ty,
 ) -> Result<(), AllocError>
-    ensures { OnOk result (out.new.items ≡ out.old.items ++ spec.domain_text mode (spec.is_persistent mode && occurs_type_of 0 (plain_ty cod.now)) level (spec.type_text (plain_signature sig.now) metas.now level Whole (plain_ty dom.now)) (spec.type_text (plain_signature sig.now) metas.now level Operand (plain_ty dom.now))) }
+    ensures { OnOk result (out.new.items
+        ≡ out.old.items
+        ++ spec.domain_text mode (spec.is_persistent mode && occurs_type_of 0 (plain_ty cod.now)) level
+        (spec.type_text (plain_signature sig.now) metas.now level Whole (plain_ty dom.now))
+        (spec.type_text (plain_signature sig.now) metas.now level Operand (plain_ty dom.now))) }
 {
     let named = names_argument(mode, cod);
     push_domain(out, sig, metas, level, mode, named, dom)
@@ -132,7 +141,10 @@ fn push_monad(
     level: u64,
     entries: &[TeleEntry],
 ) -> Result<(), AllocError>
-    ensures { OnOk result (out.new.items ≡ out.old.items ++ spec.type_text (plain_signature sig.now) metas.now level Whole (monad (telescope_of (map plain_tele_entry entries.now)))) }
+    ensures { OnOk result (out.new.items
+        ≡ out.old.items
+        ++ spec.type_text (plain_signature sig.now) metas.now level Whole
+        (monad (telescope_of (map plain_tele_entry entries.now)))) }
 {
     out.push(b'{')?;
     push_if(out, entries.is_empty(), b"1")?;
@@ -151,7 +163,11 @@ fn push_domain(
     named: bool,
     dom: &Ty,
 ) -> Result<(), AllocError>
-    ensures { OnOk result (out.new.items ≡ out.old.items ++ spec.domain_text mode named level (spec.type_text (plain_signature sig.now) metas.now level Whole (plain_ty dom.now)) (spec.type_text (plain_signature sig.now) metas.now level Operand (plain_ty dom.now))) }
+    ensures { OnOk result (out.new.items
+        ≡ out.old.items
+        ++ spec.domain_text mode named level
+        (spec.type_text (plain_signature sig.now) metas.now level Whole (plain_ty dom.now))
+        (spec.type_text (plain_signature sig.now) metas.now level Operand (plain_ty dom.now))) }
 {
     if named {
         out.extend_from_slice(b"Pi ")?;
@@ -171,7 +187,10 @@ fn push_named(
     level: u64,
     ty: &Ty,
 ) -> Result<(), AllocError>
-    ensures { OnOk result (out.new.items ≡ out.old.items ++ spec.named_text level (spec.type_text (plain_signature sig.now) metas.now level Whole (plain_ty ty.now))) }
+    ensures { OnOk result (out.new.items
+        ≡ out.old.items
+        ++ spec.named_text level
+        (spec.type_text (plain_signature sig.now) metas.now level Whole (plain_ty ty.now))) }
 {
     push_new_variable(out, level)?;
     out.extend_from_slice(b": ")?;
@@ -188,7 +207,10 @@ pub fn push_telescope(
     level: u64,
     entries: &[TeleEntry],
 ) -> Result<(), AllocError>
-    ensures { OnOk result (out.new.items ≡ out.old.items ++ spec.telescope_text (plain_signature sig.now) metas.now level (telescope_of (map plain_tele_entry entries.now))) }
+    ensures { OnOk result (out.new.items
+        ≡ out.old.items
+        ++ spec.telescope_text (plain_signature sig.now) metas.now level
+        (telescope_of (map plain_tele_entry entries.now))) }
 {
     let mut inner = level;
     let mut seen = 0;
@@ -213,7 +235,11 @@ fn push_tele_entry(
     named: bool,
     goes_on: bool,
 ) -> Result<(), AllocError>
-    ensures { OnOk result (out.new.items ≡ out.old.items ++ spec.tele_entry_text (plain_tele_entry entry.now).0 named goes_on level (spec.type_text (plain_signature sig.now) metas.now level Whole (plain_tele_entry entry.now).1) (spec.type_text (plain_signature sig.now) metas.now level Operand (plain_tele_entry entry.now).1)) }
+    ensures { OnOk result (out.new.items
+        ≡ out.old.items
+        ++ spec.tele_entry_text (plain_tele_entry entry.now).0 named goes_on level
+        (spec.type_text (plain_signature sig.now) metas.now level Whole (plain_tele_entry entry.now).1) (spec.type_text (plain_signature sig.now) metas.now level Operand
+        (plain_tele_entry entry.now).1)) }
 {
     if named {
         out.extend_from_slice(b"Exists ")?;
@@ -232,7 +258,8 @@ pub fn push_kind(
     metas: &[u32],
     args: &[Ty],
 ) -> Result<(), AllocError>
-    ensures { OnOk result (out.new.items ≡ out.old.items ++ spec.kind_text (plain_signature sig.now) metas.now 0 (map plain_ty args.now)) }
+    ensures { OnOk result (out.new.items
+        ≡ out.old.items ++ spec.kind_text (plain_signature sig.now) metas.now 0 (map plain_ty args.now)) }
 {
     let mut level = 0;
     let mut rest = args;

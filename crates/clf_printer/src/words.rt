@@ -109,7 +109,8 @@ pub fn push_head(
     level: u64,
     head: Head,
 ) -> Result<(), AllocError>
-    ensures { OnOk result (out.new.items ≡ out.old.items ++ spec.head_text (plain_signature sig.now) metas.now level head) }
+    ensures { OnOk result
+        (out.new.items ≡ out.old.items ++ spec.head_text (plain_signature sig.now) metas.now level head) }
 {
     match head {
         Head::Const(place) => push_place(out, sig, place),

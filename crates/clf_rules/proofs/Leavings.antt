@@ -1,4 +1,4 @@
--- A row that stands for exactly the parts with a property is what is left behind it.
+-- A row that stands for exactly the parts with a property is what is left after it.
 use Rattle.std.proofs.Common.{◌≡◌, ℕ, zero, suc, not, Bool, true, false, ◌&&◌, List, [], ◌∷◌, length, Option, None, Some, slice_get, refl, sym, ap, ◌∙◌, arith}
 use Rattle.std.proofs.Math.Logic.{◌⊎◌, inl, inr}
 use Rattle.clf_syntax.specs.declared.tree.Mode.{Mode}
@@ -113,6 +113,6 @@ same_marks (false ∷ l) (false ∷ k) n f b = ap (λ r. false ∷ r) (same_mark
 same_marks (true ∷ l) (false ∷ k) n f b = let e = f 0 refl in absurd (cc)
 same_marks (false ∷ l) (true ∷ k) n f b = let e = b 0 refl in absurd (cc)
 
--- What is left behind a property is one.
+-- What is left after a property is one.
 pub leaves-one : (g : Context) (h : Holding) (P : Holding → Type 0) (l k : Holding) → Leaves g h P l → Leaves g h P k → l ≡ k
 leaves-one g h P l k u v = same_marks l k (u.marked ∙ sym v.marked) (λ i e. (v.entry i).1 ((u.entry i).0 e)) (λ i e. (u.entry i).1 ((v.entry i).0 e))

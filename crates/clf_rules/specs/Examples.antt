@@ -172,7 +172,7 @@ pub record ExpressionExamples : Type 0 where
   -- \x. {let {y} = x in let {y'} = x in [y, y']} : {a} -o {a * a} uses x twice.
   pub right_sides_share : Untyped (lam Linear (monadic (step (Linear ∷ []) (local 0) (step (Linear ∷ []) (local 1) (together (variable 1) (variable 0))))))
       (function Linear (monad one_coin) (monad two_coins))
-  -- \!x. {let {y} = c in [y, d !x]} : Pi x: n. {a * v x}: behind the step the result speaks of x by another number.
+  -- \!x. {let {y} = c in [y, d !x]} : Pi x: n. {a * v x}: after the step the result speaks of x by another number.
   pub result_behind_a_step : Typed (lam Persistent (monadic (minting (together (variable 0) (atomic (app Persistent (constant 6) (variable 1)))))))
       (function Persistent nat (monad (binding Linear coin (binding Linear (vec (variable 1)) end))))
 

@@ -33,7 +33,7 @@ MaySynthesize sig g h r a = (p : Holding) × IsSubholding (modes g) h p × Synth
 abbrev pub CanSpare : Context → Holding → (Holding → Type 0) → ℕ → Type 0
 CanSpare g h P i = (p : Holding) × IsSubholding (modes g) h p × P p × (slice_get p i ≡ Some false)
 
--- Leaves g h P l: l is what is left of the holding h behind what has the property P of its parts. An entry that h holds is left where it
+-- Leaves g h P l: l is what is left of the holding h after what has the property P of its parts. An entry that h holds is left where it
 -- is persistent, or where what has the property can spare it.
 pub record Leaves (g : Context) (h : Holding) (P : Holding → Type 0) (l : Holding) : Type 0 where
   pub marked : length l ≡ length g
@@ -110,11 +110,11 @@ mutual
         (u : PlainTelescope) (left : Holding) → MaySynthesize sig g h r (monad u) → telescope_modes u ≡ ms → Leaves g h (λ p. Synthesizes sig g p r (monad u)) left
         → ReachesInExpression sig (with_entries u g) (all_held ms left) e (ren_telescope (up (length ms)) s) (suc place) path k l x
         → ReachesInExpression sig g h (step ms r e) s place path k l x
-    -- The entries of the tuple have the numbers behind those of the steps.
+    -- The entries of the tuple have the numbers after those of the steps.
     in_tuple : {g k : Context} {h l : Holding} {t : PlainTuple} {s : PlainTelescope} {place : ℕ} {path : List ℕ} {x : CheckedPart}
         → ReachesInTuple sig g h t s place 0 path k l x → ReachesInExpression sig g h (done t) s place path k l x
 
-  -- The same in a tuple behind so many steps, from its entry with the number `before` on.
+  -- The same in a tuple after so many steps, from its entry with the number `before` on.
   pub data ReachesInTuple (sig : PlainSignature) : Context → Holding → PlainTuple → PlainTelescope → ℕ → ℕ → List ℕ → Context → Holding → CheckedPart → Type 0 where
     -- what is left of the tuple and of its telescope, which is said at the whole monadic object
     at_rest : {g : Context} {h : Holding} {t : PlainTuple} {s : PlainTelescope} {steps before : ℕ} → ReachesInTuple sig g h t s steps before [] g h (rest_at before t s)
@@ -269,7 +269,7 @@ pub data Refuses (sig : PlainSignature) : Context → Holding → CheckedPart �
   pattern_differs : {g : Context} {h : Holding} {ms : List Mode} {r : PlainNeutral} {e : PlainExpression} {s : PlainTelescope} {k m : Mode} (u : PlainTelescope)
       → MaySynthesize sig g h r (monad u) → length ms ≡ telescope_width u → FirstModes (telescope_modes u) ms k m → Refuses sig g h (step_at ms r e s) (mode_differs k m)
   entry_differs : {g : Context} {h : Holding} {m k : Mode} → (k ≡ m → ⊥) → Refuses sig g h (entry_at m k) (mode_differs k m)
-  -- A pattern or a tuple has another length than its telescope. Of a tuple that is said behind the entries that have a type.
+  -- A pattern or a tuple has another length than its telescope. Of a tuple that is said after the entries that have a type.
   pattern_width : {g : Context} {h : Holding} {ms : List Mode} {r : PlainNeutral} {e : PlainExpression} {s : PlainTelescope} (u : PlainTelescope)
       → MaySynthesize sig g h r (monad u) → length ms ≢ telescope_width u → Refuses sig g h (step_at ms r e s) (width (telescope_width u) (length ms))
   tuple_too_short : {g : Context} {h : Holding} {before : ℕ} {m : Mode} {a : PlainType} {s : PlainTelescope}

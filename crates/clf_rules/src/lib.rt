@@ -1,4 +1,5 @@
-//! The rules of the calculus: typing, well-formed kinds, types and signatures, and why a part is refused; worked judgments; laws.
+//! The rules of the calculus: typing, well-formed kinds, types and signatures, and why a part is refused; worked
+//! judgments; laws.
 #![tactic(auto)]
 
 mod laws;

@@ -1,4 +1,4 @@
--- A new entry goes behind all others.
+-- A new entry goes after all others.
 use Rattle.std.proofs.Common.{◌≡◌, ℕ, suc, Bool, true, false, if◌then◌else◌, List, [], ◌∷◌, ◌++◌, map, Option, None, Some, is_some, option_map, string_bytes, refl, sym, ap, ◌∙◌, true≢false}
 use Rattle.std.specs.declared.string.String.{String}
 use Rattle.std.specs.String.{string_eq}

@@ -90,7 +90,8 @@ impl Signature {
     pub fn entry(&self, k: u32) -> Option<&Entry>
         ensures declared { option_copied result ≡ slice_get (entries self.now) k }
         ensures plain { option_map plain_entry (option_copied result) ≡ entry_at (plain_signature self.now) k }
-        ensures class { option_map (λ e. plain_class e.class) (option_copied result) ≡ class_at (plain_signature self.now) k }
+        ensures class { option_map (λ e. plain_class e.class) (option_copied result)
+            ≡ class_at (plain_signature self.now) k }
     {
         let (_, entry) = self.declared.get_index(k as usize)?;
         Some(entry)
@@ -111,14 +112,15 @@ impl Signature {
         self.simples.as_slice()
     }
 
-    /// Adds an entry behind all others, and answers its place.
+    /// Adds an entry after all others, and answers its place.
     pub fn add(&mut self, name: &str, entry: Entry) -> Result<u32, AddFault>
         ensures place { IfOk result (λ place. place ≡ length self.old) }
         ensures added { OnOk result (self.new ≡ self.old ++ (name.now, entry) ∷ []) }
 
         // A name that is there already is reported as such, even where the signature is full.
         ensures duplicate { (result ≡ Err AddFault.Duplicate) ↔ IsNamed name.now (plain_signature self.old) }
-        ensures full { (result ≡ Err AddFault.Full) ↔ ((¬ IsNamed name.now (plain_signature self.old)) × (length self.old ≡ entry_limit)) }
+        ensures full { (result ≡ Err AddFault.Full)
+            ↔ ((¬ IsNamed name.now (plain_signature self.old)) × (length self.old ≡ entry_limit)) }
         ensures unchanged { OnErr result (self.new ≡ self.old) }
     {
         if self.find(name).is_some() {
@@ -136,7 +138,7 @@ impl Signature {
         }
     }
 
-    /// Puts an entry of a new name behind all others.
+    /// Puts an entry of a new name after all others.
     fn put(&mut self, name: &str, entry: Entry) -> Result<(), AllocError>
         requires absent { is_some (place_of name.now (plain_signature self.old)) ≡ false }
         requires room { length self.old < entry_limit }

@@ -38,7 +38,7 @@ has_modes simple_end [] = true
 has_modes (simple_binding m t s) (n ∷ ns) = same_mode n m && has_modes s ns
 has_modes _ _ = false
 
--- the scope behind the entries
+-- the scope after the entries
 abbrev pub behind : SimpleTelescope → List SimpleType → List SimpleType
 behind simple_end g = g
 behind (simple_binding m t s) g = behind s (t ∷ g)
@@ -98,7 +98,7 @@ abbrev pub then_type : Option SimpleType → (SimpleType → Option SimpleType) 
 then_type None f = None
 then_type (Some t) f = f t
 
--- the scope behind a step, where its right side has this type
+-- the scope after a step, where its right side has this type
 abbrev pub opened : List Mode → SimpleType → List SimpleType → Option (List SimpleType)
 opened ms (lax s) g = if has_modes s ms then Some (behind s g) else None
 opened ms _ g = None

@@ -1,7 +1,7 @@
 //! Eta-long forms, written out.
 //!
-//! On the way down a type the eliminations of the neutral are only noted: each is written where a family or a monad is reached,
-//! once it is known how many lambdas were met. So no tree is renamed twice, and `<>` drops them unwritten.
+//! On the way down a type the eliminations of the neutral are only noted: each is written where a family or a monad is
+//! reached, once it is known how many lambdas were met. So no tree is renamed twice, and `<>` drops them unwritten.
 ghost use Rattle.std.specs.Prelude.{◌≡◌, ◌+◌, ◌-◌, ◌<◌, ◌≤◌, ℕ, [], ◌∷◌, ◌++◌, IfOk, length, map};
 ghost use Rattle.std.specs.List.{list_all};
 ghost use Rattle.clf_syntax.specs.declared.tree.Head.TheVariants.{Var};
@@ -30,7 +30,8 @@ pub enum Root<'a> {
     Variable(u64),
 }
 
-/// An elimination that is still to be written. An argument is the variable of a lambda on the way, in its eta-long form.
+/// An elimination that is still to be written. An argument is the variable of a lambda on the way, in its eta-long
+/// form.
 #[derive(Clone, Copy)]
 pub enum Noted<'a> {
     Argument { mode: Mode, ty: &'a Simple },
@@ -38,8 +39,9 @@ pub enum Noted<'a> {
     Second,
 }
 
-/// The form in which a neutral is written out at its simple type: the eta-long one, save that a metavariable at a monad stays.
-/// `TooFar` comes exactly where a number that is written would pass 4,294,967,295; else it fails only where memory runs out.
+/// The form in which a neutral is written out at its simple type: the eta-long one, save that a metavariable at a monad
+/// stays. `TooFar` comes exactly where a number that is written would pass 4,294,967,295; else it fails only where
+/// memory runs out.
 pub fn eta(alloc: Global, ty: &Simple, neutral: &Neutral) -> Result<Obj, Or<TooFar>>
     ensures { Writes plain_obj fits (expansion (plain_simple ty.now) (plain_neutral neutral.now)) result }
 {
@@ -49,7 +51,8 @@ pub fn eta(alloc: Global, ty: &Simple, neutral: &Neutral) -> Result<Obj, Or<TooF
 
 /// One elimination more.
 fn with_note<'a>(noted: Vec<Noted<'a>>, note: Noted<'a>) -> Result<Vec<Noted<'a>>, AllocError>
-    ensures { IfOk result (λ more. plain_notes more.items ≡ plain_notes noted.entry.items ++ plain_noted note.entry ∷ []) }
+    ensures { IfOk result
+        (λ more. plain_notes more.items ≡ plain_notes noted.entry.items ++ plain_noted note.entry ∷ []) }
 {
     let mut more = noted;
     more.push(note)?;
@@ -65,7 +68,9 @@ fn expand<'a>(
     root: &Root<'a>,
     noted: Vec<Noted<'a>>,
 ) -> Result<Obj, Or<TooFar>>
-    ensures { Writes plain_obj fits (expansion (plain_simple ty.now) (spec.under (plain_notes noted.entry.items) (plain_root root.now))) result }
+    ensures { Writes plain_obj fits
+        (expansion (plain_simple ty.now) (spec.under (plain_notes noted.entry.items) (plain_root root.now)))
+        result }
 {
     match ty {
         Simple::Atom(_) => Ok(Obj::At {
@@ -92,7 +97,9 @@ fn expand_function<'a>(
     root: &Root<'a>,
     noted: Vec<Noted<'a>>,
 ) -> Result<Obj, Or<TooFar>>
-    ensures { Writes plain_obj fits (lam mode (expansion (plain_simple cod.now) (spec.under (plain_notes noted.entry.items ++ spec.argument mode (plain_simple dom.now) ∷ []) (plain_root root.now)))) result }
+    ensures { Writes plain_obj fits (lam mode (expansion (plain_simple cod.now) (spec.under
+        (plain_notes noted.entry.items ++ spec.argument mode (plain_simple dom.now) ∷ [])
+        (plain_root root.now)))) result }
 {
     let inner = with_note(noted, Noted::Argument { mode, ty: dom })?;
     let body = expand(alloc, cod, root, inner)?;
@@ -111,7 +118,10 @@ fn expand_pair<'a>(
     root: &Root<'a>,
     noted: Vec<Noted<'a>>,
 ) -> Result<Obj, Or<TooFar>>
-    ensures { Writes plain_obj fits (pair (expansion (plain_simple left.now) (spec.under (plain_notes noted.entry.items ++ spec.first_part ∷ []) (plain_root root.now))) (expansion (plain_simple right.now) (spec.under (plain_notes noted.entry.items ++ spec.second_part ∷ []) (plain_root root.now)))) result }
+    ensures { Writes plain_obj fits (pair (expansion (plain_simple left.now)
+        (spec.under (plain_notes noted.entry.items ++ spec.first_part ∷ []) (plain_root root.now))) (expansion (plain_simple right.now)
+        (spec.under (plain_notes noted.entry.items ++ spec.second_part ∷ []) (plain_root root.now))))
+        result }
 {
     let first = with_note(Vec::from_slice(alloc, noted.as_slice())?, Noted::First)?;
     let left = expand(alloc, left, root, first)?;
@@ -132,7 +142,9 @@ fn expand_monad<'a>(
     root: &Root<'a>,
     noted: &[Noted<'a>],
 ) -> Result<Obj, Or<TooFar>>
-    ensures { Writes plain_obj fits (at_monad (is_metavariable (head_of (plain_root root.now))) (simple_telescope_of (map plain_simple_entry entries.now)) (spec.under (plain_notes noted.now) (plain_root root.now))) result }
+    ensures { Writes plain_obj fits (at_monad (is_metavariable (head_of (plain_root root.now)))
+        (simple_telescope_of (map plain_simple_entry entries.now))
+        (spec.under (plain_notes noted.now) (plain_root root.now))) result }
 {
     let neutral = write(alloc, root, noted)?;
     if is_meta(root) {
@@ -178,7 +190,8 @@ fn modes_of(alloc: Global, entries: &[SimpleEntry]) -> Result<Modes, AllocError>
 /// The newest variables, one for each entry.
 #[cycle(expand)]
 fn variables(alloc: Global, entries: &[SimpleEntry]) -> Result<Items<TupleEntry>, Or<TooFar>>
-    ensures { Writes (λ es. map plain_entry es) (list_all fits_entry) (spec.variable_entries (simple_telescope_of (map plain_simple_entry entries.now))) result }
+    ensures { Writes (λ es. map plain_entry es) (list_all fits_entry)
+        (spec.variable_entries (simple_telescope_of (map plain_simple_entry entries.now))) result }
 {
     let mut tuple = Items::new(alloc);
     for place in 0..entries.len() {
@@ -235,7 +248,8 @@ fn is_argument(note: &Noted) -> bool
 
 #[cycle(expand)]
 fn write_noted<'a>(alloc: Global, noted: &[Noted<'a>]) -> Result<Items<Elim>, Or<TooFar>>
-    ensures { Writes (λ es. map plain_elim es) (list_all fits_elimination) (spec.eliminations (plain_notes noted.now)) result }
+    ensures { Writes (λ es. map plain_elim es) (list_all fits_elimination) (spec.eliminations (plain_notes noted.now))
+        result }
 {
     let mut newer = lambdas(noted);
     let mut written = Items::new(alloc);
@@ -319,7 +333,8 @@ fn raise(alloc: Global, neutral: &Neutral, by: u64) -> Result<Neutral, Or<TooFar
 
 /// Past 2^32 lambdas no free variable can be written, and what has none stays as it is.
 fn raise_closed(alloc: Global, neutral: &Neutral) -> Result<Neutral, Or<TooFar>>
-    ensures { (by : ℕ) → 4294967296 ≤ by → Writes plain_neutral fits_neutral (ren_neutral (up by) (plain_neutral neutral.now)) result }
+    ensures { (by : ℕ) → 4294967296 ≤ by →
+        Writes plain_neutral fits_neutral (ren_neutral (up by) (plain_neutral neutral.now)) result }
 {
     let raised = neutral.shift(alloc, u32::MAX, 0)?;
     raised.shift(alloc, 1, 0)

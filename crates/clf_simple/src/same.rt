@@ -54,7 +54,9 @@ pub fn same_type(ty: &Simple, other: &Simple) -> bool
 #[cycle(same)]
 #[tactic(auto, using(crate::proofs::Lists::from_place))]
 fn same_entries(entries: &[SimpleEntry], others: &[SimpleEntry]) -> bool
-    ensures { result ≡ spec.same_telescope (simple_telescope_of (map plain_simple_entry entries.now)) (simple_telescope_of (map plain_simple_entry others.now)) }
+    ensures { result
+        ≡ spec.same_telescope (simple_telescope_of (map plain_simple_entry entries.now))
+        (simple_telescope_of (map plain_simple_entry others.now)) }
 {
     if entries.len() != others.len() {
         return false;

@@ -52,13 +52,15 @@ pub fn with_local<'a>(
     Ok(inner)
 }
 
-/// The scope behind the entries of a monad.
+/// The scope after the entries of a monad.
 #[tactic(auto, using(clf_syntax::specs::PlainSimple::plain_simple_laws, crate::proofs::Scopes::scope_laws, crate::proofs::Lists::from_place))]
 pub fn with_entries<'a>(
     locals: Vec<&'a Simple>,
     entries: &'a [SimpleEntry],
 ) -> Result<Vec<&'a Simple>, AllocError>
-    ensures { IfOk result (λ inner. scope inner.items ≡ behind (simple_telescope_of (map plain_simple_entry entries.now)) (scope locals.entry.items)) }
+    ensures { IfOk result (λ inner.
+        scope inner.items
+        ≡ behind (simple_telescope_of (map plain_simple_entry entries.now)) (scope locals.entry.items)) }
 {
     let mut inner = locals;
     for entry in entries {

@@ -16,8 +16,9 @@ use clf_syntax::{
 };
 use std::alloc::{AllocError, Global};
 
-/// Whether an object has the simple type. The types of constants and metavariables are by their numbers, and `ctx` has the variables, the newest last.
-/// A hole has none, and a metavariable may stand at a monad. It fails only where memory runs out.
+/// Whether an object has the simple type. The types of constants and metavariables are by their numbers, and `ctx` has
+/// the variables, the newest last. A hole has none, and a metavariable may stand at a monad. It fails only where memory
+/// runs out.
 pub fn simply_typed(
     alloc: Global,
     consts: &[Simple],
@@ -26,7 +27,11 @@ pub fn simply_typed(
     obj: &Obj,
     ty: &Simple,
 ) -> Result<bool, AllocError>
-    ensures { IfOk result (λ b. IsTrue b ↔ SimplyTyped (extended_by (simple_telescope_of (map plain_simple_entry ctx.now)) (assigned (map plain_simple consts.now) (map plain_simple metas.now) [])) (plain_obj obj.now) (plain_simple ty.now)) }
+    ensures { IfOk result (λ b.
+        IsTrue b
+        ↔ SimplyTyped (extended_by (simple_telescope_of (map plain_simple_entry ctx.now))
+        (assigned (map plain_simple consts.now) (map plain_simple metas.now) [])) (plain_obj obj.now)
+        (plain_simple ty.now)) }
 {
     let heads = Heads { consts, metas };
     let locals = with_entries(Vec::new(alloc), ctx)?;
@@ -43,7 +48,8 @@ fn check<'a>(
     obj: &Obj,
     ty: &'a Simple,
 ) -> Result<bool, AllocError>
-    ensures { IfOk result (λ b. b ≡ spec.typed (head_types heads.now) (scope locals.now) (plain_obj obj.now) (plain_simple ty.now)) }
+    ensures { IfOk result
+        (λ b. b ≡ spec.typed (head_types heads.now) (scope locals.now) (plain_obj obj.now) (plain_simple ty.now)) }
 {
     match obj {
         Obj::Lam { mode, body } => check_lambda(alloc, heads, locals, *mode, body.get(), ty),
@@ -86,7 +92,10 @@ fn check_lambda<'a>(
     body: &Obj,
     ty: &'a Simple,
 ) -> Result<bool, AllocError>
-    ensures { IfOk result (λ b. b ≡ spec.at_function mode (plain_simple ty.now) (λ d c. spec.typed (head_types heads.now) (d ∷ scope locals.now) (plain_obj body.now) c)) }
+    ensures { IfOk result (λ b.
+        b
+        ≡ spec.at_function mode (plain_simple ty.now)
+        (λ d c. spec.typed (head_types heads.now) (d ∷ scope locals.now) (plain_obj body.now) c)) }
 {
     match ty {
         Simple::Fun {
@@ -113,7 +122,10 @@ fn check_monadic<'a>(
     expr: &Expr,
     ty: &'a Simple,
 ) -> Result<bool, AllocError>
-    ensures { IfOk result (λ b. b ≡ spec.at_lax (plain_simple ty.now) (λ s. spec.expression_typed (head_types heads.now) (scope locals.now) (plain_expr expr.now) s)) }
+    ensures { IfOk result (λ b.
+        b
+        ≡ spec.at_lax (plain_simple ty.now)
+        (λ s. spec.expression_typed (head_types heads.now) (scope locals.now) (plain_expr expr.now) s)) }
 {
     match ty {
         Simple::Monad { entries } => {
@@ -133,7 +145,11 @@ fn check_atomic<'a>(
     neutral: &Neutral,
     ty: &'a Simple,
 ) -> Result<bool, AllocError>
-    ensures { IfOk result (λ b. b ≡ spec.stands_as (spec.is_meta (plain_neutral neutral.now)) (spec.type_of (head_types heads.now) (scope locals.now) (plain_neutral neutral.now)) (plain_simple ty.now)) }
+    ensures { IfOk result (λ b.
+        b
+        ≡ spec.stands_as (spec.is_meta (plain_neutral neutral.now))
+        (spec.type_of (head_types heads.now) (scope locals.now) (plain_neutral neutral.now))
+        (plain_simple ty.now)) }
 {
     match infer(alloc, heads, locals, neutral)? {
         Some(found) => Ok(may_stand(neutral.head, ty) && same_type(found, ty)),
@@ -164,7 +180,9 @@ fn infer<'a>(
     locals: &[&'a Simple],
     neutral: &Neutral,
 ) -> Result<Option<&'a Simple>, AllocError>
-    ensures { IfOk result (λ r. option_map (λ t. plain_simple t.now) r ≡ spec.type_of (head_types heads.now) (scope locals.now) (plain_neutral neutral.now)) }
+    ensures { IfOk result (λ r.
+        option_map (λ t. plain_simple t.now) r
+        ≡ spec.type_of (head_types heads.now) (scope locals.now) (plain_neutral neutral.now)) }
 {
     match head_type(heads, locals, neutral.head) {
         Some(found) => infer_spine(alloc, heads, locals, neutral.spine.as_slice(), found),
@@ -181,7 +199,10 @@ fn infer_spine<'a>(
     spine: &[Elim],
     head: &'a Simple,
 ) -> Result<Option<&'a Simple>, AllocError>
-    ensures { IfOk result (λ r. option_map (λ t. plain_simple t.now) r ≡ spec.spine_type (head_types heads.now) (scope locals.now) (map plain_elim spine.now) (plain_simple head.now)) }
+    ensures { IfOk result (λ r.
+        option_map (λ t. plain_simple t.now) r
+        ≡ spec.spine_type (head_types heads.now) (scope locals.now) (map plain_elim spine.now)
+        (plain_simple head.now)) }
 {
     let mut found = head;
     for act in spine {
@@ -202,7 +223,10 @@ fn eliminate<'a>(
     act: &Elim,
     found: &'a Simple,
 ) -> Result<Option<&'a Simple>, AllocError>
-    ensures { IfOk result (λ r. option_map (λ t. plain_simple t.now) r ≡ spec.elimination_type (head_types heads.now) (scope locals.now) (plain_elim act.now) (plain_simple found.now)) }
+    ensures { IfOk result (λ r.
+        option_map (λ t. plain_simple t.now) r
+        ≡ spec.elimination_type (head_types heads.now) (scope locals.now) (plain_elim act.now)
+        (plain_simple found.now)) }
 {
     match act {
         Elim::Arg { mode, obj } => apply(alloc, heads, locals, *mode, obj, found),
@@ -242,7 +266,10 @@ fn apply<'a>(
     obj: &Obj,
     found: &'a Simple,
 ) -> Result<Option<&'a Simple>, AllocError>
-    ensures { IfOk result (λ r. option_map (λ t. plain_simple t.now) r ≡ spec.argued mode (plain_simple found.now) (λ d. spec.typed (head_types heads.now) (scope locals.now) (plain_obj obj.now) d)) }
+    ensures { IfOk result (λ r.
+        option_map (λ t. plain_simple t.now) r
+        ≡ spec.argued mode (plain_simple found.now)
+        (λ d. spec.typed (head_types heads.now) (scope locals.now) (plain_obj obj.now) d)) }
 {
     match found {
         Simple::Fun {
@@ -272,7 +299,10 @@ fn check_expression<'a>(
     expr: &Expr,
     entries: &'a [SimpleEntry],
 ) -> Result<bool, AllocError>
-    ensures { IfOk result (λ b. b ≡ spec.expression_typed (head_types heads.now) (scope locals.now) (plain_expr expr.now) (simple_telescope_of (map plain_simple_entry entries.now))) }
+    ensures { IfOk result (λ b.
+        b
+        ≡ spec.expression_typed (head_types heads.now) (scope locals.now) (plain_expr expr.now)
+        (simple_telescope_of (map plain_simple_entry entries.now))) }
 {
     match steps_scope(alloc, heads, locals, expr.steps.as_slice())? {
         Some(inner) => check_tuple(
@@ -286,7 +316,7 @@ fn check_expression<'a>(
     }
 }
 
-/// The scope behind the steps, if they are typed.
+/// The scope after the steps, if they are typed.
 #[cycle(check)]
 #[tactic(auto, using(crate::proofs::Lists::from_place))]
 fn steps_scope<'a>(
@@ -295,7 +325,9 @@ fn steps_scope<'a>(
     locals: &[&'a Simple],
     steps: &[Step],
 ) -> Result<Option<Vec<&'a Simple>>, AllocError>
-    ensures { IfOk result (λ r. option_map (λ v. scope v.items) r ≡ spec.steps_scope (head_types heads.now) (scope locals.now) (map plain_step steps.now)) }
+    ensures { IfOk result (λ r.
+        option_map (λ v. scope v.items) r
+        ≡ spec.steps_scope (head_types heads.now) (scope locals.now) (map plain_step steps.now)) }
 {
     let mut inner = Vec::from_slice(alloc, locals)?;
     for step in steps {
@@ -315,7 +347,9 @@ fn step_scope<'a>(
     locals: Vec<&'a Simple>,
     step: &Step,
 ) -> Result<Option<Vec<&'a Simple>>, AllocError>
-    ensures { IfOk result (λ r. option_map (λ v. scope v.items) r ≡ spec.step_scope (head_types heads.now) (scope locals.entry.items) (plain_step step.now)) }
+    ensures { IfOk result (λ r.
+        option_map (λ v. scope v.items) r
+        ≡ spec.step_scope (head_types heads.now) (scope locals.entry.items) (plain_step step.now)) }
 {
     match infer(alloc, heads, locals.as_slice(), &step.rhs)? {
         Some(found) => open(locals, found, step.modes.as_slice()),
@@ -323,14 +357,16 @@ fn step_scope<'a>(
     }
 }
 
-/// The scope behind a step whose right side has this type.
+/// The scope after a step whose right side has this type.
 #[tactic(auto, using(clf_syntax::specs::PlainSimple::plain_simple_laws))]
 fn open<'a>(
     locals: Vec<&'a Simple>,
     found: &'a Simple,
     modes: &[Mode],
 ) -> Result<Option<Vec<&'a Simple>>, AllocError>
-    ensures { IfOk result (λ r. option_map (λ v. scope v.items) r ≡ spec.opened modes.now (plain_simple found.now) (scope locals.entry.items)) }
+    ensures { IfOk result (λ r.
+        option_map (λ v. scope v.items) r
+        ≡ spec.opened modes.now (plain_simple found.now) (scope locals.entry.items)) }
 {
     match found {
         Simple::Monad { entries } => {
@@ -354,7 +390,10 @@ fn check_tuple<'a>(
     tuple: &[TupleEntry],
     entries: &'a [SimpleEntry],
 ) -> Result<bool, AllocError>
-    ensures { IfOk result (λ b. b ≡ spec.tuple_typed (head_types heads.now) (scope locals.now) (tuple_of (map plain_entry tuple.now)) (simple_telescope_of (map plain_simple_entry entries.now))) }
+    ensures { IfOk result (λ b.
+        b
+        ≡ spec.tuple_typed (head_types heads.now) (scope locals.now) (tuple_of (map plain_entry tuple.now))
+        (simple_telescope_of (map plain_simple_entry entries.now))) }
 {
     if tuple.len() != entries.len() {
         return Ok(false);
@@ -376,7 +415,10 @@ fn check_entry<'a>(
     part: &TupleEntry,
     entry: &'a SimpleEntry,
 ) -> Result<bool, AllocError>
-    ensures { IfOk result (λ b. b ≡ spec.entry_typed (head_types heads.now) (scope locals.now) (plain_entry part.now) (plain_simple_entry entry.now)) }
+    ensures { IfOk result (λ b.
+        b
+        ≡ spec.entry_typed (head_types heads.now) (scope locals.now) (plain_entry part.now)
+        (plain_simple_entry entry.now)) }
 {
     if !is_same_mode(part.mode, entry.mode) {
         return Ok(false);

@@ -74,7 +74,7 @@ fits_step s = fits_neutral s.1
 abbrev pub fits_tele_entry : Mode × PlainType → Bool
 fits_tele_entry e = fits_type e.1
 
--- a telescope behind some entries
+-- a telescope after some entries
 abbrev pub entries_on : List (Mode × PlainType) → PlainTelescope → PlainTelescope
 entries_on [] s = s
 entries_on (e ∷ es) s = binding e.0 e.1 (entries_on es s)

@@ -11,7 +11,7 @@ use Rattle.clf_syntax.specs.declared.fault.OrWide.TheVariants.{NoMemory as OrNoM
 abbrev pub IsWide : Wide → Type 0
 IsWide w = 4294967295 ≤ length (out-Tele w.counted).entries
 
--- want of memory, which is free, or of numbers
+-- lack of memory, which is free, or of numbers
 abbrev pub IsWant : Want → Type 0
 IsWant NoMemory = Unit {0}
 IsWant (TooFar w) = IsWide w

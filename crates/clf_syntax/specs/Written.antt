@@ -52,7 +52,7 @@ abbrev mutual
 abbrev pub fits_kind : PlainKind → Bool
 fits_kind k = list_all fits_type k
 
--- The tree that is wanted is answered where it can be written, and TooFar exactly where it can't. Want of memory is free.
+-- The tree that is wanted is answered where it can be written, and TooFar exactly where it can't. Lack of memory is free.
 abbrev pub Writes : {X P : Type 0} → (X → P) → (P → Bool) → P → Result X (Or TooFar) → Type 0
 Writes plain test want (Ok x) = (plain x ≡ want) × (test want ≡ true)
 Writes plain test want (Err (Fault f)) = test want ≡ false

@@ -19,14 +19,14 @@ pub struct Wide {
     pub counted: Tele,
 }
 
-/// A fault of the call's own, or want of memory.
+/// A fault of the call's own, or lack of memory.
 #[derive(Debug, Drop)]
 pub enum Or<E> {
     Fault(E),
     NoMemory,
 }
 
-/// A fault of the call's own, want of memory, or a number past its range.
+/// A fault of the call's own, lack of memory, or a number past its range.
 #[derive(Drop)]
 pub enum OrWide<E> {
     Fault(E),
@@ -34,14 +34,15 @@ pub enum OrWide<E> {
     TooFar(Wide),
 }
 
-/// Want of memory, or a number past its range.
+/// Lack of memory, or a number past its range.
 #[derive(Drop)]
 pub enum Want {
     NoMemory,
     TooFar(Wide),
 }
 
-/// What a part of a call wants: memory, or a number past its range. The call itself makes a `Want` of it, with the list that is kept.
+/// What a part of a call wants: memory, or a number past its range. The call itself makes a `Want` of it, with the list
+/// that is kept.
 #[derive(Clone, Copy, Debug)]
 pub enum Shortage {
     Memory,
@@ -49,7 +50,7 @@ pub enum Shortage {
 }
 
 impl Shortage {
-    /// The want of a call; want of memory where there is none for the list.
+    /// The want of a call; lack of memory where there is none for the list.
     pub fn want(self, alloc: Global) -> Want
         ensures { IsWant result }
     {
@@ -90,7 +91,7 @@ impl Wide {
 }
 
 impl Want {
-    /// That a number passes its range; want of memory where there is none for the list.
+    /// That a number passes its range; lack of memory where there is none for the list.
     pub fn too_far(alloc: Global) -> Want
         ensures { IsWant result }
     {

@@ -1,4 +1,5 @@
-//! The trees of the framework: kinds, types, objects and their parts, with names and the faults that every layer shares.
+//! The trees of the framework: kinds, types, objects and their parts, with names and the faults that every layer
+//! shares.
 #![tactic(auto)]
 
 mod copy;
@@ -11,6 +12,7 @@ mod name;
 mod number;
 mod occurs;
 mod rename;
+mod simple;
 mod tree;
 mod types;
 mod word;
@@ -23,6 +25,7 @@ pub use modes::{Modes, is_same_mode};
 pub use name::Name;
 pub use occurs::{occurs_in_arguments, occurs_in_entries};
 pub use rename::{Renaming, deeper};
+pub use simple::copy_simples;
 pub use tree::{
     Elim, Expr, Head, Kind, Mode, Neutral, Obj, Simple, SimpleEntry, Step, Tele, TeleEntry,
     TupleEntry, Ty,

@@ -134,7 +134,8 @@ fn occurs_type(ty: &Ty, var: u64) -> bool
 #[tactic(auto, using(crate::specs::PlainTypes::plain_type_laws))]
 fn occurs_entries(entries: &[TeleEntry], var: u64) -> bool
     requires { var ≤ BEYOND }
-    ensures { (v : ℕ) → min v BEYOND ≡ var → result ≡ spec.occurs_telescope v (telescope_of (map plain_tele_entry entries.now)) }
+    ensures { (v : ℕ) → min v BEYOND ≡ var →
+        result ≡ spec.occurs_telescope v (telescope_of (map plain_tele_entry entries.now)) }
 {
     let mut inner = var;
     for entry in entries {

@@ -16,7 +16,8 @@ use crate::tree::{Elim, Expr, Head, Kind, Neutral, Obj, Step, Tele, TeleEntry, T
 use sqlite_items::{Boxed, Items};
 use std::alloc::{AllocError, Global};
 
-/// What becomes of free variables: variable `i` becomes `images[i]` where there is such a place, else `i - images.len() + rest`.
+/// What becomes of free variables: variable `i` becomes `images[i]` where there is such a place, else `i - images.len()
+/// + rest`.
 #[derive(Drop)]
 pub struct Renaming {
     pub images: Vec<u32>,
@@ -112,7 +113,8 @@ fn rename_neutral(
     names: &Renaming,
     depth: u64,
 ) -> Result<Neutral, Or<TooFar>>
-    ensures { Writes plain_neutral fits_neutral (inner.renumber_neutral (renumbering_by names.now) depth (plain_neutral neutral.now)) result }
+    ensures { Writes plain_neutral fits_neutral
+        (inner.renumber_neutral (renumbering_by names.now) depth (plain_neutral neutral.now)) result }
 {
     let head = rename_head(neutral.head, names, depth)?;
     let spine = rename_spine(alloc, neutral.spine.as_slice(), names, depth)?;
@@ -127,7 +129,8 @@ fn rename_spine(
     names: &Renaming,
     depth: u64,
 ) -> Result<Items<Elim>, Or<TooFar>>
-    ensures { Writes (λ es. map plain_elim es) (list_all inner.fits_elimination) (map (inner.renumber_elimination (renumbering_by names.now) depth) (map plain_elim spine.now)) result }
+    ensures { Writes (λ es. map plain_elim es) (list_all inner.fits_elimination)
+        (map (inner.renumber_elimination (renumbering_by names.now) depth) (map plain_elim spine.now)) result }
 {
     let mut renamed = Items::new(alloc);
     for act in spine {
@@ -144,7 +147,8 @@ fn rename_elimination(
     names: &Renaming,
     depth: u64,
 ) -> Result<Elim, Or<TooFar>>
-    ensures { Writes plain_elim inner.fits_elimination (inner.renumber_elimination (renumbering_by names.now) depth (plain_elim act.now)) result }
+    ensures { Writes plain_elim inner.fits_elimination
+        (inner.renumber_elimination (renumbering_by names.now) depth (plain_elim act.now)) result }
 {
     match act {
         Elim::Arg { mode, obj } => Ok(Elim::Arg {
@@ -164,7 +168,8 @@ fn rename_expression(
     names: &Renaming,
     depth: u64,
 ) -> Result<Expr, Or<TooFar>>
-    ensures { Writes plain_expr fits_expression (inner.renumber_expression (renumbering_by names.now) depth (plain_expr expr.now)) result }
+    ensures { Writes plain_expr fits_expression
+        (inner.renumber_expression (renumbering_by names.now) depth (plain_expr expr.now)) result }
 {
     let mut inner = depth;
     let mut steps = Items::new(alloc);
@@ -179,7 +184,8 @@ fn rename_expression(
 #[cycle(rename)]
 #[tactic(auto, using(crate::specs::Plain::plain_laws, crate::proofs::Renumbered::renumber_laws))]
 fn rename_step(alloc: Global, step: &Step, names: &Renaming, depth: u64) -> Result<Step, Or<TooFar>>
-    ensures { Writes plain_step inner.fits_step (inner.renumber_step (renumbering_by names.now) depth (plain_step step.now)) result }
+    ensures { Writes plain_step inner.fits_step
+        (inner.renumber_step (renumbering_by names.now) depth (plain_step step.now)) result }
 {
     let modes = step.modes.copy(alloc)?;
     Ok(Step {
@@ -196,7 +202,8 @@ fn rename_tuple(
     names: &Renaming,
     depth: u64,
 ) -> Result<Items<TupleEntry>, Or<TooFar>>
-    ensures { Writes (λ es. map plain_entry es) (list_all inner.fits_entry) (map (inner.renumber_entry (renumbering_by names.now) depth) (map plain_entry tuple.now)) result }
+    ensures { Writes (λ es. map plain_entry es) (list_all inner.fits_entry)
+        (map (inner.renumber_entry (renumbering_by names.now) depth) (map plain_entry tuple.now)) result }
 {
     let mut renamed = Items::new(alloc);
     for entry in tuple {
@@ -213,7 +220,8 @@ fn rename_tuple_entry(
     names: &Renaming,
     depth: u64,
 ) -> Result<TupleEntry, Or<TooFar>>
-    ensures { Writes plain_entry inner.fits_entry (inner.renumber_entry (renumbering_by names.now) depth (plain_entry entry.now)) result }
+    ensures { Writes plain_entry inner.fits_entry
+        (inner.renumber_entry (renumbering_by names.now) depth (plain_entry entry.now)) result }
 {
     Ok(TupleEntry {
         mode: entry.mode,
@@ -227,7 +235,8 @@ fn rename_indices(
     names: &Renaming,
     depth: u64,
 ) -> Result<Items<Obj>, Or<TooFar>>
-    ensures { Writes (λ ns. map plain_obj ns) (list_all fits) (map (inner.renumber (renumbering_by names.now) depth) (map plain_obj indices.now)) result }
+    ensures { Writes (λ ns. map plain_obj ns) (list_all fits)
+        (map (inner.renumber (renumbering_by names.now) depth) (map plain_obj indices.now)) result }
 {
     let mut renamed = Items::new(alloc);
     for index in indices {
@@ -244,7 +253,9 @@ fn rename_family(
     names: &Renaming,
     depth: u64,
 ) -> Result<Ty, Or<TooFar>>
-    ensures { Writes plain_ty fits_type (family_type family (map (inner.renumber (renumbering_by names.now) depth) (map plain_obj indices.now))) result }
+    ensures { Writes plain_ty fits_type
+        (family_type family (map (inner.renumber (renumbering_by names.now) depth) (map plain_obj indices.now)))
+        result }
 {
     Ok(Ty::Fam {
         family,
@@ -255,7 +266,8 @@ fn rename_family(
 #[cycle(rename_type)]
 #[tactic(auto, using(crate::specs::PlainTypes::plain_type_laws, crate::proofs::Renumbered::renumber_type_laws))]
 fn rename_type(alloc: Global, ty: &Ty, names: &Renaming, depth: u64) -> Result<Ty, Or<TooFar>>
-    ensures { Writes plain_ty fits_type (inner.renumber_type (renumbering_by names.now) depth (plain_ty ty.now)) result }
+    ensures { Writes plain_ty fits_type (inner.renumber_type (renumbering_by names.now) depth (plain_ty ty.now))
+        result }
 {
     match ty {
         Ty::Fam { family, indices } => {
@@ -293,7 +305,8 @@ fn rename_telescope(
     names: &Renaming,
     depth: u64,
 ) -> Result<Tele, Or<TooFar>>
-    ensures { Writes plain_tele fits_telescope (inner.renumber_telescope (renumbering_by names.now) depth (plain_tele tele.now)) result }
+    ensures { Writes plain_tele fits_telescope
+        (inner.renumber_telescope (renumbering_by names.now) depth (plain_tele tele.now)) result }
 {
     Ok(Tele {
         entries: rename_entries(alloc, tele.entries.as_slice(), names, depth)?,
@@ -308,7 +321,8 @@ fn rename_entries(
     names: &Renaming,
     depth: u64,
 ) -> Result<Items<TeleEntry>, Or<TooFar>>
-    ensures { Writes (λ es. telescope_of (map plain_tele_entry es)) fits_telescope (inner.renumber_telescope (renumbering_by names.now) depth (telescope_of (map plain_tele_entry entries.now))) result }
+    ensures { Writes (λ es. telescope_of (map plain_tele_entry es)) fits_telescope (inner.renumber_telescope
+        (renumbering_by names.now) depth (telescope_of (map plain_tele_entry entries.now))) result }
 {
     let mut inner = depth;
     let mut renamed = Items::new(alloc);
@@ -327,7 +341,8 @@ fn rename_entry(
     names: &Renaming,
     depth: u64,
 ) -> Result<TeleEntry, Or<TooFar>>
-    ensures { Writes plain_tele_entry inner.fits_tele_entry (inner.renumber_tele_entry (renumbering_by names.now) depth (plain_tele_entry entry.now)) result }
+    ensures { Writes plain_tele_entry inner.fits_tele_entry
+        (inner.renumber_tele_entry (renumbering_by names.now) depth (plain_tele_entry entry.now)) result }
 {
     Ok(TeleEntry {
         mode: entry.mode,
@@ -341,7 +356,8 @@ fn rename_arguments(
     names: &Renaming,
     depth: u64,
 ) -> Result<Items<Ty>, Or<TooFar>>
-    ensures { Writes (λ ts. map plain_ty ts) fits_kind (inner.renumber_kind (renumbering_by names.now) depth (map plain_ty args.now)) result }
+    ensures { Writes (λ ts. map plain_ty ts) fits_kind
+        (inner.renumber_kind (renumbering_by names.now) depth (map plain_ty args.now)) result }
 {
     let mut inner = depth;
     let mut renamed = Items::new(alloc);
@@ -363,7 +379,8 @@ fn raising(alloc: Global, by: u32) -> Renaming
 }
 
 impl Obj {
-    /// Every free variable from number `from` on rises by `by`. `TooFar` comes exactly where a number that is written would pass 4,294,967,295.
+    /// Every free variable from number `from` on rises by `by`. `TooFar` comes exactly where a number that is written
+    /// would pass 4,294,967,295.
     #[tactic(auto, using(crate::proofs::Renumbered::shift_laws))]
     pub fn shift(&self, alloc: Global, by: u32, from: u32) -> Result<Obj, Or<TooFar>>
         ensures { Writes plain_obj fits (shifts.shift by from (plain_obj self.now)) result }
@@ -371,7 +388,8 @@ impl Obj {
         rename_object(alloc, self, &raising(alloc, by), u64::from(from))
     }
 
-    /// Each free variable becomes what the renaming says. `TooFar` comes exactly where a number that is written would pass 4,294,967,295.
+    /// Each free variable becomes what the renaming says. `TooFar` comes exactly where a number that is written would
+    /// pass 4,294,967,295.
     #[tactic(auto, using(crate::proofs::Renumbered::rename_laws))]
     pub fn rename(&self, alloc: Global, names: &Renaming) -> Result<Obj, Or<TooFar>>
         ensures { Writes plain_obj fits (spec.ren (renumbering_by names.now) (plain_obj self.now)) result }
@@ -381,7 +399,8 @@ impl Obj {
 }
 
 impl Neutral {
-    /// Every free variable from number `from` on rises by `by`. `TooFar` comes exactly where a number that is written would pass 4,294,967,295.
+    /// Every free variable from number `from` on rises by `by`. `TooFar` comes exactly where a number that is written
+    /// would pass 4,294,967,295.
     #[tactic(auto, using(crate::proofs::Renumbered::shift_laws))]
     pub fn shift(&self, alloc: Global, by: u32, from: u32) -> Result<Neutral, Or<TooFar>>
         ensures { Writes plain_neutral fits_neutral (shifts.shift_neutral by from (plain_neutral self.now)) result }
@@ -389,17 +408,20 @@ impl Neutral {
         rename_neutral(alloc, self, &raising(alloc, by), u64::from(from))
     }
 
-    /// Each free variable becomes what the renaming says. `TooFar` comes exactly where a number that is written would pass 4,294,967,295.
+    /// Each free variable becomes what the renaming says. `TooFar` comes exactly where a number that is written would
+    /// pass 4,294,967,295.
     #[tactic(auto, using(crate::proofs::Renumbered::rename_laws))]
     pub fn rename(&self, alloc: Global, names: &Renaming) -> Result<Neutral, Or<TooFar>>
-        ensures { Writes plain_neutral fits_neutral (spec.ren_neutral (renumbering_by names.now) (plain_neutral self.now)) result }
+        ensures { Writes plain_neutral fits_neutral
+            (spec.ren_neutral (renumbering_by names.now) (plain_neutral self.now)) result }
     {
         rename_neutral(alloc, self, names, 0)
     }
 }
 
 impl Expr {
-    /// Every free variable from number `from` on rises by `by`. `TooFar` comes exactly where a number that is written would pass 4,294,967,295.
+    /// Every free variable from number `from` on rises by `by`. `TooFar` comes exactly where a number that is written
+    /// would pass 4,294,967,295.
     #[tactic(auto, using(crate::proofs::Renumbered::shift_laws))]
     pub fn shift(&self, alloc: Global, by: u32, from: u32) -> Result<Expr, Or<TooFar>>
         ensures { Writes plain_expr fits_expression (shifts.shift_expression by from (plain_expr self.now)) result }
@@ -407,17 +429,20 @@ impl Expr {
         rename_expression(alloc, self, &raising(alloc, by), u64::from(from))
     }
 
-    /// Each free variable becomes what the renaming says. `TooFar` comes exactly where a number that is written would pass 4,294,967,295.
+    /// Each free variable becomes what the renaming says. `TooFar` comes exactly where a number that is written would
+    /// pass 4,294,967,295.
     #[tactic(auto, using(crate::proofs::Renumbered::rename_laws))]
     pub fn rename(&self, alloc: Global, names: &Renaming) -> Result<Expr, Or<TooFar>>
-        ensures { Writes plain_expr fits_expression (spec.ren_expression (renumbering_by names.now) (plain_expr self.now)) result }
+        ensures { Writes plain_expr fits_expression
+            (spec.ren_expression (renumbering_by names.now) (plain_expr self.now)) result }
     {
         rename_expression(alloc, self, names, 0)
     }
 }
 
 impl Ty {
-    /// Every free variable from number `from` on rises by `by`. `TooFar` comes exactly where a number that is written would pass 4,294,967,295.
+    /// Every free variable from number `from` on rises by `by`. `TooFar` comes exactly where a number that is written
+    /// would pass 4,294,967,295.
     #[tactic(auto, using(crate::proofs::Renumbered::shift_laws))]
     pub fn shift(&self, alloc: Global, by: u32, from: u32) -> Result<Ty, Or<TooFar>>
         ensures { Writes plain_ty fits_type (shifts.shift_type by from (plain_ty self.now)) result }
@@ -425,7 +450,8 @@ impl Ty {
         rename_type(alloc, self, &raising(alloc, by), u64::from(from))
     }
 
-    /// Each free variable becomes what the renaming says. `TooFar` comes exactly where a number that is written would pass 4,294,967,295.
+    /// Each free variable becomes what the renaming says. `TooFar` comes exactly where a number that is written would
+    /// pass 4,294,967,295.
     #[tactic(auto, using(crate::proofs::Renumbered::rename_laws))]
     pub fn rename(&self, alloc: Global, names: &Renaming) -> Result<Ty, Or<TooFar>>
         ensures { Writes plain_ty fits_type (spec.ren_type (renumbering_by names.now) (plain_ty self.now)) result }
@@ -435,7 +461,8 @@ impl Ty {
 }
 
 impl Tele {
-    /// Every free variable from number `from` on rises by `by`. `TooFar` comes exactly where a number that is written would pass 4,294,967,295.
+    /// Every free variable from number `from` on rises by `by`. `TooFar` comes exactly where a number that is written
+    /// would pass 4,294,967,295.
     #[tactic(auto, using(crate::proofs::Renumbered::shift_laws))]
     pub fn shift(&self, alloc: Global, by: u32, from: u32) -> Result<Tele, Or<TooFar>>
         ensures { Writes plain_tele fits_telescope (shifts.shift_telescope by from (plain_tele self.now)) result }
@@ -443,17 +470,20 @@ impl Tele {
         rename_telescope(alloc, self, &raising(alloc, by), u64::from(from))
     }
 
-    /// Each free variable becomes what the renaming says. `TooFar` comes exactly where a number that is written would pass 4,294,967,295.
+    /// Each free variable becomes what the renaming says. `TooFar` comes exactly where a number that is written would
+    /// pass 4,294,967,295.
     #[tactic(auto, using(crate::proofs::Renumbered::rename_laws))]
     pub fn rename(&self, alloc: Global, names: &Renaming) -> Result<Tele, Or<TooFar>>
-        ensures { Writes plain_tele fits_telescope (spec.ren_telescope (renumbering_by names.now) (plain_tele self.now)) result }
+        ensures { Writes plain_tele fits_telescope (spec.ren_telescope (renumbering_by names.now) (plain_tele self.now))
+            result }
     {
         rename_telescope(alloc, self, names, 0)
     }
 }
 
 impl Kind {
-    /// Every free variable from number `from` on rises by `by`. `TooFar` comes exactly where a number that is written would pass 4,294,967,295.
+    /// Every free variable from number `from` on rises by `by`. `TooFar` comes exactly where a number that is written
+    /// would pass 4,294,967,295.
     #[tactic(auto, using(crate::proofs::Renumbered::shift_laws))]
     pub fn shift(&self, alloc: Global, by: u32, from: u32) -> Result<Kind, Or<TooFar>>
         ensures { Writes plain_kind fits_kind (shifts.shift_kind by from (plain_kind self.now)) result }
@@ -467,7 +497,8 @@ impl Kind {
         Ok(Kind { args })
     }
 
-    /// Each free variable becomes what the renaming says. `TooFar` comes exactly where a number that is written would pass 4,294,967,295.
+    /// Each free variable becomes what the renaming says. `TooFar` comes exactly where a number that is written would
+    /// pass 4,294,967,295.
     #[tactic(auto, using(crate::proofs::Renumbered::rename_laws))]
     pub fn rename(&self, alloc: Global, names: &Renaming) -> Result<Kind, Or<TooFar>>
         ensures { Writes plain_kind fits_kind (spec.ren_kind (renumbering_by names.now) (plain_kind self.now)) result }

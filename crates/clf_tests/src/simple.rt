@@ -1,4 +1,5 @@
-//! Simple typing, long forms, and the shift at its limit, row by row. Objects and types are written as in `substitution.rt`.
+//! Simple typing, long forms, and the shift at its limit, row by row. Objects and types are written as in
+//! `substitution.rt`.
 
 use crate::substitution::{object, simple_type};
 use clf_simple::{eta, simply_typed};

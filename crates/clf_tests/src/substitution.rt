@@ -1,10 +1,10 @@
 //! What substitution answers, row by row.
 //!
-//! Objects and simple types are written part before whole, a byte for each: a digit is a variable, a small letter a constant, and
-//! the other bytes take what stands before them. `!`, `@` and `-` apply to an argument, `L`, `A` and `N` make a lambda, each of the three modes;
-//! `<` and `>` are the projections, `,` makes a pair and `U` is the unit. `D` makes a monadic object of a tuple with one entry,
-//! and `S` puts a step that binds one variable in front of one. In a simple type a letter is a family, `!`, `@` and `-` make functions,
-//! `&` makes pairs and `M` a monad of one entry.
+//! Objects and simple types are written part before whole, a byte for each: a digit is a variable, a small letter a
+//! constant, and the other bytes take what stands before them. `!`, `@` and `-` apply to an argument, `L`, `A` and `N`
+//! make a lambda, each of the three modes; `<` and `>` are the projections, `,` makes a pair and `U` is the unit. `D`
+//! makes a monadic object of a tuple with one entry, and `S` puts a step that binds one variable in front of one. In a
+//! simple type a letter is a family, `!`, `@` and `-` make functions, `&` makes pairs and `M` a monad of one entry.
 
 use clf_syntax::{
     Elim, Expr, Head, Mode, Modes, Neutral, Obj, Simple, SimpleEntry, Step, TupleEntry, same,
@@ -13,7 +13,8 @@ use hered_put::{PutFault, put_obj};
 use sqlite_items::{Boxed, Items};
 use std::alloc::Global;
 
-/// The simple type of what is put for variable 0, that object, what it is put into, and the result, or `?` where it is untyped.
+/// The simple type of what is put for variable 0, that object, what it is put into, and the result, or `?` where it is
+/// untyped.
 const ROWS: &str = "\
 aa! b0!L 00a!! bba!!
 aa!a! 00a!!L 0b0!L! bba!!

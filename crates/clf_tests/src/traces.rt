@@ -1,8 +1,9 @@
 //! Pairs of traces: whether they are joined, and by which matching.
 //!
-//! A trace is written in words that put trees on a stack: `c3` and `x0` a constant and a variable, `$` and `!` a neutral under an argument, linear or
-//! persistent, `#1` under a projection, `,` a pair, `<>` the unit, `\` a lambda. Between `{` and `}` stand the steps, each a right side with
-//! `=` and the modes of its variables, `L` and `P`, and then the entries of the tuple, each with `.` behind it.
+//! A trace is written in words that put trees on a stack: `c3` and `x0` a constant and a variable, `$` and `!` a
+//! neutral under an argument, linear or persistent, `#1` under a projection, `,` a pair, `<>` the unit, `\` a lambda.
+//! Between `{` and `}` stand the steps, each a right side with `=` and the modes of its variables, `L` and `P`, and
+//! then the entries of the tuple, each with `.` after it.
 use clf_syntax::{Elim, Expr, Head, Mode, Modes, Neutral, Obj, Step, TupleEntry};
 use sqlite_items::{Boxed, Items};
 use std::alloc::Global;

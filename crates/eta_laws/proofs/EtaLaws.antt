@@ -49,7 +49,7 @@ mutual
 abbrev Chosen : ℕ → SimpleType → Head → Image → Type 0
 Chosen k t h i = (i ≡ keep h) ⊎ ((i ≡ put (eta t (head_alone h))) × (rank t ≤ k))
 
--- s is a renaming, but for eta-long forms atomic types of atomic most the rank
+-- s is a renaming, but for eta-long forms of variables whose types have at most the rank
 abbrev pub Near : ℕ → Assignment → Assignment → Renumbering → Environment → Type 0
 Near k g z r s = (h : Head) → (z (ren_head r h) ≡ g h) × ((t : SimpleType) → g h ≡ Some t → Chosen k t (ren_head r h) (s h))
 

@@ -306,7 +306,7 @@ binders-next i s xs h e = ap (λ ss. binders_of (map plain_step ss)) (dropped xs
 
 pub ruleset binders_laws = (binders-next)
 
--- ---- what stands behind steps
+-- ---- what stands after steps
 
 pub steps-behind : (xs ys : List (List Mode × PlainNeutral)) (e : PlainExpression) → steps_on (xs ++ ys) e ≡ steps_on xs (steps_on ys e)
 steps-behind [] ys e = refl
@@ -739,7 +739,7 @@ pub flattened-in : (k j n : ℕ) (e : Expr) (f : PlainExpression) (s : Environme
     → flattened_of k n (plain_expr e) f ≡ steps_before (map plain_step (out-Expr e).steps) (expression_of j s f)
 flattened-in k j n e f s z h q = flattened-nested k j n e f z h ∙ ap (λ t. steps_before (map plain_step (out-Expr e).steps) (expression_of j t f)) (sym q)
 
--- a list behind which one more was pushed
+-- a list after which one more was pushed
 pub pushed : {X Y : Type 0} (f : X → Y) (xs : List X) (x : X) (new : List X) → new ≡ xs ++ x ∷ [] → map f new ≡ map f xs ++ f x ∷ []
 pushed f xs x new e = ap (map f) e ∙ map-append f xs (x ∷ [])
 

@@ -126,7 +126,7 @@ module _ (F : Type 0) (w : Bool) (k : ℕ) (again : Again) (lower : FineAgain F 
   second-fine z r c d (kept n) a = (typed_snd a.0, a.1)
   second-fine z r c d (value v) a = (parts-fine z r v a.0 a.1).1
 
-  -- an expression and what stands behind it
+  -- an expression and what stands after it
   pub flattened-fine : (g z : Assignment) {e : PlainExpression} {ts : SimpleTelescope} → TypedExpression w z e ts → ranks ts < k → (p n : ℕ) → n ≡ length (simple_modes ts) → ((h : Head) → z (ren_head (up p) h) ≡ g h)
       → (f : PlainExpression) (us : SimpleTelescope) → TypedExpression w (extended_by ts g) f us → FineUnless F (flattened again p n e f) (λ x. TypedExpression w z x us)
   flattened-fine g z {ts = ts} (typed_step {ms = ms} {r = r} {e = e} {ts = ps} a m b) h p n i j f us t =

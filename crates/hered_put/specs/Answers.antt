@@ -4,7 +4,7 @@ use Rattle.hered_put.specs.declared.fault.PutFault.{PutFault}
 use Rattle.hered_put.specs.declared.fault.PutFault.TheVariants.{Untyped, TooFar, NoMemory}
 use Rattle.hered_put.specs.Function.{Answer, made, untyped, too_far}
 
--- It answers so where the function makes nothing. Want of memory is free.
+-- It answers so where the function makes nothing. Lack of memory is free.
 abbrev pub FailsAs : {P : Type 0} → Answer P → PutFault → Type 0
 FailsAs want Untyped = want ≡ untyped
 FailsAs want TooFar = want ≡ too_far

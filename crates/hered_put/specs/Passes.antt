@@ -34,7 +34,7 @@ mutual
     passes_flattened : {s : Environment} {ms : List Mode} {r : PlainNeutral} {e f g : PlainExpression} → HasValue s r (monadic g) → SubstitutedExpression (under (length ms) s) e f → PassesFlattened 0 g f → PassesExpression s (step ms r e)
     passes_tuple : {s : Environment} {t : PlainTuple} → PassesTuple s t → PassesExpression s (done t)
 
-  -- PassesFlattened p g f: behind p binders the steps of g come, and then f with the tuple of g put for its newest variables.
+  -- PassesFlattened p g f: after p binders the steps of g come, and then f with the tuple of g put for its newest variables.
   pub data PassesFlattened : ℕ → PlainExpression → PlainExpression → Type 0 where
     passes_behind : {p : ℕ} {ms : List Mode} {r : PlainNeutral} {g f : PlainExpression} → PassesFlattened (p + length ms) g f → PassesFlattened p (step ms r g) f
     passes_there : {p : ℕ} {t : PlainTuple} {f : PlainExpression} → PassesExpression (tupled (objects t) p) f → PassesFlattened p (done t) f

@@ -52,7 +52,8 @@ impl Bound {
     }
 }
 
-/// The rank of a simple type, which bounds how deep an object of it nests where it is put. No type of 2^64 parts fits memory.
+/// The rank of a simple type, which bounds how deep an object of it nests where it is put. No type of 2^64 parts fits
+/// memory.
 #[cycle(rank)]
 #[tactic(auto, using(clf_syntax::specs::PlainSimple::plain_simple_laws))]
 pub fn type_rank(simple: &Simple) -> Result<u64, AllocError>

@@ -57,7 +57,7 @@ impl<'a> Environment<'a> {
         }
     }
 
-    /// A tuple for the newest variables, behind the binders of the steps in front.
+    /// A tuple for the newest variables, after the binders of the steps in front.
     pub fn tuple(tuple: &'a [TupleEntry], raised: u64) -> Environment<'a>
         ensures { environment_of result ≡ tupled (objects (tuple_of (map plain_entry tuple.now))) raised }
     {

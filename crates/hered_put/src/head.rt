@@ -71,7 +71,8 @@ fn object_outcome(
     binders: u32,
 ) -> Result<Outcome, PutFault>
     requires { index + binders < 2 ^ 32 }
-    ensures { Answers plain_outcome (image_of (ren_image (up binders) (single (plain_obj obj.now) var (Var index)))) result }
+    ensures { Answers plain_outcome (image_of (ren_image (up binders) (single (plain_obj obj.now) var (Var index))))
+        result }
 {
     if index < var {
         Ok(kept_head(alloc, Head::Var(index + binders)))
@@ -90,7 +91,8 @@ fn tuple_outcome(
     raised: u64,
     binders: u32,
 ) -> Result<Outcome, PutFault>
-    ensures { Answers plain_outcome (image_of (ren_image (up binders) (tupled (objects (tuple_of (map plain_entry tuple.now))) raised (Var index)))) result }
+    ensures { Answers plain_outcome (image_of (ren_image (up binders)
+        (tupled (objects (tuple_of (map plain_entry tuple.now))) raised (Var index)))) result }
 {
     let place = index as usize;
     if place < tuple.len() {

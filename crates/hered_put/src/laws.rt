@@ -6,7 +6,8 @@ pub fn bounded_substitution()
     ensures { FunctionIsSound }
 {}
 
-/// Where an assignment of simple types types both sides, the function with the rank of what is put does not give up, and what it makes is typed.
+/// Where an assignment of simple types types both sides, the function with the rank of what is put does not give up,
+/// and what it makes is typed.
 pub fn typed_substitution()
     ensures objects { FunctionIsTyped }
     ensures types { FunctionKeepsForms }
@@ -18,8 +19,8 @@ pub fn flattened_substitution()
     ensures typed { FlattenedIsTyped }
 {}
 
-/// Where what is written need not fit, the function makes what the rules of substitution relate; and it answers as where it has to fit,
-/// unless there it goes too far.
+/// Where what is written need not fit, the function makes what the rules of substitution relate; and it answers as
+/// where it has to fit, unless there it goes too far.
 pub fn free_substitution()
     ensures makes { FreelyMakes }
     ensures limit { FreelyAnswersAs }

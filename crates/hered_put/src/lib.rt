@@ -17,4 +17,6 @@ pub use fault::PutFault;
 pub use laws::{
     bounded_substitution, flattened_substitution, free_substitution, typed_substitution,
 };
+pub use object::with_elimination;
 pub use put::{flatten_let, put_args, put_entries, put_expr, put_obj, put_tuple, put_ty};
+pub use step::Rest;

@@ -25,7 +25,8 @@ pub fn put_object(
     environment: &Environment<'_>,
     bound: Bound,
 ) -> Result<Obj, PutFault>
-    ensures { Answers plain_obj (piece.object_of bound.rank (environment_of environment.now) (plain_obj obj.now)) result }
+    ensures { Answers plain_obj (piece.object_of bound.rank (environment_of environment.now) (plain_obj obj.now))
+        result }
 {
     let inside = bound.inside()?;
     match obj {
@@ -68,7 +69,8 @@ fn put_neutral(
     environment: &Environment<'_>,
     bound: Bound,
 ) -> Result<Outcome, PutFault>
-    ensures { Answers plain_outcome (piece.neutral_of bound.rank (environment_of environment.now) (plain_neutral neutral.now)) result }
+    ensures { Answers plain_outcome
+        (piece.neutral_of bound.rank (environment_of environment.now) (plain_neutral neutral.now)) result }
 {
     let mut outcome = head_outcome(alloc, neutral.head, environment)?;
     for act in neutral.spine.as_slice() {
@@ -86,7 +88,8 @@ fn eliminate(
     environment: &Environment<'_>,
     bound: Bound,
 ) -> Result<Outcome, PutFault>
-    ensures { Answers plain_outcome (piece.eliminated_of bound.rank (environment_of environment.now) (plain_elim act.now) (plain_outcome outcome)) result }
+    ensures { Answers plain_outcome (piece.eliminated_of bound.rank (environment_of environment.now)
+        (plain_elim act.now) (plain_outcome outcome)) result }
 {
     match act {
         Elim::Arg { mode, obj } => {
@@ -98,9 +101,9 @@ fn eliminate(
     }
 }
 
-/// A neutral under one elimination more.
+/// A neutral under one elimination more. It fails only where memory runs out.
 #[tactic(auto, using(clf_syntax::specs::Plain::plain_laws, crate::proofs::Pieces::spine_laws))]
-fn with_elimination(neutral: Neutral, act: Elim) -> Result<Neutral, AllocError>
+pub fn with_elimination(neutral: Neutral, act: Elim) -> Result<Neutral, AllocError>
     ensures { IfOk result (λ n. plain_neutral n ≡ eliminated (plain_elim act) (plain_neutral neutral)) }
 {
     let Neutral { head, mut spine } = neutral;
@@ -118,7 +121,8 @@ fn apply(
     argument: Obj,
     bound: Bound,
 ) -> Result<Outcome, PutFault>
-    ensures { Answers plain_outcome (piece.argued_of bound.rank mode (plain_outcome outcome) (plain_obj argument)) result }
+    ensures { Answers plain_outcome (piece.argued_of bound.rank mode (plain_outcome outcome) (plain_obj argument))
+        result }
 {
     match outcome {
         Outcome::Kept(neutral) => {
@@ -145,7 +149,8 @@ fn apply_value(
     argument: &Obj,
     bound: Bound,
 ) -> Result<Obj, PutFault>
-    ensures { Answers plain_obj (piece.applied_of bound.rank mode (plain_obj value.now) (plain_obj argument.now)) result }
+    ensures { Answers plain_obj (piece.applied_of bound.rank mode (plain_obj value.now) (plain_obj argument.now))
+        result }
 {
     match value {
         Obj::Lam { mode: wanted, body } => {
@@ -214,7 +219,8 @@ pub fn put_expression(
     environment: &Environment<'_>,
     bound: Bound,
 ) -> Result<Expr, PutFault>
-    ensures { Answers plain_expr (piece.expression_of bound.rank (environment_of environment.now) (plain_expr expr.now)) result }
+    ensures { Answers plain_expr (piece.expression_of bound.rank (environment_of environment.now) (plain_expr expr.now))
+        result }
 {
     let mut inner = *environment;
     let mut steps = Items::new(alloc);
@@ -234,7 +240,8 @@ fn put_step(
     environment: &Environment<'_>,
     bound: Bound,
 ) -> Result<Coming, PutFault>
-    ensures { Answers plain_coming (piece.step_of bound.rank (environment_of environment.now) (plain_step step.now)) result }
+    ensures { Answers plain_coming (piece.step_of bound.rank (environment_of environment.now) (plain_step step.now))
+        result }
 {
     let outcome = put_neutral(alloc, &step.rhs, environment, bound)?;
     in_place(alloc, &step.modes, outcome)
@@ -248,7 +255,8 @@ fn put_tuple(
     environment: &Environment<'_>,
     bound: Bound,
 ) -> Result<Items<TupleEntry>, PutFault>
-    ensures { Answers (λ es. map plain_entry es) (piece.entries_of bound.rank (environment_of environment.now) (map plain_entry tuple.now)) result }
+    ensures { Answers (λ es. map plain_entry es)
+        (piece.entries_of bound.rank (environment_of environment.now) (map plain_entry tuple.now)) result }
 {
     let mut entries = Items::new(alloc);
     for entry in tuple {
@@ -265,7 +273,8 @@ fn put_entry(
     environment: &Environment<'_>,
     bound: Bound,
 ) -> Result<TupleEntry, PutFault>
-    ensures { Answers plain_entry (piece.entry_of bound.rank (environment_of environment.now) (plain_entry entry.now)) result }
+    ensures { Answers plain_entry (piece.entry_of bound.rank (environment_of environment.now) (plain_entry entry.now))
+        result }
 {
     Ok(TupleEntry {
         mode: entry.mode,
@@ -316,7 +325,8 @@ pub fn flatten(
     rest: &Expr,
     bound: Bound,
 ) -> Result<Expr, PutFault>
-    ensures { Answers plain_expr (piece.flattened_of bound.rank binders (plain_expr value) (plain_expr rest.now)) result }
+    ensures { Answers plain_expr (piece.flattened_of bound.rank binders (plain_expr value) (plain_expr rest.now))
+        result }
 {
     if value.result.len() != binders {
         return Err(PutFault::Untyped);

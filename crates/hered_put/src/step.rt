@@ -135,7 +135,7 @@ impl Rest {
         })
     }
 
-    /// The same behind one step more.
+    /// The same after one step more.
     #[tactic(auto, using(clf_syntax::specs::Plain::plain_laws, crate::proofs::Pieces::rest_laws))]
     pub fn behind(self, step: Step) -> Result<Rest, AllocError>
         ensures { IfOk result (λ r. plain_rest r ≡ steps_on (plain_step step ∷ []) (plain_rest self)) }

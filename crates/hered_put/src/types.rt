@@ -22,7 +22,8 @@ fn put_indices(
     environment: &Environment<'_>,
     bound: Bound,
 ) -> Result<Items<Obj>, PutFault>
-    ensures { Answers (λ ns. map plain_obj ns) (piece.indices_of bound.rank (environment_of environment.now) (map plain_obj indices.now)) result }
+    ensures { Answers (λ ns. map plain_obj ns)
+        (piece.indices_of bound.rank (environment_of environment.now) (map plain_obj indices.now)) result }
 {
     let mut put = Items::new(alloc);
     for index in indices {
@@ -39,7 +40,8 @@ fn put_family(
     environment: &Environment<'_>,
     bound: Bound,
 ) -> Result<Ty, PutFault>
-    ensures { Answers plain_ty (piece.family_of family (piece.indices_of bound.rank (environment_of environment.now) (map plain_obj indices.now))) result }
+    ensures { Answers plain_ty (piece.family_of family
+        (piece.indices_of bound.rank (environment_of environment.now) (map plain_obj indices.now))) result }
 {
     Ok(Ty::Fam {
         family,
@@ -94,14 +96,15 @@ fn put_telescope(
     environment: &Environment<'_>,
     bound: Bound,
 ) -> Result<Tele, PutFault>
-    ensures { Answers plain_tele (piece.tele_of bound.rank (environment_of environment.now) (plain_tele tele.now)) result }
+    ensures { Answers plain_tele (piece.tele_of bound.rank (environment_of environment.now) (plain_tele tele.now))
+        result }
 {
     Ok(Tele {
         entries: put_tele_entries(alloc, tele.entries.as_slice(), environment, bound)?,
     })
 }
 
-/// In the rest of a telescope, each entry of which binds a variable in those behind it.
+/// In the rest of a telescope, each entry of which binds a variable in those after it.
 #[cycle(put_type)]
 #[tactic(auto, using(clf_syntax::specs::PlainTypes::plain_type_laws, crate::proofs::TypePieces::entries_laws))]
 pub fn put_tele_entries(
@@ -110,7 +113,8 @@ pub fn put_tele_entries(
     environment: &Environment<'_>,
     bound: Bound,
 ) -> Result<Items<TeleEntry>, PutFault>
-    ensures { Answers (λ es. telescope_of (map plain_tele_entry es)) (piece.tele_of bound.rank (environment_of environment.now) (telescope_of (map plain_tele_entry entries.now))) result }
+    ensures { Answers (λ es. telescope_of (map plain_tele_entry es)) (piece.tele_of bound.rank
+        (environment_of environment.now) (telescope_of (map plain_tele_entry entries.now))) result }
 {
     let mut inner = *environment;
     let mut put = Items::new(alloc);
@@ -129,7 +133,8 @@ fn put_tele_entry(
     environment: &Environment<'_>,
     bound: Bound,
 ) -> Result<TeleEntry, PutFault>
-    ensures { Answers plain_tele_entry (piece.tele_entry_of bound.rank (environment_of environment.now) (plain_tele_entry entry.now)) result }
+    ensures { Answers plain_tele_entry
+        (piece.tele_entry_of bound.rank (environment_of environment.now) (plain_tele_entry entry.now)) result }
 {
     Ok(TeleEntry {
         mode: entry.mode,
@@ -137,7 +142,7 @@ fn put_tele_entry(
     })
 }
 
-/// In the rest of a kind, each argument of which binds a variable in those behind it.
+/// In the rest of a kind, each argument of which binds a variable in those after it.
 #[tactic(auto, using(crate::proofs::TypePieces::kind_laws))]
 pub fn put_kind_args(
     alloc: Global,
@@ -145,7 +150,8 @@ pub fn put_kind_args(
     environment: &Environment<'_>,
     bound: Bound,
 ) -> Result<Items<Ty>, PutFault>
-    ensures { Answers (λ ts. map plain_ty ts) (piece.kind_of bound.rank (environment_of environment.now) (map plain_ty args.now)) result }
+    ensures { Answers (λ ts. map plain_ty ts)
+        (piece.kind_of bound.rank (environment_of environment.now) (map plain_ty args.now)) result }
 {
     let mut inner = *environment;
     let mut put = Items::new(alloc);

@@ -1,7 +1,8 @@
 //! Laws of joined trees, stated by functions that do nothing.
 ghost use Rattle.joined_laws.specs.Laws.{JoinedInstances, JoinedKeepsTypes, JoinedPut, JoinedTypesLaws, JoinedUnder, RenamingKeepsJoined, Respects};
 
-/// To be joined is an equivalence, also of types, telescopes, kinds and lists. Renamings keep it, and joined trees have the same simple types.
+/// To be joined is an equivalence, also of types, telescopes, kinds and lists. Renamings keep it, and joined trees have
+/// the same simple types.
 pub fn joined()
     ensures equivalence { JoinedTypesLaws }
     ensures renamed { RenamingKeepsJoined }

@@ -169,7 +169,7 @@ un-solved xs m o ts rs h = record { typed = typed; placed = length-set rs m None
         (λ i. let (u, g) = h.solving k p (sym (get-set_other rs m k None i) ∙ e) in ⊎_elim (λ f. (u, f)) (λ f. absurd (i (cc (f.1)))) (get-split xs (Solved m o) p (Solved k u) g))
         (number_cases k m)
 
--- what is told, and what is told after the last addition was taken back
+-- what is said, and what is said after the last addition was taken back
 pub record IsBack (old new : Tables) : Type 0 where
   pub tables : AreTables new
   pub one : length old.added ≡ length new.added + 1

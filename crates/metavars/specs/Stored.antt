@@ -37,7 +37,7 @@ with_addition s a = record { constants = s.constants; added = s.added ++ a ∷ [
 abbrev pub cut_to : ℕ → Stored → Stored
 cut_to n s = record { constants = s.constants; added = take n s.added }
 
--- The second has what the first has, and perhaps more additions behind.
+-- The second has what the first has, and perhaps more additions after.
 abbrev pub IsPart : Stored → Stored → Type 0
 IsPart s t = (t.constants ≡ s.constants) × ((more : List Added) × (t.added ≡ s.added ++ more))
 

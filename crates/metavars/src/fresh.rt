@@ -12,7 +12,6 @@ ghost use Rattle.metavars.specs.Fresh as fresh;
 ghost use Rattle.metavars.specs.Scopes.{plain_local, plain_scope, function_by, applied_by};
 ghost use Rattle.metavars.specs.Stored.{constants, additions, IsPart};
 
-use crate::simple::copy_simple;
 use crate::store::Store;
 use crate::value::{bare, with_elimination};
 use clf_simple::eta;
@@ -29,13 +28,20 @@ pub struct Local<'a> {
 }
 
 impl Store {
-    /// An object of a simple type that is made of new metavariables: one for each family and monad that the type ends in.
+    /// An object of a simple type that is made of new metavariables: one for each family and monad that the type ends
+    /// in.
     ///
-    /// Each is applied to the persistent locals, the oldest first, and then to the binders of the object around it, each in its mode.
-    /// `locals` has the oldest first.
+    /// Each is applied to the persistent locals, the oldest first, and then to the binders of the object around it,
+    /// each in its mode. `locals` has the oldest first.
     pub fn fresh(&mut self, ty: &Simple, locals: &[SimpleEntry]) -> Result<Obj, Want>
-        ensures object { IfOk result (λ x. plain_obj x ≡ fresh_object (length (meta_types (additions self.old))) (scope_of (map plain_simple_entry (reverse locals.now))) (plain_simple ty.now)) }
-        ensures added { OnOk result (additions self.new ≡ additions self.old ++ map new (new_types (scope_of (map plain_simple_entry (reverse locals.now))) (plain_simple ty.now))) }
+        ensures object { IfOk result (λ x.
+            plain_obj x
+            ≡ fresh_object (length (meta_types (additions self.old)))
+            (scope_of (map plain_simple_entry (reverse locals.now))) (plain_simple ty.now)) }
+        ensures added { OnOk result (additions self.new
+            ≡ additions self.old
+            ++ map new (new_types (scope_of (map plain_simple_entry (reverse locals.now)))
+            (plain_simple ty.now))) }
         ensures constants { constants self.new ≡ constants self.old }
         ensures unchanged { OnErr result (self.new ≡ self.old) }
         ensures wanting { IfErr result IsWant }
@@ -52,8 +58,14 @@ impl Store {
 
     /// The same, where the additions stay after a want.
     fn fresh_in(&mut self, ty: &Simple, locals: &[SimpleEntry]) -> Result<Obj, Want>
-        ensures object { IfOk result (λ x. plain_obj x ≡ fresh_object (length (meta_types (additions self.old))) (scope_of (map plain_simple_entry (reverse locals.now))) (plain_simple ty.now)) }
-        ensures added { OnOk result (additions self.new ≡ additions self.old ++ map new (new_types (scope_of (map plain_simple_entry (reverse locals.now))) (plain_simple ty.now))) }
+        ensures object { IfOk result (λ x.
+            plain_obj x
+            ≡ fresh_object (length (meta_types (additions self.old)))
+            (scope_of (map plain_simple_entry (reverse locals.now))) (plain_simple ty.now)) }
+        ensures added { OnOk result (additions self.new
+            ≡ additions self.old
+            ++ map new (new_types (scope_of (map plain_simple_entry (reverse locals.now)))
+            (plain_simple ty.now))) }
         ensures grown { IsPart self.old self.new }
         ensures wanting { IfErr result IsWant }
     {
@@ -98,8 +110,12 @@ fn is_persistent(mode: Mode) -> bool
 #[cycle(make)]
 #[tactic(auto, using(clf_syntax::specs::Plain::plain_laws, clf_syntax::specs::PlainSimple::plain_simple_laws))]
 fn make<'a>(store: &mut Store, ty: &'a Simple, scope: Vec<Local<'a>>) -> Result<Obj, Want>
-    ensures object { IfOk result (λ x. plain_obj x ≡ fresh_object (length (meta_types (additions store.old))) (plain_scope scope.entry.items) (plain_simple ty.now)) }
-    ensures added { OnOk result (additions store.new ≡ additions store.old ++ map new (new_types (plain_scope scope.entry.items) (plain_simple ty.now))) }
+    ensures object { IfOk result (λ x.
+        plain_obj x
+        ≡ fresh_object (length (meta_types (additions store.old))) (plain_scope scope.entry.items)
+        (plain_simple ty.now)) }
+    ensures added { OnOk result (additions store.new
+        ≡ additions store.old ++ map new (new_types (plain_scope scope.entry.items) (plain_simple ty.now))) }
     ensures grown { IsPart store.old store.new }
     ensures wanting { IfErr result IsWant }
 {
@@ -127,8 +143,16 @@ fn make_pair<'a>(
     right: &'a Simple,
     scope: Vec<Local<'a>>,
 ) -> Result<Obj, Want>
-    ensures object { IfOk result (λ x. plain_obj x ≡ pair (fresh_object (length (meta_types (additions store.old))) (plain_scope scope.entry.items) (plain_simple left.now)) (fresh_object (length (meta_types (additions store.old)) + length (new_types (plain_scope scope.entry.items) (plain_simple left.now))) (plain_scope scope.entry.items) (plain_simple right.now))) }
-    ensures added { OnOk result (additions store.new ≡ additions store.old ++ map new (new_types (plain_scope scope.entry.items) (plain_simple left.now) ++ new_types (plain_scope scope.entry.items) (plain_simple right.now))) }
+    ensures object { IfOk result (λ x.
+        plain_obj x
+        ≡ pair (fresh_object (length (meta_types (additions store.old))) (plain_scope scope.entry.items)
+        (plain_simple left.now)) (fresh_object (length (meta_types (additions store.old))
+        + length (new_types (plain_scope scope.entry.items) (plain_simple left.now)))
+        (plain_scope scope.entry.items) (plain_simple right.now))) }
+    ensures added { OnOk result (additions store.new
+        ≡ additions store.old
+        ++ map new (new_types (plain_scope scope.entry.items) (plain_simple left.now)
+        ++ new_types (plain_scope scope.entry.items) (plain_simple right.now))) }
     ensures grown { IsPart store.old store.new }
     ensures wanting { IfErr result IsWant }
 {
@@ -148,7 +172,8 @@ fn with_binder<'a>(
     mode: Mode,
     ty: &'a Simple,
 ) -> Result<Vec<Local<'a>>, AllocError>
-    ensures { IfOk result (λ inner. plain_scope inner.items ≡ binder mode (plain_simple ty.now) ∷ plain_scope scope.entry.items) }
+    ensures { IfOk result
+        (λ inner. plain_scope inner.items ≡ binder mode (plain_simple ty.now) ∷ plain_scope scope.entry.items) }
 {
     let mut inner = scope;
     inner.push(Local {
@@ -161,13 +186,15 @@ fn with_binder<'a>(
 
 /// A new metavariable, applied to the scope.
 fn make_meta(store: &mut Store, ty: &Simple, scope: &[Local<'_>]) -> Result<Obj, Want>
-    ensures object { IfOk result (λ x. plain_obj x ≡ on_scope (length (meta_types (additions store.old))) (plain_scope scope.now)) }
-    ensures added { OnOk result (additions store.new ≡ additions store.old ++ new (functions (plain_scope scope.now) (plain_simple ty.now)) ∷ []) }
+    ensures object { IfOk result
+        (λ x. plain_obj x ≡ on_scope (length (meta_types (additions store.old))) (plain_scope scope.now)) }
+    ensures added { OnOk result (additions store.new
+        ≡ additions store.old ++ new (functions (plain_scope scope.now) (plain_simple ty.now)) ∷ []) }
     ensures grown { IsPart store.old store.new }
     ensures wanting { IfErr result IsWant }
 {
     let alloc = store.alloc();
-    let simple = function_of(alloc, scope, copy_simple(alloc, ty)?)?;
+    let simple = function_of(alloc, scope, ty.copy(alloc)?)?;
     let meta = store.new_meta(simple)?;
     Ok(Obj::At {
         neutral: apply_to(alloc, meta, scope)?,
@@ -195,7 +222,7 @@ fn function_from(alloc: Global, local: &Local<'_>, cod: Simple) -> Result<Simple
     if !local.applied {
         return Ok(cod);
     }
-    let dom = copy_simple(alloc, local.ty)?;
+    let dom = local.ty.copy(alloc)?;
     Ok(Simple::Fun {
         mode: local.mode,
         dom: Boxed::new(alloc, dom)?,
@@ -205,7 +232,8 @@ fn function_from(alloc: Global, local: &Local<'_>, cod: Simple) -> Result<Simple
 
 /// A metavariable, applied to the variables that are used.
 fn apply_to(alloc: Global, meta: u32, scope: &[Local<'_>]) -> Result<Neutral, Want>
-    ensures neutral { IfOk result (λ n. plain_neutral n ≡ applied_from 0 (plain_scope scope.now) (head_alone (Meta meta))) }
+    ensures neutral { IfOk result
+        (λ n. plain_neutral n ≡ applied_from 0 (plain_scope scope.now) (head_alone (Meta meta))) }
     ensures wanting { IfErr result IsWant }
 {
     let mut neutral = bare(alloc, Head::Meta(meta));
@@ -225,7 +253,8 @@ fn apply_local(
     local: &Local<'_>,
     index: usize,
 ) -> Result<Neutral, Want>
-    ensures neutral { IfOk result (λ n. plain_neutral n ≡ applied_by (plain_local local.now) index (plain_neutral neutral)) }
+    ensures neutral { IfOk result
+        (λ n. plain_neutral n ≡ applied_by (plain_local local.now) index (plain_neutral neutral)) }
     ensures wanting { IfErr result IsWant }
 {
     if !local.applied {

@@ -16,7 +16,8 @@ use clf_syntax::{Obj, Ty, Want};
 use hered_put::PutFault;
 use std::alloc::Global;
 
-/// The want of a call whose substitution failed. What is simply typed is never refused as untyped where there is memory for the ranks of its types.
+/// The want of a call whose substitution failed. What is simply typed is never refused as untyped where there is memory
+/// for the ranks of its types.
 fn want(alloc: Global, fault: PutFault) -> Want
     ensures { IsWant result }
 {
@@ -29,7 +30,9 @@ fn want(alloc: Global, fault: PutFault) -> Want
 impl Store {
     /// The object with all solutions put in. A hole stays.
     pub fn instantiate(&self, obj: &Obj) -> Result<Obj, Want>
-        ensures put_in { IfOk result (λ x. (s : Instantiation) → PutIn (given (additions self.now)) s → IsClosed s → Substituted (instant s) (plain_obj obj.now) (plain_obj x)) }
+        ensures put_in { IfOk result (λ x.
+            (s : Instantiation) → PutIn (given (additions self.now)) s →
+            IsClosed s → Substituted (instant s) (plain_obj obj.now) (plain_obj x)) }
         ensures wanting { IfErr result IsWant }
     {
         let alloc = self.alloc();
@@ -41,7 +44,9 @@ impl Store {
 
     /// The type with all solutions put in. A hole stays.
     pub fn instantiate_ty(&self, ty: &Ty) -> Result<Ty, Want>
-        ensures put_in { IfOk result (λ x. (s : Instantiation) → PutIn (given (additions self.now)) s → IsClosed s → SubstitutedType (instant s) (plain_ty ty.now) (plain_ty x)) }
+        ensures put_in { IfOk result (λ x.
+            (s : Instantiation) → PutIn (given (additions self.now)) s →
+            IsClosed s → SubstitutedType (instant s) (plain_ty ty.now) (plain_ty x)) }
         ensures wanting { IfErr result IsWant }
     {
         let alloc = self.alloc();

@@ -1,7 +1,8 @@
 //! Solutions, put in as they are looked at.
 //!
-//! A solution has no free variable, so the walk counts no binders. Where a neutral's head is solved, the solution is walked
-//! through in its place, so a solution is written out once for each place where it is looked at, and no tree is gone over again.
+//! A solution has no free variable, so the walk counts no binders. Where a neutral's head is solved, the solution is
+//! walked through in its place, so a solution is written out once for each place where it is looked at, and no tree is
+//! gone over again.
 ghost use Rattle.std.specs.Prelude.{◌≡◌, [], ◌∷◌, IfOk, length, map};
 ghost use Rattle.clf_syntax.specs.declared.tree.Head.TheVariants.{Meta};
 ghost use Rattle.clf_syntax.specs.Tree.{PlainNeutral, PlainExpression, head_alone, eliminated, steps_on};
@@ -160,7 +161,9 @@ fn eliminate<'a>(
     act: &Elim,
     outcome: Outcome<'a>,
 ) -> Result<Outcome<'a>, PutFault>
-    ensures { IfOk result (λ o. (n : PlainNeutral) → BecomesOutcome looking.now.store.now n outcome.entry → BecomesOutcome looking.now.store.now (eliminated (plain_elim act.now) n) o) }
+    ensures { IfOk result (λ o.
+        (n : PlainNeutral) → BecomesOutcome looking.now.store.now n outcome.entry →
+        BecomesOutcome looking.now.store.now (eliminated (plain_elim act.now) n) o) }
 {
     match act {
         Elim::Arg { mode, obj } => {
@@ -234,7 +237,9 @@ fn put_expression(looking: &Looking<'_>, expr: &Expr) -> Result<Expr, PutFault>
 #[cycle(put)]
 #[tactic(auto, using(clf_syntax::specs::Plain::plain_laws, crate::proofs::Becomings::becoming_laws))]
 fn put_step(looking: &Looking<'_>, step: &Step, rest: Rest) -> Result<Rest, PutFault>
-    ensures { IfOk result (λ r. (e : PlainExpression) → becoming.Expression looking.now.store.now e (plain_rest rest) → becoming.Expression looking.now.store.now (steps_on (plain_step step.now ∷ []) e) (plain_rest r)) }
+    ensures { IfOk result (λ r.
+        (e : PlainExpression) → becoming.Expression looking.now.store.now e (plain_rest rest) →
+        becoming.Expression looking.now.store.now (steps_on (plain_step step.now ∷ []) e) (plain_rest r)) }
 {
     let outcome = put_neutral(looking, &step.rhs)?;
     in_front(looking.alloc, &step.modes, outcome, rest)
@@ -312,7 +317,8 @@ fn meta_in_front(alloc: Global, modes: &Modes, rhs: Neutral, rest: Rest) -> Resu
 #[cycle(put)]
 #[tactic(auto, using(clf_syntax::specs::Plain::plain_laws, crate::proofs::Becomings::becoming_laws))]
 fn put_tuple(looking: &Looking<'_>, tuple: &[TupleEntry]) -> Result<Items<TupleEntry>, PutFault>
-    ensures { IfOk result (λ es. becoming.Each (becoming.Entry looking.now.store.now) (map plain_entry tuple.now) (map plain_entry es)) }
+    ensures { IfOk result (λ es.
+        becoming.Each (becoming.Entry looking.now.store.now) (map plain_entry tuple.now) (map plain_entry es)) }
 {
     let mut entries = Items::new(looking.alloc);
     for entry in tuple {

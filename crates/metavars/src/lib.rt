@@ -6,7 +6,6 @@ mod instance;
 mod instantiate;
 mod laws;
 mod rest;
-mod simple;
 mod store;
 mod tables;
 mod types;

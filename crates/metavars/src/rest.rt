@@ -72,7 +72,7 @@ impl Rest {
         })
     }
 
-    /// The same behind a step with a right side.
+    /// The same after a step with a right side.
     pub fn behind(self, alloc: Global, modes: &Modes, rhs: Neutral) -> Result<Rest, AllocError>
         ensures { IfOk result (λ r. plain_rest r ≡ step modes.now (plain_neutral rhs) (plain_rest self)) }
     {
@@ -80,7 +80,7 @@ impl Rest {
         Ok(self.behind_step(added)?)
     }
 
-    /// The same behind one step more.
+    /// The same after one step more.
     #[tactic(auto, using(clf_syntax::specs::Plain::plain_laws, crate::proofs::Rests::rest_laws))]
     fn behind_step(self, added: Step) -> Result<Rest, AllocError>
         ensures { IfOk result (λ r. plain_rest r ≡ steps_on (plain_step added ∷ []) (plain_rest self)) }

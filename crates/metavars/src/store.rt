@@ -7,14 +7,14 @@ ghost use Rattle.clf_syntax.specs.PlainSimple.{plain_simple};
 ghost use Rattle.store_laws.specs.Additions.{meta_types, given};
 ghost use Rattle.metavars.specs.Stored.{constants, additions, added_new, added_solved, with_addition, cut_to};
 
-use crate::simple::copy_simples;
 use crate::tables::Tables;
-use clf_syntax::{Obj, Simple, Want};
+use clf_syntax::{Obj, Simple, Want, copy_simples};
 use sqlite_items::Items;
 use std::alloc::Global;
 use std::marker::Model;
 
-/// The metavariables so far, with their solutions. Contracts see the simple types of the constants, and the list of what was added.
+/// The metavariables so far, with their solutions. Contracts see the simple types of the constants, and the list of
+/// what was added.
 #[derive(Drop)]
 pub struct Store {
     alloc: Global,

@@ -45,7 +45,8 @@ pub fn put_type(looking: &Looking<'_>, ty: &Ty) -> Result<Ty, PutFault>
 }
 
 fn put_indices(looking: &Looking<'_>, indices: &[Obj]) -> Result<Items<Obj>, PutFault>
-    ensures { IfOk result (λ xs. becoming.Each (becoming.Object looking.now.store.now) (map plain_obj indices.now) (map plain_obj xs)) }
+    ensures { IfOk result (λ xs.
+        becoming.Each (becoming.Object looking.now.store.now) (map plain_obj indices.now) (map plain_obj xs)) }
 {
     let mut put = Items::new(looking.alloc);
     for index in indices {
@@ -66,7 +67,9 @@ fn put_telescope(looking: &Looking<'_>, tele: &Tele) -> Result<Tele, PutFault>
 
 #[cycle(put_type)]
 fn put_entries(looking: &Looking<'_>, entries: &[TeleEntry]) -> Result<Items<TeleEntry>, PutFault>
-    ensures { IfOk result (λ xs. becoming.Each (becoming.TypingEntry looking.now.store.now) (map plain_tele_entry entries.now) (map plain_tele_entry xs)) }
+    ensures { IfOk result (λ xs.
+        becoming.Each (becoming.TypingEntry looking.now.store.now) (map plain_tele_entry entries.now)
+        (map plain_tele_entry xs)) }
 {
     let mut put = Items::new(looking.alloc);
     for entry in entries {
@@ -78,7 +81,8 @@ fn put_entries(looking: &Looking<'_>, entries: &[TeleEntry]) -> Result<Items<Tel
 #[cycle(put_type)]
 #[tactic(auto, using(clf_syntax::specs::PlainTypes::plain_type_laws, crate::proofs::Becomings::becoming_laws))]
 fn put_entry(looking: &Looking<'_>, entry: &TeleEntry) -> Result<TeleEntry, PutFault>
-    ensures { IfOk result (λ x. becoming.TypingEntry looking.now.store.now (plain_tele_entry entry.now) (plain_tele_entry x)) }
+    ensures { IfOk result
+        (λ x. becoming.TypingEntry looking.now.store.now (plain_tele_entry entry.now) (plain_tele_entry x)) }
 {
     Ok(TeleEntry {
         mode: entry.mode,

@@ -36,7 +36,7 @@ typed_over constants parameters ls o a p = long (scoped ls (over constants param
     no_meta [] m = refl
     no_meta (l ∷ ls) m = no_meta ls m
 
--- the variables behind the locals
+-- the variables after the locals
 pub scoped_out : (ls : Locals) (y : Assignment) (h : Head) → scoped ls y (ren_head (up (length ls)) h) ≡ y h
 scoped_out [] y (Const c) = refl
 scoped_out [] y (Var i) = ap (λ j. y (Var j)) (none i)

@@ -28,7 +28,7 @@ over constants parameters (Meta m) = None
 abbrev pub set : {X : Type 0} → ℕ → X → (ℕ → Option X) → ℕ → Option X
 set m o g k = if nat_eq k m then Some o else g k
 
--- Instantiated n t o x: x is o with the objects of t put for metavariables, under n locals. The parameters are the variables behind the locals.
+-- Instantiated n t o x: x is o with the objects of t put for metavariables, under n locals. The parameters are the variables after the locals.
 abbrev pub Instantiated : ℕ → Instantiation → PlainObject → PlainObject → Type 0
 Instantiated n t o x = Substituted (under n (instant t)) o x
 

@@ -125,7 +125,7 @@ LacksMisfits (p ∷ ps) [] x = Unit {0}
 abbrev pub Covers : List Place → PlainObject → Type 0
 Covers ps x = (j : ℕ) → occurs j x ≡ true → (i : ℕ) × (local_at ps i ≡ Some j)
 
--- Back from the variables of the places under n locals: a local becomes the variable of its place, and what lies behind the locals lies behind the places.
+-- Back from the variables of the places under n locals: a local becomes the variable of its place, and what lies after the locals lies after the places.
 abbrev pub inverse : ℕ → List Place → Renumbering
 inverse n [] j = j - n
 inverse n (p ∷ ps) j = if (if blank p.1 then false else nat_eq p.2 j) then 0 else suc (inverse n ps j)

@@ -29,7 +29,7 @@ pub record IsPutIn (constants metas : Types) (given s : Instantiation) : Type 0 
   pub assigns : IsAssignment constants metas s
   pub instances : (parameters : Types) (t : Instantiation) → Instantiates constants metas parameters t → Agrees t given → Agrees t s
 
--- With all solutions put in, by s, the given equations are es, whose rest is left; what the solutions give the metavariables that were unsolved at the start is tight for these; and it is told where the solutions came from.
+-- With all solutions put in, by s, the given equations are es, whose rest is left; what the solutions give the metavariables that were unsolved at the start is tight for these; and it is said where the solutions came from.
 pub record EndsWith (constants : Types) (start now : Problem) (left : List Equation) (s : Instantiation) (es : List Equation) : Type 0 where
   pub put_in : IsPutIn constants now.metas now.given s
   pub under : EachUnder s start.equations es

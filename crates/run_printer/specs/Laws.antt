@@ -17,7 +17,7 @@ pub record IsTypedRun (sig : PlainSignature) (start : PlainTelescope) (e : Plain
   pub object_depth : scope_depth (run_object start e) < 2 ^ 64
   pub type_depth : type_depth (run_type start finish) < 2 ^ 64
 
--- Over a well-formed signature the text of such a run reads back, behind the word of a check, as its object and its type.
+-- Over a well-formed signature the text of such a run reads back, after the word of a check, as its object and its type.
 abbrev pub RunLinesReadBack : Type 0
 RunLinesReadBack = (sig : PlainSignature) (start : PlainTelescope) (e : PlainExpression) (finish : PlainTelescope) → WellFormedSignature sig → IsTypedRun sig start e finish
     → ReadsAs sig (codes "#check " ++ (run_text sig start e finish ++ codes ".\n")) (checks (run_object start e) (run_type start finish))

@@ -13,8 +13,9 @@ use clf_syntax::{Expr, Obj, Tele, TeleEntry, Ty};
 use sqlite_items::Boxed;
 use std::alloc::{AllocError, Global};
 
-/// The text of the closed object that binds what is there at the start, takes the steps of a run and answers its result, and of its type, with a
-/// colon between. `finish` is the telescope of the result, under the variables of the start.
+/// The text of the closed object that binds what is there at the start, takes the steps of a run and answers its
+/// result, and of its type, with a colon between. `finish` is the telescope of the result, under the variables of the
+/// start.
 ///
 /// It fails only where memory runs out, so what has a text nests fewer binders than 2^64.
 pub fn run_text(
@@ -24,9 +25,14 @@ pub fn run_text(
     run: &Expr,
     finish: &Tele,
 ) -> Result<Vec<u8>, AllocError>
-    ensures text { IfOk result (λ text. text.items ≡ spec.run_text (plain_signature sig.now) (plain_tele start.now) (plain_expr run.now) (plain_tele finish.now)) }
-    ensures object_depth { OnOk result (scope_depth (spec.run_object (plain_tele start.now) (plain_expr run.now)) < 2 ^ 64) }
-    ensures type_depth { OnOk result (type_depth (spec.run_type (plain_tele start.now) (plain_tele finish.now)) < 2 ^ 64) }
+    ensures text { IfOk result (λ text.
+        text.items
+        ≡ spec.run_text (plain_signature sig.now) (plain_tele start.now) (plain_expr run.now)
+        (plain_tele finish.now)) }
+    ensures object_depth { OnOk result
+        (scope_depth (spec.run_object (plain_tele start.now) (plain_expr run.now)) < 2 ^ 64) }
+    ensures type_depth { OnOk result
+        (type_depth (spec.run_type (plain_tele start.now) (plain_tele finish.now)) < 2 ^ 64) }
 {
     let entries = start.entries.as_slice();
     let obj = bound_object(alloc, entries, 0, run)?;
@@ -46,7 +52,9 @@ fn bound_object(
     run: &Expr,
 ) -> Result<Obj, AllocError>
     requires { at ≤ length entries.now }
-    ensures { IfOk result (λ obj. plain_obj obj ≡ spec.run_object (telescope_of (map plain_tele_entry (drop at entries.now))) (plain_expr run.now)) }
+    ensures { IfOk result (λ obj.
+        plain_obj obj
+        ≡ spec.run_object (telescope_of (map plain_tele_entry (drop at entries.now))) (plain_expr run.now)) }
 {
     if at == entries.len() {
         let expr = Boxed::new(alloc, run.copy(alloc)?)?;
@@ -68,7 +76,9 @@ fn bound_type(
     finish: &Tele,
 ) -> Result<Ty, AllocError>
     requires { at ≤ length entries.now }
-    ensures { IfOk result (λ ty. plain_ty ty ≡ spec.run_type (telescope_of (map plain_tele_entry (drop at entries.now))) (plain_tele finish.now)) }
+    ensures { IfOk result (λ ty.
+        plain_ty ty
+        ≡ spec.run_type (telescope_of (map plain_tele_entry (drop at entries.now))) (plain_tele finish.now)) }
 {
     if at == entries.len() {
         return Ok(Ty::Monad {
@@ -87,7 +97,8 @@ fn bound_type(
 
 /// The text of an object and of its type, with a colon between.
 fn judgment(alloc: Global, sig: &Signature, obj: &Obj, ty: &Ty) -> Result<Vec<u8>, AllocError>
-    ensures text { IfOk result (λ text. text.items ≡ spec.judgment (plain_signature sig.now) (plain_obj obj.now) (plain_ty ty.now)) }
+    ensures text { IfOk result
+        (λ text. text.items ≡ spec.judgment (plain_signature sig.now) (plain_obj obj.now) (plain_ty ty.now)) }
     ensures object_depth { OnOk result (scope_depth (plain_obj obj.now) < 2 ^ 64) }
     ensures type_depth { OnOk result (type_depth (plain_ty ty.now) < 2 ^ 64) }
 {

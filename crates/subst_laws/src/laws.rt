@@ -8,7 +8,8 @@ pub fn simple_types()
     ensures neutral { NeutralHasOneType }
 {}
 
-/// Two typed environments in turn are one, which is typed. What an environment does is determined by what it does at the heads that have types.
+/// Two typed environments in turn are one, which is typed. What an environment does is determined by what it does at
+/// the heads that have types.
 pub fn environments()
     ensures composed { Composition }
     ensures composed_typed { ComposedIsTyped }

@@ -81,7 +81,7 @@ pub record Frame : Type 0 where
   pub used : List ℕ
   pub took : Taken
 
--- what is answered, where the steps behind the frames answer this; the newest frame first
+-- what is answered, where the steps after the frames answer this; the newest frame first
 abbrev pub resumed : Problem → List Frame → Option (List ℕ) → Option (List ℕ)
 resumed p [] o = o
 resumed p (f ∷ fs) o = resumed p fs (or_else (chosen f.took.place o) (open_at p (length fs) f.tables f.used f.took.next))

@@ -87,7 +87,7 @@ abbrev pub runs_from : ℕ → ℕ → List (List Mode × PlainNeutral) → List
 runs_from d n [] = []
 runs_from d n (s ∷ ss) = run_of d n ∷ runs_from d (n + length s.0) ss
 
--- how many variables these steps bind, behind so many
+-- how many variables these steps bind, after so many
 abbrev pub count_from : ℕ → List (List Mode × PlainNeutral) → ℕ
 count_from n [] = n
 count_from n (s ∷ ss) = count_from (n + length s.0) ss
@@ -144,7 +144,7 @@ abbrev mutual
   compared_tuple s _ _ = false
 
   -- What completes the used places to a matching with the right steps ys and the tuple w, whose variables have the run v:
-  -- for each of the left steps the first of its candidates behind which there is a completion.
+  -- for each of the left steps the first of its candidates after which there is a completion.
   pub sought : List Right → Run → PlainTuple → Tables → List (List ℕ) → List ℕ → PlainExpression → Option (List ℕ)
   sought ys v w s cs used (done t) = if compared_tuple (with_right s v) t w then Some [] else None
   sought ys v w s [] used (step p n e) = None

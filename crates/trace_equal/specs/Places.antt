@@ -51,7 +51,7 @@ abbrev pub each : (ℕ → Bool) → (ℕ → Option (List ℕ)) → List ℕ �
 each free attempt [] = None
 each free attempt (j ∷ js) = or_else (if free j then attempt j else None) (each free attempt js)
 
--- What completes the used places to a matching: for each of the left steps the first of its candidates behind which there is a completion.
+-- What completes the used places to a matching: for each of the left steps the first of its candidates after which there is a completion.
 abbrev pub search : List Right → PlainTuple → List (List ℕ) → Renumbering → List ℕ → PlainExpression → Option (List ℕ)
 search ys u cs r used (done t) = if nat_eq (length used) (length ys) && is_joined_tuple (ren_tuple r t) u then Some [] else None
 search ys u [] r used (step p n e) = None

@@ -6,8 +6,8 @@ use crate::tables::Run;
 use sqlite_items::Items;
 use std::alloc::{AllocError, Global};
 
-/// A candidate that is taken for a left step: which number of the candidates comes after it, its place among the right steps,
-/// and the ids of its variables.
+/// A candidate that is taken for a left step: which number of the candidates comes after it, its place among the right
+/// steps, and the ids of its variables.
 #[derive(Clone, Copy, Debug)]
 pub struct Taken {
     pub next: usize,
@@ -59,8 +59,10 @@ impl Choice {
 
     /// The last one that was taken is given back.
     pub fn give_back(&mut self) -> Option<Taken>
-        ensures taken { MatchOption result ((self.old.taken ≡ []) × (self.new ≡ self.old)) (λ last. self.old.taken ≡ self.new.taken ++ last ∷ []) }
-        ensures used { MatchOption result (self.new.used ≡ self.old.used) (λ last. self.new.used ≡ slice_set self.old.used last.place false) }
+        ensures taken { MatchOption result ((self.old.taken ≡ []) × (self.new ≡ self.old))
+            (λ last. self.old.taken ≡ self.new.taken ++ last ∷ []) }
+        ensures used { MatchOption result (self.new.used ≡ self.old.used)
+            (λ last. self.new.used ≡ slice_set self.old.used last.place false) }
     {
         let last = self.taken.pop()?;
         if last.place < self.used.len() {

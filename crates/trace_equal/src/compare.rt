@@ -22,7 +22,8 @@ pub fn joined_object(
     right: &Obj,
     tables: &mut Tables,
 ) -> Result<bool, AllocError>
-    ensures answer { IfOk result (λ joined. joined ≡ spec.compared tables.old (plain_obj left.now) (plain_obj right.now)) }
+    ensures answer { IfOk result
+        (λ joined. joined ≡ spec.compared tables.old (plain_obj left.now) (plain_obj right.now)) }
     ensures kept { OnOk result (tables.new ≡ tables.old) }
 {
     match left {
@@ -87,7 +88,8 @@ fn joined_body(
     right: &Obj,
     tables: &mut Tables,
 ) -> Result<bool, AllocError>
-    ensures answer { IfOk result (λ joined. joined ≡ spec.compared (spec.with_both tables.old) (plain_obj left.now) (plain_obj right.now)) }
+    ensures answer { IfOk result
+        (λ joined. joined ≡ spec.compared (spec.with_both tables.old) (plain_obj left.now) (plain_obj right.now)) }
     ensures kept { OnOk result (tables.new ≡ tables.old) }
 {
     tables.enter_both()?;
@@ -104,7 +106,8 @@ fn joined_neutral(
     right: &Neutral,
     tables: &mut Tables,
 ) -> Result<bool, AllocError>
-    ensures answer { IfOk result (λ joined. joined ≡ spec.compared_neutral tables.old (plain_neutral left.now) (plain_neutral right.now)) }
+    ensures answer { IfOk result
+        (λ joined. joined ≡ spec.compared_neutral tables.old (plain_neutral left.now) (plain_neutral right.now)) }
     ensures kept { OnOk result (tables.new ≡ tables.old) }
 {
     if is_same_head(left.head, right.head, tables) {
@@ -121,7 +124,8 @@ fn joined_spine(
     right: &[Elim],
     tables: &mut Tables,
 ) -> Result<bool, AllocError>
-    ensures answer { IfOk result (λ joined. joined ≡ spec.compared_spine tables.old (map plain_elim left.now) (map plain_elim right.now)) }
+    ensures answer { IfOk result
+        (λ joined. joined ≡ spec.compared_spine tables.old (map plain_elim left.now) (map plain_elim right.now)) }
     ensures kept { OnOk result (tables.new ≡ tables.old) }
 {
     if left.len() != right.len() {
@@ -143,7 +147,8 @@ fn joined_elimination(
     right: &Elim,
     tables: &mut Tables,
 ) -> Result<bool, AllocError>
-    ensures answer { IfOk result (λ joined. joined ≡ spec.compared_elimination tables.old (plain_elim left.now) (plain_elim right.now)) }
+    ensures answer { IfOk result
+        (λ joined. joined ≡ spec.compared_elimination tables.old (plain_elim left.now) (plain_elim right.now)) }
     ensures kept { OnOk result (tables.new ≡ tables.old) }
 {
     match left {
@@ -172,7 +177,10 @@ fn joined_tuple(
     right: &[TupleEntry],
     tables: &mut Tables,
 ) -> Result<bool, AllocError>
-    ensures answer { IfOk result (λ joined. joined ≡ spec.compared_tuple tables.old (tuple_of (map plain_entry left.now)) (tuple_of (map plain_entry right.now))) }
+    ensures answer { IfOk result (λ joined.
+        joined
+        ≡ spec.compared_tuple tables.old (tuple_of (map plain_entry left.now))
+        (tuple_of (map plain_entry right.now))) }
     ensures kept { OnOk result (tables.new ≡ tables.old) }
 {
     if left.len() != right.len() {
@@ -194,7 +202,8 @@ fn joined_entry(
     right: &TupleEntry,
     tables: &mut Tables,
 ) -> Result<bool, AllocError>
-    ensures answer { IfOk result (λ joined. joined ≡ spec.compared_entry tables.old (plain_entry left.now) (plain_entry right.now)) }
+    ensures answer { IfOk result
+        (λ joined. joined ≡ spec.compared_entry tables.old (plain_entry left.now) (plain_entry right.now)) }
     ensures kept { OnOk result (tables.new ≡ tables.old) }
 {
     if !is_same_mode(left.mode, right.mode) {
@@ -212,7 +221,10 @@ fn joined_results(
     all: Run,
     tables: &mut Tables,
 ) -> Result<bool, AllocError>
-    ensures answer { IfOk result (λ joined. joined ≡ spec.compared_tuple (spec.with_right tables.old all) (spec.tuple_at left.now) (spec.tuple_at right.now)) }
+    ensures answer { IfOk result (λ joined.
+        joined
+        ≡ spec.compared_tuple (spec.with_right tables.old all) (spec.tuple_at left.now)
+        (spec.tuple_at right.now)) }
     ensures kept { OnOk result (tables.new ≡ tables.old) }
 {
     tables.enter_right(all)?;
@@ -236,7 +248,8 @@ fn serves(
     before: Run,
     tables: &mut Tables,
 ) -> Result<bool, AllocError>
-    ensures answer { IfOk result (λ joined. joined ≡ spec.step_serves tables.old (plain_step left.now) (before, plain_step right.now)) }
+    ensures answer { IfOk result
+        (λ joined. joined ≡ spec.step_serves tables.old (plain_step left.now) (before, plain_step right.now)) }
     ensures kept { OnOk result (tables.new ≡ tables.old) }
 {
     if !are_same_modes(left.modes.as_slice(), right.modes.as_slice()) {
@@ -259,7 +272,10 @@ fn served(
     choice: &Choice,
     tables: &mut Tables,
 ) -> Result<Option<Run>, AllocError>
-    ensures answer { IfOk result (λ run. run ≡ served_at tables.old choice.now.used (plain_step left.now) (spec.zipped rights.now.before (map plain_step right.now)) place) }
+    ensures answer { IfOk result (λ run.
+        run
+        ≡ served_at tables.old choice.now.used (plain_step left.now)
+        (spec.zipped rights.now.before (map plain_step right.now)) place) }
     ensures kept { OnOk result (tables.new ≡ tables.old) }
 {
     if !choice.is_free(place) {
@@ -284,7 +300,8 @@ fn step_served(
     before: Run,
     tables: &mut Tables,
 ) -> Result<Option<Run>, AllocError>
-    ensures answer { IfOk result (λ run. run ≡ spec.step_served tables.old (plain_step left.now) (Some (before, plain_step right.now))) }
+    ensures answer { IfOk result
+        (λ run. run ≡ spec.step_served tables.old (plain_step left.now) (Some (before, plain_step right.now))) }
     ensures kept { OnOk result (tables.new ≡ tables.old) }
 {
     if !serves(alloc, left, right, before, tables)? {
@@ -309,7 +326,10 @@ fn next_taken(
     choice: &Choice,
     tables: &mut Tables,
 ) -> Result<Option<Taken>, AllocError>
-    ensures next { IfOk result (λ taken. (used : List ℕ) → Marks used choice.now.used → IsNext (spec.zipped rights.now.before (map plain_step right.now)) tables.old used (plain_step left.now) places.now from taken) }
+    ensures next { IfOk result (λ taken.
+        (used : List ℕ) → Marks used choice.now.used →
+        IsNext (spec.zipped rights.now.before (map plain_step right.now)) tables.old used (plain_step left.now)
+        places.now from taken) }
     ensures kept { OnOk result (tables.new ≡ tables.old) }
 {
     for number in from..places.len() {
@@ -348,7 +368,10 @@ fn advance(
     choice: &Choice,
     tables: &mut Tables,
 ) -> Result<Turn, AllocError>
-    ensures advances { IfOk result (λ turn. (used : List ℕ) → Marks used choice.now.used → Advances (problem left.now right.now rights.now.before rights.now.all (map (λ c. c.now) candidates.now)) (length choice.now.taken) tables.old used from turn) }
+    ensures advances { IfOk result (λ turn.
+        (used : List ℕ) → Marks used choice.now.used →
+        Advances (problem left.now right.now rights.now.before rights.now.all (map (λ c. c.now) candidates.now))
+        (length choice.now.taken) tables.old used from turn) }
     ensures kept { OnOk result (tables.new ≡ tables.old) }
 {
     let count = choice.taken.len();
@@ -384,7 +407,11 @@ fn search(
     candidates: &[&[usize]],
     tables: &mut Tables,
 ) -> Result<Option<Items<usize>>, AllocError>
-    ensures found { IfOk result (λ places. places ≡ sought_at (problem left.now right.now rights.now.before rights.now.all (map (λ c. c.now) candidates.now)) 0 tables.old []) }
+    ensures found { IfOk result (λ places.
+        places
+        ≡ sought_at
+        (problem left.now right.now rights.now.before rights.now.all (map (λ c. c.now) candidates.now)) 0
+        tables.old []) }
     ensures kept { OnOk result (tables.new ≡ tables.old) }
 {
     let mut choice = Choice::new(alloc, right.steps.len())?;
@@ -422,7 +449,8 @@ pub fn first_matching(
     right: &Expr,
     tables: &mut Tables,
 ) -> Result<Option<Items<usize>>, AllocError>
-    ensures found { IfOk result (λ places. places ≡ spec.first_under tables.old (plain_expr left.now) (plain_expr right.now)) }
+    ensures found { IfOk result
+        (λ places. places ≡ spec.first_under tables.old (plain_expr left.now) (plain_expr right.now)) }
     ensures kept { OnOk result (tables.new ≡ tables.old) }
 {
     let count = right.steps.len();

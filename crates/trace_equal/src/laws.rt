@@ -24,7 +24,8 @@ pub fn matchings()
     ensures joined { IsJoinedDecides }
 {}
 
-/// Under tables that number the variables, the search by places finds the first matching too, and all places are candidates.
+/// Under tables that number the variables, the search by places finds the first matching too, and all places are
+/// candidates.
 #[tactic(auto, using(crate::proofs::Ids::table_laws))]
 pub fn matchings_by_places()
     ensures found { FirstIsFoundUnderTables }

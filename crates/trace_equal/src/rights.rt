@@ -20,7 +20,8 @@ pub struct Rights {
 #[tactic(auto, using(clf_syntax::specs::Plain::plain_laws))]
 pub fn right_ids(alloc: Global, steps: &[Step], fresh: u64) -> Result<Rights, AllocError>
     ensures before { IfOk result (λ rights. rights.before ≡ spec.runs_from fresh 0 (map plain_step steps.now)) }
-    ensures all { IfOk result (λ rights. rights.all ≡ spec.run_of fresh (spec.count_from 0 (map plain_step steps.now))) }
+    ensures all { IfOk result
+        (λ rights. rights.all ≡ spec.run_of fresh (spec.count_from 0 (map plain_step steps.now))) }
 {
     let mut before = Items::new(alloc);
     let mut count: usize = 0;

@@ -81,7 +81,9 @@ impl Tables {
 
     /// The end of the scopes of so many steps on the left side.
     pub fn leave_steps(&mut self, count: usize)
-        ensures { (s : spec.Scopes) (rs : List spec.Ids) → self.old ≡ spec.with_steps s rs → length rs ≡ count → self.new ≡ s }
+        ensures { (s : spec.Scopes) (rs : List spec.Ids) →
+            self.old ≡ spec.with_steps s rs → length rs ≡ count →
+            self.new ≡ s }
     {
         for _step in 0..count {
             self.leave_left();

@@ -150,7 +150,7 @@ module _ (sig : PlainSignature) where
   or_refused xs s (inl p) none = absurd (none p.0 p.1)
   or_refused xs s (inr e) none = e
 
-  -- Behind the steps of a run, the refusal of the next step is that of the whole.
+  -- After the steps of a run, the refusal of the next step is that of the whole.
   pub refused-behind : (xs : List (List Mode × PlainNeutral)) (x : List Mode × PlainNeutral) (ys : List (List Mode × PlainNeutral)) (s between : PlainState) (path : List ℕ) (why : Cause)
       → IsRun sig xs s between → RefusesStep sig between x.0 x.1 path why → RefusesAt sig (xs ++ x ∷ ys) s (length xs) path why
   refused-behind [] x ys s between path why p e = subst (λ d. RefusesStep sig d x.0 x.1 path why) p e

@@ -37,7 +37,7 @@ RunsInTurn = (sig : PlainSignature) (xs ys : List (List Mode × PlainNeutral)) (
 abbrev pub RunIsOne : Type 0
 RunIsOne = (sig : PlainSignature) (xs : List (List Mode × PlainNeutral)) (before one other : PlainState) → IsRun sig xs before one → IsRun sig xs before other → one ≡ other
 
--- Where a check may start before a run, it may start behind it.
+-- Where a check may start before a run, it may start after it.
 abbrev pub RunsKeepStarts : Type 0
 RunsKeepStarts = (sig : PlainSignature) (xs : List (List Mode × PlainNeutral)) (before after : PlainState) → Starts sig before.context before.holding → IsRun sig xs before after
     → Starts sig after.context after.holding

@@ -1,4 +1,4 @@
-//! The state behind a step.
+//! The state after a step.
 ghost use Rattle.std.specs.Prelude.{◌≡◌, IfOk, IfErr, length};
 ghost use Rattle.clf_syntax.specs.PlainTypes.{plain_tele};
 ghost use Rattle.clf_syntax.specs.Wide.{IsWant};
@@ -9,10 +9,12 @@ use clf_syntax::{Tele, Want};
 use std::alloc::Global;
 use use_contexts::{Ctx, Holding, State};
 
-/// The state behind a step that leaves this row: the entries of the telescope are the newest variables, and all of them are held.
+/// The state after a step that leaves this row: the entries of the telescope are the newest variables, and all of them
+/// are held.
 pub fn after(alloc: Global, state: &State, row: &Holding, tele: &Tele) -> Result<State, Want>
     requires { length (marks row.now) ≡ length (context state.now.ctx) }
-    ensures state { IfOk result (λ s. plain_state s ≡ state_after (context state.now.ctx) (marks row.now) (plain_tele tele.now)) }
+    ensures state { IfOk result
+        (λ s. plain_state s ≡ state_after (context state.now.ctx) (marks row.now) (plain_tele tele.now)) }
     ensures want { IfErr result IsWant }
 {
     let ctx = state.ctx.copy(alloc)?;

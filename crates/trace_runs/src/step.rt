@@ -21,8 +21,8 @@ use use_contexts::State;
 
 /// The state to which the steps lead from a state, each of them taken in turn.
 ///
-/// It refuses where one of them is no step. The path begins with the number of the first such one, and there is one such path with one
-/// such cause (`decided_runs`).
+/// It refuses where one of them is no step. The path begins with the number of the first such one, and there is one
+/// such path with one such cause (`decided_runs`).
 pub fn replay(
     alloc: Global,
     sig: &Signature,
@@ -39,7 +39,7 @@ pub fn replay(
     Ok(reached)
 }
 
-/// The state behind the step with this number. A refusal's path begins with the number.
+/// The state after the step with this number. A refusal's path begins with the number.
 fn step_at(
     alloc: Global,
     place: usize,
@@ -56,7 +56,7 @@ fn step_at(
     }
 }
 
-/// The state behind one step.
+/// The state after one step.
 fn take_step(
     alloc: Global,
     sig: &Signature,

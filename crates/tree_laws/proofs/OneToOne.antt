@@ -1,4 +1,4 @@
--- What comes back from its plain tree is told by it.
+-- What comes back from its plain tree is said by it.
 use Rattle.std.proofs.Common.{◌≡◌, ◌∙◌, map, sym, ap}
 use Rattle.clf_syntax.specs.declared.tree.Ty.{Ty}
 use Rattle.clf_syntax.specs.declared.tree.Kind.{Kind}

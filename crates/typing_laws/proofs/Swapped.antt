@@ -23,7 +23,7 @@ swap_true false b c e = absurd (no e)
 far : (i : ℕ) → crossed 1 1 (i + 2) ≡ i + 2
 far i = cross_out 1 1 (i + 2) (omega arith)
 
--- the type of a variable behind both entries, and those of the two
+-- the type of a variable after both entries, and those of the two
 behind : (n : ℕ) (b : PlainType) → ren_type (crossed 1 1) (ren_type (up (n + 2)) b) ≡ ren_type (up (n + 2)) b
 behind n b = composed_type (crossed 1 1) (up (n + 2)) b ∙ ap (λ r. ren_type r b) (ext (at_number n))
   where
@@ -105,7 +105,7 @@ module _ (e f : Mode × PlainType) (g : Context) where
   pub swapped : Carries (crossed 1 1) Newer Older (with_exchange 0)
   swapped = record { variable = swap_variable; split = swap_split; weak = swap_weak; unrestricted = swap_unrestricted; uses = swap_uses }
 
--- ---- behind newer entries
+-- ---- after newer entries
 raise_low : (k i : ℕ) → i < k → raise 1 k i ≡ i
 raise_low k i l = grind arith
 

@@ -10,13 +10,13 @@ use Rattle.clf_sig.specs.Entry.{PlainSignature}
 use Rattle.clf_rules.specs.Typing.{HasType, Synthesizes, ExpressionHasType, TupleHasType}
 use Rattle.clf_rules.specs.WellFormed.{WellFormedSignature}
 
--- a holding with a new mark behind the k newest ones
+-- a holding with a new mark after the k newest ones
 abbrev pub with_mark : ℕ → Bool → Holding → Holding
 with_mark zero b h = b ∷ h
 with_mark (suc k) b (x ∷ h) = x ∷ with_mark k b h
 with_mark (suc k) b [] = []
 
--- a context with a new entry behind the k newest ones, in whose types the variables behind it rise by one
+-- a context with a new entry after the k newest ones, in whose types the variables after it rise by one
 abbrev pub with_entry : ℕ → Mode × PlainType → Context → Context
 with_entry zero e g = e ∷ g
 with_entry (suc k) e (d ∷ g) = (d.0, ren_type (raise 1 k) d.1) ∷ with_entry k e g
@@ -26,7 +26,7 @@ with_entry (suc k) e [] = []
 abbrev pub past_one : Mode × PlainType → Mode × PlainType
 past_one e = (e.0, ren_type (up 1) e.1)
 
--- a holding in which the marks behind the k newest ones have changed places
+-- a holding in which the marks after the k newest ones have changed places
 abbrev pub with_exchange : ℕ → Holding → Holding
 with_exchange zero (x ∷ y ∷ h) = y ∷ x ∷ h
 with_exchange zero (x ∷ []) = x ∷ []

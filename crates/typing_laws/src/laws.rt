@@ -43,7 +43,8 @@ pub fn exchange()
     ensures { ContextExchange }
 {}
 
-/// What is typed stays typed where an affine or linear entry that nothing mentions is not held, and without an entry that nothing mentions.
+/// What is typed stays typed where an affine or linear entry that nothing mentions is not held, and without an entry
+/// that nothing mentions.
 pub fn strengthening()
     ensures letting_go { LettingGo }
     ensures context { ContextStrengthening }

@@ -26,7 +26,7 @@ use Rattle.inversion_laws.proofs.Cores.{fitting_over, within, given_body, meta_t
 use Rattle.unify_laws.specs.Rigid.{Stands, StandsBelow}
 use Rattle.unify_laws.proofs.RigidPlaces.{foreign_argument, foreign_head, within_itself}
 
--- Behind as many locals as the list has.
+-- After as many locals as the list has.
 out_of : (inner : Locals) (n : ℕ) → length inner ≡ n → (y : Assignment) (h : Head) → scoped inner y (ren_head (up n) h) ≡ y h
 out_of inner n e y h = subst (λ k. scoped inner y (ren_head (up k) h) ≡ y h) e (scoped_out inner y h)
 

@@ -255,7 +255,7 @@ persistent_entry ms h r t (Some c) P Q a b = (
 )
 
 -- ---- arguments of all modes
--- behind what left the row l: the part that the argument gets is one that its mode allows
+-- after what left the row l: the part that the argument gets is one that its mode allows
 pub argument-agrees : (m : Mode) (ms : List Mode) (h l : Holding) (s : Bool) (r : Answer) (P Q : Holding → Type 0) → IsSubholding ms l l → Agrees ms h (Some (l, s)) P → Agrees ms (allowed m ms l) r Q
     → Agrees ms h (in_turn (argued m ms l r) s) (Shared ms P (λ k. (may_use m ms k ≡ true) × Q k))
 argument-agrees Persistent ms h l s r P Q w a b = persistent_argument ms h l s r P Q a b

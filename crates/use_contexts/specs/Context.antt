@@ -1,5 +1,5 @@
 -- A context: the modes and types of the variables in scope, the newest first, so that a variable's number is its place.
--- Each type is over the entries behind it.
+-- Each type is over the entries after it.
 use Rattle.std.specs.Prelude.{ℕ, ◌+◌, ◌≡◌, List, [], ◌∷◌, map, Some}
 use Rattle.std.specs.List.{slice_get}
 use Rattle.clf_syntax.specs.declared.tree.Mode.{Mode}

@@ -107,7 +107,8 @@ pub fn take(ctx: &Ctx, holding: &mut Holding, var: u32) -> Result<(), NotHeld>
 /// Holds a variable of this mode no longer, unless it is persistent.
 fn use_up(mode: Mode, holding: &mut Holding, var: usize)
     requires { var < length (marks holding.old) }
-    ensures { marks holding.new ≡ (if is_persistent mode then marks holding.old else slice_set (marks holding.old) var false) }
+    ensures { marks holding.new
+        ≡ (if is_persistent mode then marks holding.old else slice_set (marks holding.old) var false) }
 {
     match mode {
         Mode::Persistent => {}

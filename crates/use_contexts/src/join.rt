@@ -50,8 +50,11 @@ pub fn join_add(ctx: &Ctx, first: Left, second: Left) -> Result<Left, Differ>
     requires numbered { length (context ctx.now) < 2 ^ 32 }
     ensures row { IfOk result (λ left. marks left.row ≡ both_left (marks first.row) (marks second.row)) }
     ensures slack { IfOk result (λ left. left.slack ≡ first.slack && second.slack) }
-    ensures agree { OnOk result (newest (modes (context ctx.now)) (marks first.row) first.slack (marks second.row) second.slack ≡ None) }
-    ensures differ { IfErr result (λ e. newest (modes (context ctx.now)) (marks first.row) first.slack (marks second.row) second.slack ≡ Some e.0) }
+    ensures agree { OnOk result
+        (newest (modes (context ctx.now)) (marks first.row) first.slack (marks second.row) second.slack ≡ None) }
+    ensures differ { IfErr result (λ e.
+        newest (modes (context ctx.now)) (marks first.row) first.slack (marks second.row) second.slack
+        ≡ Some e.0) }
 {
     if let Some(var) = newest_difference(ctx, &first, &second) {
         return Err(Differ(var));
@@ -67,7 +70,9 @@ fn newest_difference(ctx: &Ctx, first: &Left, second: &Left) -> Option<u32>
     requires first_length { length (marks first.now.row) ≡ length (context ctx.now) }
     requires second_length { length (marks second.now.row) ≡ length (context ctx.now) }
     requires numbered { length (context ctx.now) < 2 ^ 32 }
-    ensures { result ≡ newest (modes (context ctx.now)) (marks first.now.row) first.now.slack (marks second.now.row) second.now.slack }
+    ensures { result
+        ≡ newest (modes (context ctx.now)) (marks first.now.row) first.now.slack (marks second.now.row)
+        second.now.slack }
 {
     for var in 0..ctx.len() {
         let left_first = first.row.holds(var);

@@ -1,4 +1,4 @@
--- The digits that are left, behind a number whose least with the greatest value has been reached, spell the whole.
+-- The digits that are left, after a number whose least with the greatest value has been reached, spell the whole.
 use Rattle.std.proofs.Common.{◌≡◌, ◌^◌, ◌-◌, ℕ, min, drop}
 use Rattle.celf_grammar.specs.State.{digits_behind}
 use Rattle.celf_cursor.proofs.word.number_of.Given as goal

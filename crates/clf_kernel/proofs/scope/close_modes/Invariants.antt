@@ -1,4 +1,4 @@
--- The variables behind this number are closed.
+-- The variables after this number are closed.
 use Rattle.std.proofs.Common.{◌≡◌, ◌≤◌, ◌+◌, take, length}
 use Rattle.use_contexts.specs.Marks.{marks}
 use Rattle.clf_kernel.specs.Answers.{plain_left}

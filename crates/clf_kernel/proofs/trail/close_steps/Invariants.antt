@@ -1,4 +1,4 @@
--- The steps behind this number are closed.
+-- The steps after this number are closed.
 use Rattle.std.proofs.Common.{◌≡◌, ◌≤◌, ◌<◌, ◌+◌, ◌^◌, take, length}
 use Rattle.use_contexts.specs.Marks.{marks}
 use Rattle.clf_decision.specs.Outcome.{passed}

@@ -1,4 +1,4 @@
--- The key is new, so its entry goes behind all others.
+-- The key is new, so its entry goes after all others.
 use Rattle.std.proofs.Common.{◌≡◌, ◌++◌, ◌∷◌, [], ap, ◌∙◌, is_some, false, string_bytes, length, ◌+◌, arith}
 use Rattle.std.proofs.lemmas.List.{length-append, length-map}
 use Rattle.clf_sig.specs.Entry.{place_of}

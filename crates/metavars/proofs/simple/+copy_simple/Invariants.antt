@@ -1,6 +1,0 @@
--- What has been copied is the front of the list.
-use Rattle.std.proofs.Common.{◌≡◌, take}
-use Rattle.metavars.proofs.simple.+copy_simple.Given as goal
-
-abbrev pub invariant-copy_entries-loop-entry : goal.invariant-copy_entries-loop-entry
-invariant-copy_entries-loop-entry l = l.copied ≡ take l.entry-index l.entries
