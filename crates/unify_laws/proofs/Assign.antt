@@ -9,7 +9,8 @@ use Rattle.hered_subst.specs.Substitution.{Substituted}
 use Rattle.subst_laws.specs.Environments.{Instantiation, instant}
 use Rattle.trace_equal.specs.Exchange.{Joined}
 use Rattle.pattern_laws.specs.Patterns.{Place, OnDistinct, Covers, inverted, OnLocals, LacksMisfits}
-use Rattle.pattern_laws.specs.Instantiations.{Types, closed, Agrees, set}
+use Rattle.store_laws.specs.Additions.{set}
+use Rattle.pattern_laws.specs.Instantiations.{Types, closed, Agrees}
 use Rattle.pattern_laws.specs.Equations.{scoped, Equation, Locals}
 use Rattle.inversion_laws.proofs.Cores.{solution_forced, solution_found}
 use Rattle.unify_laws.specs.Problems.{KeepsSolutions, Consequence}

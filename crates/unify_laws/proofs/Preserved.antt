@@ -12,7 +12,8 @@ use Rattle.subst_laws.specs.Environments.{Instantiation}
 use Rattle.eta_laws.specs.Eta.{eta}
 use Rattle.eta_laws.proofs.EtaTyped.{eta_is_typed}
 use Rattle.pattern_laws.specs.Patterns.{Place, on, lams, arrows, beneath, masked, IsFinal, HasFinalResult}
-use Rattle.pattern_laws.specs.Instantiations.{Types, closed, set}
+use Rattle.store_laws.specs.Additions.{set}
+use Rattle.pattern_laws.specs.Instantiations.{Types, closed}
 use Rattle.pattern_laws.specs.Equations.{scoped, Equation, TypedEquations, Locals}
 use Rattle.pattern_laws.proofs.Inverse.{lams_typed}
 use Rattle.unify_laws.specs.Problems.{Problem, KeepsSolutions, Grows, WellTyped}

@@ -5,7 +5,8 @@ use Rattle.std.proofs.Common.{ap, sym, ◌∙◌, arith, ⊎_elim}
 use Rattle.clf_syntax.specs.Tree.{PlainObject}
 use Rattle.clf_syntax.specs.TypeTree.{SimpleType}
 use Rattle.subst_laws.specs.Environments.{Instantiation}
-use Rattle.pattern_laws.specs.Instantiations.{Types, set}
+use Rattle.store_laws.specs.Additions.{set}
+use Rattle.pattern_laws.specs.Instantiations.{Types}
 use Rattle.pattern_laws.specs.Patterns.{functions}
 use Rattle.unify_laws.specs.Weight.{weight_of, weight}
 
