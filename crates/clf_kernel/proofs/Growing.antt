@@ -1,5 +1,5 @@
 -- A context that grew, and is cut back.
-use Rattle.std.proofs.Common.{◌≡◌, ℕ, ◌<◌, ◌≤◌, ◌+◌, List, [], ◌∷◌, ◌++◌, length, map, refl, sym, ap, ◌∙◌, arith}
+use Rattle.std.proofs.Common.{◌≡◌, ◌<◌, ◌≤◌, ◌+◌, List, [], ◌∷◌, ◌++◌, length, map, refl, sym, ap, ◌∙◌, arith}
 use Rattle.std.proofs.Math.Logic.{◌⊎◌, inl, inr}
 use Rattle.std.proofs.Props.{props}
 use Rattle.std.proofs.lemmas.List.{append_assoc, append-nil, length-append, length-map, length-reverse}
@@ -11,7 +11,7 @@ use Rattle.use_contexts.specs.declared.context.Ctx.{Ctx}
 use Rattle.use_contexts.specs.Marks.{context}
 use Rattle.clf_kernel.specs.declared.judge.Judge.{Judge}
 use Rattle.clf_kernel.specs.Numbered.{IsNumbered}
-use Rattle.clf_kernel.specs.Judge.{HasNewer, IsEntered, IsGrown, signature_of}
+use Rattle.clf_kernel.specs.Judge.{IsEntered, IsGrown, signature_of}
 
 -- Judges with the same parts are the same: that a context is numbered has one proof.
 pub same_judge : (a b : Judge) → a.alloc ≡ b.alloc → a.sig ≡ b.sig → a.ctx ≡ b.ctx → a ≡ b
@@ -59,13 +59,16 @@ module _ (inner : Judge) (es : List TeleEntry) (y : TeleEntry) (e : entries_of i
   one_fewer : length (entries_of inner) ≡ length es + 1
   one_fewer = ap length e ∙ length-append es (y ∷ [])
 
-  -- the judge without its newest entry
-  pub without_newest : Judge
-  without_newest =
+  pub still_numbered : IsNumbered (context (context_with es))
+  still_numbered =
       let n = entries_length inner.ctx in
       let k = entries_length (context_with es) in
       let o = one_fewer in
-      record inner { ctx = context_with es; numbered = omega (arith, inner.numbered, n, k, o) }
+      omega (arith, inner.numbered, n, k, o)
+
+  -- the judge without its newest entry
+  abbrev pub without_newest : Judge
+  without_newest = record inner { ctx = context_with es; numbered = still_numbered }
 
   pub newest_is_entered : IsEntered without_newest inner
   newest_is_entered = (y, record { alloc = refl; signature = refl; entries = e })

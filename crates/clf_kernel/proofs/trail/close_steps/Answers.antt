@@ -81,4 +81,5 @@ pub returns-clause-marked : goal.returns-clause-marked
 returns-clause-marked c = λ older r.
     let v = c.loop-place.invariant.1 older r in
     let z : c.loop-place.place ≡ 0 = omega (arith, c.loop-place-test.false) in
-    v.0 ∙ ap (λ j. opened_width (opened_by (take j c.args.opened.now)) + older) z
+    let m = v.0 ∙ ap (λ j. opened_width (opened_by (take j c.args.opened.now)) + older) z in
+    omega (arith, m)

@@ -1,4 +1,4 @@
-use Rattle.std.proofs.Common.{◌≡◌, ◌<◌, ◌^◌, ◌+◌, ◌-◌, [], ◌∷◌, ◌++◌, suc, true, length, map, drop, get_or, ap, sym, subst, refl, ◌∙◌, Result, Ok, Err, OnOk, arith, add-one}
+use Rattle.std.proofs.Common.{◌≡◌, ◌+◌, ◌-◌, [], ◌∷◌, ◌++◌, suc, true, length, map, drop, get_or, ap, sym, subst, refl, ◌∙◌, Result, Ok, Err, OnOk, arith, add-one}
 use Rattle.std.proofs.lemmas.List.{drop_all, length_push}
 use Rattle.std.proofs.lemmas.Result.{err_from_is_err_and}
 use Rattle.clf_syntax.specs.declared.tree.Step.{out-Step}
@@ -47,10 +47,10 @@ on_ok : {X E P : Type 0} (r : Result X E) → P → OnOk r P
 on_ok (Ok x) p = p
 on_ok (Err e) p = tt
 
-pub check_body-close_scope-requires-clause-marked : goal.check_body-close_scope-requires-clause-marked
-check_body-close_scope-requires-clause-marked t c =
+pub check_body-close_scope-requires : goal.check_body-close_scope-requires
+check_body-close_scope-requires t c =
     let k = left_scope c.args.self.now c.enter.new.self c.check_part.new.self c.leave.new.self c.in_ok-inner.ensures.entry c.in_ok-left.ensures.kept c.leave.ensures in
-    c.in_ok-left.ensures.marked ∙ ap length c.in_ok-inner.ensures.context ∙ ap (λ x. suc (length (context_of x))) (sym k)
+    record { marked = c.in_ok-left.ensures.marked ∙ ap length c.in_ok-inner.ensures.context ∙ ap (λ x. suc (length (context_of x))) (sym k) }
 
 pub check_body-returns-clause-outcome : goal.check_body-returns-clause-outcome
 check_body-returns-clause-outcome t c =
