@@ -16,7 +16,7 @@ use Rattle.clf_syntax.specs.Plain.{plain_neutral, plain_obj, plain_step, plain-s
 use Rattle.clf_syntax.specs.PlainTypes.{plain_ty, plain-Fam, plain-Fun, plain-Top, plain-With}
 use Rattle.clf_syntax.specs.Tree.{PlainNeutral}
 use Rattle.clf_syntax.specs.TypeTree.{PlainType, family, function, both, top, monad, PlainTelescope}
-use Rattle.clf_syntax.specs.Wide.{IsWant, IsWide, wanting}
+use Rattle.clf_syntax.specs.Wide.{IsWant, wanting}
 use Rattle.use_contexts.specs.Context.{modes, telescope_modes}
 use Rattle.use_contexts.specs.Rows.{Leftover}
 use Rattle.clf_sig.specs.Entry.{PlainSignature}

@@ -1,5 +1,5 @@
 -- Inner: what the functions inside of the replay answer. No public call names these definitions.
-use Rattle.std.specs.Prelude.{ℕ, ◌≡◌, List, [], ◌∷◌, Result, Ok, Err}
+use Rattle.std.specs.Prelude.{ℕ, ◌≡◌, List, ◌∷◌, Result, Ok, Err}
 use Rattle.clf_syntax.specs.declared.fault.OrWide.{OrWide}
 use Rattle.clf_syntax.specs.declared.fault.OrWide.TheVariants.{Fault, NoMemory, TooFar}
 use Rattle.clf_syntax.specs.declared.tree.Mode.{Mode}

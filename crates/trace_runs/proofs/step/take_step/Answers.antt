@@ -4,7 +4,6 @@ use Rattle.clf_syntax.specs.Plain.{plain_step}
 use Rattle.clf_syntax.specs.PlainTypes.{plain_tele, plain_ty, plain-Monad}
 use Rattle.clf_syntax.specs.TypeTree.{monad}
 use Rattle.clf_sig.specs.Signature.{plain_signature}
-use Rattle.use_contexts.specs.Marks.{context, marks}
 use Rattle.clf_rules.specs.Refusal.{not_monad}
 use Rattle.clf_kernel.specs.Answers.{plain_left}
 use Rattle.trace_runs.specs.Refused.{at_no_monad}
