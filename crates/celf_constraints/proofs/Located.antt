@@ -14,6 +14,7 @@ use Rattle.hered_subst.proofs.SimpleTyping.{Typed, typed_lam, typed_pair, typed_
 use Rattle.subst_laws.proofs.Variables.{neutral_has_one_type}
 use Rattle.eta_laws.specs.Eta.{eta}
 use Rattle.pattern_laws.specs.Patterns.{Place as PlainPlace, blank, is_blank, on, arrows, local_at, OwnPlace, OwnPlaces}
+use Rattle.pattern_laws.proofs.TypeParts.{from_type}
 use Rattle.pattern_laws.proofs.Typings.{blank_is}
 use Rattle.inversion_laws.proofs.Misfits.{blank_eta}
 use Rattle.celf_constraints.specs.Read.{Reading, place_of, own_of, ReadAs, Reads}
@@ -35,12 +36,6 @@ blank_object typed_unit e = refl
 blank_object (typed_monadic p) e = absurd (cc)
 blank_object (typed_metavariable i p k) e = absurd (cc)
 blank_object (typed_atomic p) e = absurd (cc)
-
-result_of : {m k : Mode} {d c e f : SimpleType} → arrow m d c ≡ arrow k e f → c ≡ f
-result_of h = cc
-
-domain_of : {m k : Mode} {d c e f : SimpleType} → arrow m d c ≡ arrow k e f → d ≡ e
-domain_of h = cc
 
 module _ (z : Assignment) (vs : List SimpleType) where
   -- the type of what stands under a spine
@@ -77,7 +72,7 @@ module _ (z : Assignment) (vs : List SimpleType) where
     located m (arg k o ∷ es) n (arrow l d c) (r ∷ rs) u ps qs a at p x q =
         let (y, i) = inner_type es (app k n o) x q in
         let e : arrow l d c ≡ arrow k i.0 y = neutral_has_one_type (no_holes true) z n (arrow l d c) (arrow k i.0 y) p i.1 in
-        let typed : SimplyTyped z o d = subst (SimplyTyped z o) (sym (domain_of e)) i.2 in
+        let typed : SimplyTyped z o d = subst (SimplyTyped z o) (from_type e) i.2 in
         let here : At m (app k n o) (place_of r ∷ ps) (own_of r ∷ qs) c = record {
           neutral = ap (λ h. app h n o) (a.0 ∙ sym a.1.mode) ∙ ap (λ h. app r.mode h o) at.neutral ∙ ap (app r.mode (on qs (head_alone (Meta m)))) (form_of d o l r a.1 typed);
           type = at.type ∙ ap (λ h. Some (arrows ps (arrow h d c))) (sym a.1.mode) ∙ ap (λ h. Some (arrows ps (arrow r.mode h c))) (sym a.1.type);
