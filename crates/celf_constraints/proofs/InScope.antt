@@ -1,17 +1,14 @@
 -- What a neutral is read as, by its head.
-use Rattle.std.specs.Prelude.{ℕ, ◌≡◌, ◌⊎◌, List, [], ◌∷◌, map, Option, Some, None, Result, IfOk, IfErr, refl}
+use Rattle.std.specs.Prelude.{ℕ, ◌≡◌, ◌⊎◌, List, [], ◌∷◌, map, Option, Some, None, refl}
 use Rattle.std.specs.List.{slice_get}
-use Rattle.std.specs.Option.{option_map}
-use Rattle.std.specs.Borrow.{Bor}
 use Rattle.std.proofs.Common.{ap, sym, ◌∙◌, subst, ⊎_elim}
-use Rattle.std.proofs.lemmas.Result.{IfOk-weaker}
 use Rattle.clf_syntax.specs.declared.tree.Head.{Head}
 use Rattle.clf_syntax.specs.declared.tree.Head.TheVariants.{Const, Var, Meta}
 use Rattle.clf_syntax.specs.declared.tree.Elim.{Elim}
 use Rattle.clf_syntax.specs.declared.tree.Neutral.{Neutral}
 use Rattle.clf_syntax.specs.declared.tree.Simple.{Simple}
 use Rattle.clf_syntax.specs.declared.tree.SimpleEntry.{SimpleEntry}
-use Rattle.clf_syntax.specs.Tree.{PlainNeutral, head_alone, head_of, spine_on}
+use Rattle.clf_syntax.specs.Tree.{head_alone, head_of, spine_on}
 use Rattle.clf_syntax.specs.TypeTree.{SimpleType}
 use Rattle.clf_syntax.specs.Plain.{plain_neutral, plain_elim, plain-neutral}
 use Rattle.clf_syntax.specs.PlainSimple.{plain_simple}

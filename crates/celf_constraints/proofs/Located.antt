@@ -1,22 +1,19 @@
 -- What was read of a typed neutral puts its metavariable on locals, and each metavariable on locals is read so.
-use Rattle.std.specs.Prelude.{ℕ, zero, suc, ◌≡◌, ◌⊎◌, ◌&&◌, Bool, true, false, List, [], ◌∷◌, ◌++◌, map, reverse, Option, Some, None, refl}
+use Rattle.std.specs.Prelude.{ℕ, ◌≡◌, ◌&&◌, Bool, true, false, List, [], ◌∷◌, ◌++◌, map, reverse, Some, refl}
 use Rattle.std.specs.List.{slice_get}
 use Rattle.std.proofs.Common.{ap, sym, ◌∙◌, subst, inl, inr, ⊎_elim, append_assoc}
 use Rattle.std.proofs.lemmas.List.{map-append, reverse-append}
 use Rattle.clf_syntax.specs.declared.tree.Mode.{Mode}
-use Rattle.clf_syntax.specs.declared.tree.Head.{Head}
 use Rattle.clf_syntax.specs.declared.tree.Head.TheVariants.{Var, Meta}
-use Rattle.clf_syntax.specs.Tree.{PlainObject, PlainNeutral, head_alone, app, fst, snd, PlainElimination, arg, first, second, eliminated, spine_on}
+use Rattle.clf_syntax.specs.Tree.{PlainObject, PlainNeutral, head_alone, app, fst, snd, PlainElimination, arg, first, second, spine_on}
 use Rattle.clf_syntax.specs.TypeTree.{SimpleType, base, arrow, simple_with, simple_top, lax}
 use Rattle.clf_syntax.specs.Simple.{Assignment, no_holes, SimplyTyped, SimplyTypedNeutral}
-use Rattle.clf_syntax.proofs.OccursLaws.{not_both}
-use Rattle.hered_subst.proofs.SimpleTyping.{Typed, typed_lam, typed_pair, typed_unit, typed_monadic, typed_metavariable, typed_atomic, to_typed, of_typed}
+use Rattle.hered_subst.proofs.SimpleTyping.{Typed, typed_lam, typed_pair, typed_unit, typed_monadic, typed_metavariable, typed_atomic, to_typed}
 use Rattle.subst_laws.proofs.Variables.{neutral_has_one_type}
 use Rattle.eta_laws.specs.Eta.{eta}
-use Rattle.pattern_laws.specs.Patterns.{Place as PlainPlace, blank, is_blank, on, arrows, local_at, OwnPlace, OwnPlaces}
+use Rattle.pattern_laws.specs.Patterns.{Place as PlainPlace, blank, is_blank, on, arrows, OwnPlace, OwnPlaces}
 use Rattle.pattern_laws.proofs.TypeParts.{from_type}
 use Rattle.pattern_laws.proofs.Typings.{blank_is}
-use Rattle.inversion_laws.proofs.Misfits.{blank_eta}
 use Rattle.celf_constraints.specs.Read.{Reading, place_of, own_of, ReadAs, Reads}
 
 -- a list that is turned round, with its first element put behind
