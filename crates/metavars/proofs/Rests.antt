@@ -1,4 +1,4 @@
--- Expressions that grow in front, and spines that grow at the end.
+-- Spines and steps that are gone through from an end.
 use Rattle.std.specs.Prelude.{ℕ, zero, suc, ◌+◌, ◌<◌, ◌≤◌, ◌≡◌, length, take, drop, List, [], ◌∷◌, ◌++◌, refl}
 use Rattle.std.proofs.Common.{ap, sym, ◌∙◌, arith, get_or}
 use Rattle.std.proofs.lemmas.List.{map-append, reverse-append, reverse-reverse, take_more}
@@ -6,30 +6,14 @@ use Rattle.clf_syntax.specs.declared.tree.Mode.{Mode}
 use Rattle.clf_syntax.specs.declared.tree.Elim.{Elim}
 use Rattle.clf_syntax.specs.declared.tree.Neutral.{Neutral}
 use Rattle.clf_syntax.specs.declared.tree.Step.{Step}
-use Rattle.clf_syntax.specs.Tree.{PlainNeutral, head_alone, app, fst, snd, PlainExpression, step, steps_on, PlainElimination, arg, first, second, eliminated, spine_on, head_of}
+use Rattle.clf_syntax.specs.Tree.{PlainNeutral, head_alone, app, fst, snd, PlainExpression, step, steps_on, PlainElimination, eliminated, spine_on}
+use Rattle.hered_put.proofs.Pieces.{spine-more}
 use Rattle.clf_syntax.specs.Plain.{plain_neutral, plain_elim, plain_step, plain-neutral}
 use Rattle.std.proofs.Common.{map}
 
-pub steps-behind : (xs ys : List (List Mode × PlainNeutral)) (e : PlainExpression) → steps_on (xs ++ ys) e ≡ steps_on xs (steps_on ys e)
-steps-behind [] ys e = refl
-steps-behind (x ∷ xs) ys e = ap (step x.0 x.1) (steps-behind xs ys e)
-
-pub ruleset rest_laws = (reverse-reverse, reverse-append, map-append, steps-behind)
-
-pub spine-more : (es : List PlainElimination) (e : PlainElimination) (r : PlainNeutral) → spine_on (es ++ e ∷ []) r ≡ eliminated e (spine_on es r)
-spine-more [] e r = refl
-spine-more (x ∷ es) e r = spine-more es e (eliminated x r)
-
-pub ruleset spine_laws = (spine-more, map-append)
-
-pub head-spine : (es : List PlainElimination) (r : PlainNeutral) → head_of (spine_on es r) ≡ head_of r
-head-spine [] r = refl
-head-spine (arg m o ∷ es) r = head-spine es (app m r o)
-head-spine (first ∷ es) r = head-spine es (fst r)
-head-spine (second ∷ es) r = head-spine es (snd r)
-
-pub head-plain : (n : Neutral) → head_of (plain_neutral n) ≡ n.head
-head-plain n = ap head_of (plain-neutral n) ∙ head-spine (map plain_elim n.spine) (head_alone n.head)
+pub spine-append : (es fs : List PlainElimination) (r : PlainNeutral) → spine_on (es ++ fs) r ≡ spine_on fs (spine_on es r)
+spine-append [] fs r = refl
+spine-append (e ∷ es) fs r = spine-append es fs (eliminated e r)
 
 pub spine-next : (xs : List Elim) (i : ℕ) (x : Elim) (r : PlainNeutral) → i < length xs → x ≡ get_or xs i x
     → spine_on (map plain_elim (take (i + 1) xs)) r ≡ eliminated (plain_elim x) (spine_on (map plain_elim (take i xs)) r)
