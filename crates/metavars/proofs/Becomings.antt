@@ -302,13 +302,13 @@ module _ (store : Stored) where
   step-value : (ms : List Mode) (r : PlainNeutral) (v : PlainObject × SimpleType) (e f x : PlainExpression) → Value store r v → Expression store e f → Front ms v f x → Expression store (step ms r e) x
   unfolding Value Expression Front
   step-value ms r v e f x h k q = (
-    (λ s p c. through v.0 x (h.0 s p c) (subst (λ z. SubstitutedExpression z e f) (sym (under-closed s c (length ms))) (k.0 s p c)) q.0),
+    (λ s p c. through s v.0 x (h.0 s p c) (subst (λ z. SubstitutedExpression z e f) (sym (under-closed s c (length ms))) (k.0 s p c)) q.0),
     (λ z ts w p. let (u, a, i, b) = p in let (j, y) = h.1 z (lax u) w a in q.1 z u ts j i y (k.1 (extended_by u z) ts (types-extended_by u z (additions store) w) b)),
   )
     where
-      through : {s : Instantiation} (o : PlainObject) (y : PlainExpression) → HasValue (instant s) r o → SubstitutedExpression (under (length ms) (instant s)) e f → ValueInFront ms o f y → SubstitutedExpression (instant s) (step ms r e) y
-      through o y a b (flat_in_front c) = step_value a b c
-      through o y a b (meta_in_front c) = step_meta a c b
+      through : (s : Instantiation) (o : PlainObject) (y : PlainExpression) → HasValue (instant s) r o → SubstitutedExpression (under (length ms) (instant s)) e f → ValueInFront ms o f y → SubstitutedExpression (instant s) (step ms r e) y
+      through s o y a b (flat_in_front c) = step_value a b c
+      through s o y a b (meta_in_front c) = step_meta a c b
 
   pub step-in-front : (ms : List Mode) (r : PlainNeutral) (o : Outcome) (e f x : PlainExpression) → BecomesOutcome store r o → Expression store e f → InFront ms o f x → Expression store (step ms r e) x
   step-in-front ms r (KeptOutcome n) e f x h k q = subst (Expression store (step ms r e)) (sym q) (step-kept ms r (plain_neutral n) e f h k)

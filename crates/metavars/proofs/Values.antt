@@ -1,5 +1,5 @@
 -- Values under eliminations and in front of steps, which fit where types type them; and how a refusal is passed on.
-use Rattle.std.specs.Prelude.{ℕ, zero, suc, ◌≡◌, ◌≢◌, ◌⊎◌, List, [], ◌∷◌, length, map, Option, Result, Ok, Err, IfOk, Some, None, refl}
+use Rattle.std.specs.Prelude.{ℕ, zero, suc, true, ◌≡◌, ◌≢◌, ◌⊎◌, List, [], ◌∷◌, length, map, Option, Result, Ok, Err, IfOk, Some, None, refl}
 use Rattle.std.proofs.Common.{ap, sym, subst, ◌∙◌, arith, inl, inr, ⊎_elim, add-one}
 use Rattle.clf_syntax.specs.declared.tree.Mode.{Mode}
 use Rattle.clf_syntax.specs.declared.tree.Head.{Head}
@@ -90,7 +90,7 @@ module _ (m : Mode) (d : SimpleType) (y : PlainObject) where
 
   pub at-pair : (l r : PlainObject) → NotAppliedAt m d (pair l r) y
   unfolding NotAppliedAt
-  at-pair l r z c p w = let (i, j, e, q) = p in absurd (cc)
+  at-pair l r z c p w = let (i, j, e, q, u) = p in absurd (cc)
 
   pub at-unit : NotAppliedAt m d unit y
   unfolding NotAppliedAt
@@ -232,7 +232,7 @@ module _ (ms : List Mode) (e : PlainExpression) where
 
   pub pair-not_front : (l r : PlainObject) (t : SimpleType) → NotFront ms (pair l r, t) e
   unfolding NotFront
-  pair-not_front l r t z ts us i j p q = let (d, c, k, w) = p in absurd (cc)
+  pair-not_front l r t z ts us i j p q = let (d, c, k, w, u) = p in absurd (cc)
 
   pub unit-not_front : (t : SimpleType) → NotFront ms (unit, t) e
   unfolding NotFront
@@ -271,7 +271,7 @@ module _ (ms : List Mode) (e : PlainExpression) where
     kept-flat es x h k = (h, (λ z ts us i j p q. k z us (subst (SimplyTypedExpression z g) (sym (lax_same i)) p) (subst (λ u. SimplyTypedExpression (extended_by u z) e us) (sym (lax_same i)) q)))
 
     pub kept-refuses : (es : List SimpleEntry) (fault : PutFault)
-        → ((z : Assignment) (us : SimpleTelescope) → SimplyTypedExpression z g (simple_telescope_of (map plain_simple_entry es)) → SimplyTypedExpression (extended_by (simple_telescope_of (map plain_simple_entry es)) z) e us → Keeps {Expr} (Err fault) (λ x. SimplyTypedExpression z (plain_expr x) us))
+        → ((z : Assignment) (us : SimpleTelescope) → SimplyTypedExpression z g (simple_telescope_of (map plain_simple_entry es)) → SimplyTypedExpression (extended_by (simple_telescope_of (map plain_simple_entry es)) z) e us → Keeps {X = Expr} (Err fault) (λ x. SimplyTypedExpression z (plain_expr x) us))
         → Refuses (NotFlat ms g (lax (simple_telescope_of (map plain_simple_entry es))) e) fault
     unfolding NotFlat
     kept-refuses es Untyped k = λ z ts us i j p q. k z us (subst (SimplyTypedExpression z g) (sym (lax_same i)) p) (subst (λ u. SimplyTypedExpression (extended_by u z) e us) (sym (lax_same i)) q)

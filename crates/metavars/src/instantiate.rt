@@ -293,6 +293,7 @@ fn value_in_front(
 }
 
 /// The steps of a value, and then the rest with its tuple put for the variables of the step.
+#[tactic(auto, using(clf_syntax::specs::PlainSimple::plain_simple_laws, crate::proofs::Values::flat_laws))]
 fn flat_in_front(
     alloc: Global,
     modes: &Modes,

@@ -1,5 +1,6 @@
 use Rattle.std.proofs.Common.{subst, sym}
-use Rattle.metavars.specs.Outcomes.{InFront, plain_rest}
+use Rattle.hered_put.specs.Outcomes.{plain_rest}
+use Rattle.metavars.specs.Outcomes.{InFront}
 use Rattle.metavars.proofs.instantiate.in_front.Goals as goal
 
 pub returns-in_ok-behind-in-Kept : goal.returns-in_ok-behind-in-Kept
