@@ -14,9 +14,11 @@ use Rattle.clf_syntax.specs.TypeTree.{PlainType, family, function, both, top, mo
 use Rattle.clf_syntax.specs.Simple.{Assignment, Families, erase, erase_telescope, extended, extended_by, simple_modes, no_holes, MayStand, SimplyTyped, SimplyTypedNeutral, SimplyTypedExpression, SimplyTypedTuple, SimplyTypedEach, SimplyFormed, SimplyFormedTelescope}
 use Rattle.clf_syntax.specs.Occurs.{occurs}
 use Rattle.clf_syntax.specs.Renaming.{ren, up}
-use Rattle.clf_syntax.specs.Plain.{plain_obj, plain_neutral, plain_entry}
+use Rattle.clf_syntax.specs.declared.tree.Step.{Step}
+use Rattle.clf_syntax.specs.Plain.{plain_obj, plain_neutral, plain_step, plain_entry}
 use Rattle.clf_syntax.specs.PlainTypes.{plain_tele_entry}
 use Rattle.clf_syntax.specs.PlainSimple.{plain_simple}
+use Rattle.clf_syntax.proofs.Next.{dropped}
 use Rattle.clf_syntax.proofs.OccursLaws.{agreeing, not_both}
 use Rattle.clf_syntax.proofs.RenamingLaws.{ext, identity}
 use Rattle.hered_subst.specs.Substitution.{Image, keep, put, ren_image, under, Substituted, through_lam, through_pair, through_unit, through_hole, through_monadic, through_kept, through_value, kept_bare, kept_app, kept_fst, kept_snd, HasValue, value_bare, value_app, value_fst, value_snd, SubstitutedExpression, through_done, step_kept, step_value, step_meta, SubstitutedTuple, through_empty, through_entry, SubstitutedEach, each_none, each_next, SubstitutedType, in_family, in_function, in_both, in_top, in_monad, SubstitutedTelescope, in_end, in_binding}
@@ -30,6 +32,7 @@ use Rattle.metavars.specs.Stored.{Stored, additions}
 use Rattle.metavars.specs.Typed.{TypesStore}
 use Rattle.metavars.specs.Becoming.{Object, NoObject, Kept, Value, NoNeutral, Expression, NoExpression, NoTuple, NoIndices, Typing, NoTyping, TelescopeOf, NoTelescope, Entry, NoEntry, TypingEntry, NoTypingEntry, Each, none, next}
 use Rattle.metavars.specs.Outcomes.{plain_value, Applied, NotApplied, IsPair, NoPair, BecomesOutcome, IsKept, IsSolvedAt, UnderArgument, NotUnderArgument, UnderFirst, UnderSecond, NotProjected, ValueInFront, flat_in_front, meta_in_front, Front, NotFront, InFront, NotInFront}
+use Rattle.metavars.proofs.Rests.{steps-split}
 use Rattle.metavars.proofs.TypesStores.{types-extended, types-extended_by, solution-typed, one-type}
 
 -- ---- under binders
@@ -331,6 +334,11 @@ module _ (store : Stored) where
   unfolding NoExpression
   no-rest [] e h z ts w p = h z ts w p
   no-rest (x ∷ xs) e h z ts w p = let (u, q, i, v) = p in no-rest xs e h (extended_by u z) ts (types-extended_by u z (additions store) w) v
+
+  -- a step in front of the rest
+  pub no-step : (xs : List Step) (i : ℕ) (x : Step) (e : PlainExpression) → i < length xs → x ≡ get_or xs i x → NoExpression store (steps_on (plain_step x ∷ []) (steps_on (map plain_step (drop (i + 1) xs)) e)) → NoExpression store (steps_on (map plain_step xs) e)
+  no-step xs i x e l q h = subst (NoExpression store) (steps-split xs i e)
+      (no-rest (map plain_step (take i xs)) (steps_on (map plain_step (drop i xs)) e) (subst (λ ys. NoExpression store (steps_on (map plain_step ys) e)) (sym (dropped xs i x l q)) h))
 
   -- ---- types
 

@@ -1,6 +1,9 @@
 -- Values under eliminations and in front of steps, which fit where types type them; and how a refusal is passed on.
 use Rattle.std.specs.Prelude.{ℕ, zero, suc, true, ◌≡◌, ◌≢◌, ◌⊎◌, List, [], ◌∷◌, length, map, Option, Result, Ok, Err, IfOk, Some, None, refl}
 use Rattle.std.proofs.Common.{ap, sym, subst, ◌∙◌, arith, inl, inr, ⊎_elim, add-one}
+use Rattle.std.specs.Result.{IsErrAnd}
+use Rattle.clf_syntax.specs.declared.fault.OrWide.{OrWide}
+use Rattle.clf_syntax.specs.declared.fault.OrWide.TheVariants.{Fault, NoMemory as WantsMemory, TooFar as PassesFar}
 use Rattle.clf_syntax.specs.declared.tree.Mode.{Mode}
 use Rattle.clf_syntax.specs.declared.tree.Head.{Head}
 use Rattle.clf_syntax.specs.declared.tree.Head.TheVariants.{Const, Var, Meta}
@@ -20,7 +23,9 @@ use Rattle.hered_put.specs.declared.fault.PutFault.{PutFault}
 use Rattle.hered_put.specs.declared.fault.PutFault.TheVariants.{Untyped, TooFar, NoMemory}
 use Rattle.hered_put.specs.Answers.{Keeps}
 use Rattle.hered_put.proofs.Called.{entries-length}
-use Rattle.metavars.specs.Outcomes.{Refuses, Gives, Applied, NotApplied, AppliedAt, NotAppliedAt, NoPair, IsNoPair, flat_in_front, meta_in_front, MetaInFront, NoMeta, Front, NotFront, Flat, NotFlat}
+use Rattle.metavars.specs.declared.instance.Untyped.{Untyped as IsUntyped}
+use Rattle.metavars.specs.Typed.{Keeps as TypedKeeps}
+use Rattle.metavars.specs.Outcomes.{Refuses, Gives, IsFaultOf, Applied, NotApplied, AppliedAt, NotAppliedAt, NoPair, IsNoPair, flat_in_front, meta_in_front, MetaInFront, NoMeta, Front, NotFront, Flat, NotFlat}
 
 -- ---- refusals
 
@@ -33,10 +38,27 @@ refuses-more F G NoMemory f h = tt
 pub refused : {X : Type 0} (F G : Type 0) (P : X → Type 0) (r : Result X PutFault) (fault : PutFault) → r ≡ Err fault → (F → G) → Refuses F fault → Gives G P r
 refused F G P r fault e f h = subst (Gives G P) (sym e) (refuses-more F G fault f h)
 
+-- the same, at the exit of a `?`
+pub refused-by : {X : Type 0} (F G : Type 0) (P : X → Type 0) (r : Result X PutFault) (fault : PutFault) → IsErrAnd r (λ y. y ≡ fault) → (F → G) → Refuses F fault → Gives G P r
+refused-by F G P (Ok x) fault i f h = absurd i
+refused-by F G P (Err y) fault i f h = refuses-more F G y f (subst (Refuses F) (sym i) h)
+
 -- an answer that is passed on
 pub gives-more : {X : Type 0} (F G : Type 0) (P Q : X → Type 0) (r : Result X PutFault) → (F → G) → ((x : X) → P x → Q x) → Gives F P r → Gives G Q r
 gives-more F G P Q (Ok x) f g h = g x h
 gives-more F G P Q (Err fault) f g h = refuses-more F G fault f h
+
+-- the fault that is answered for a refusal
+pub kept-fault : {X : Type 0} (F : Type 0) (P : X → Type 0) (fault : PutFault) (f : OrWide IsUntyped) → Refuses F fault → IsFaultOf fault f → (F → ⊥) → TypedKeeps {X = X} (Err f) P
+kept-fault F P Untyped (Fault u) h i n = n h
+kept-fault F P Untyped WantsMemory h i n = tt
+kept-fault F P Untyped (PassesFar w) h i n = tt
+kept-fault F P TooFar (Fault u) h i n = absurd i
+kept-fault F P TooFar WantsMemory h i n = tt
+kept-fault F P TooFar (PassesFar w) h i n = tt
+kept-fault F P NoMemory (Fault u) h i n = absurd i
+kept-fault F P NoMemory WantsMemory h i n = tt
+kept-fault F P NoMemory (PassesFar w) h i n = tt
 
 -- ---- what stands at which type
 

@@ -274,7 +274,7 @@ fn in_front(
 }
 
 /// The same, where the right side has a value.
-#[tactic(auto, using(clf_syntax::specs::Plain::plain_laws))]
+#[tactic(auto, using(clf_syntax::specs::Plain::plain_laws, crate::proofs::Values::front_laws))]
 fn value_in_front(
     alloc: Global,
     modes: &Modes,
