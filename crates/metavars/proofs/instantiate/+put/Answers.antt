@@ -1,6 +1,7 @@
-use Rattle.std.proofs.Common.{ap, sym, subst, ◌∙◌, ◌≡◌, ◌<◌, ◌+◌, List, ◌∷◌, [], ◌≤◌, map, length, take, drop, arith, ⊎_elim, None}
+use Rattle.std.proofs.Common.{ap, sym, subst, ◌∙◌, ◌≡◌, ◌<◌, ◌+◌, ◌-◌, List, ◌∷◌, [], ◌≤◌, map, length, take, drop, arith, ⊎_elim, None}
 use Rattle.clf_syntax.specs.declared.tree.Head.TheVariants.{Meta}
 use Rattle.clf_syntax.specs.declared.tree.Elim.{Elim}
+use Rattle.clf_syntax.specs.declared.tree.Step.{Step}
 use Rattle.clf_syntax.specs.declared.tree.TupleEntry.{TupleEntry}
 use Rattle.clf_syntax.specs.declared.tree.Expr.{out-Expr}
 use Rattle.clf_syntax.specs.Tree.{PlainNeutral, PlainExpression, lam, pair, monadic, atomic, app, fst, snd, arg, first, second, eliminated, head_alone, spine_on, step, steps_on, done, tuple_of}
@@ -63,7 +64,14 @@ put_object-returns-in_err-neutral-in-At t c =
     refused-by _ _ _ _ _ c.from_residual-in_err-neutral-in-At.ensures.1 (λ h. subst (becoming.NoObject store) (sym is) (no-atomic store b (subst (λ w. becoming.NoNeutral w b) same h))) c.in_err-neutral-in-At.ensures
 
 pub put_object-returns-in-Solved : goal.put_object-returns-in-Solved
-put_object-returns-in-Solved t c = ?
+put_object-returns-in-Solved t c =
+    let store = c.args.looking.now.store.now in
+    let n = plain_neutral c.in-At.neutral in
+    let v = plain_value c.in-Solved.value in
+    let is : plain_obj c.args.obj.now ≡ atomic n = cc (plain-At c.in-At.neutral) in
+    let same : c.in_ok-inside.inside.store.now ≡ store = cc (c.in_ok-inside.ensures.store) in
+    let becomes = subst (λ o. BecomesOutcome c.in_ok-inside.inside.store.now n o) c.in-Solved.is c.in_ok-neutral-in-At.ensures in
+    subst (λ o. becoming.Object store o v.0) (sym is) (object-value store n v (subst (λ w. becoming.Value w n v) same becomes))
 
 pub put_entry-returns-in_err-put_object : goal.put_entry-returns-in_err-put_object
 put_entry-returns-in_err-put_object t c =
@@ -207,7 +215,13 @@ put_expression-returns-in_err-rest t c =
     let end : PlainExpression = done (tuple_of (map plain_entry (out-Expr e).result)) in
     let xs = c.as_slice-steps.result.now in
     let x = c.index-steps-left.result in
-    ?
+    let i = c.loop-left.left - 1 in
+    let lt : i < length xs = omega (arith, c.loop-left.invariant.0) in
+    let next : i + 1 ≡ c.loop-left.left = omega arith in
+    let whole = ap (λ (ys : List Step). steps_on (map plain_step ys) end) c.as_slice-steps.ensures ∙ sym (plain-expr e) in
+    refused-by _ _ _ _ _ c.from_residual-in_err-rest.ensures.1
+    (λ h. subst (becoming.NoExpression store) whole (no-step store xs i x end lt c.index-steps-left.is
+        (subst (λ k. becoming.NoExpression store (steps_on (plain_step x ∷ []) (steps_on (map plain_step (drop k xs)) end))) (sym next) (h _ c.loop-left.invariant.1)))) c.in_err-rest.ensures
 
 pub put_step-returns-in_err-outcome : goal.put_step-returns-in_err-outcome
 put_step-returns-in_err-outcome t c =

@@ -1,4 +1,4 @@
-use Rattle.std.proofs.Common.{ap, sym, subst, ◌∙◌, ◌<◌, ◌+◌, List, [], map, length, take, arith}
+use Rattle.std.proofs.Common.{ap, sym, subst, ◌∙◌, ◌≡◌, ◌<◌, ◌+◌, List, [], map, length, take, arith}
 use Rattle.clf_syntax.specs.declared.tree.TeleEntry.{TeleEntry}
 use Rattle.clf_syntax.specs.declared.tree.TeleEntry.{out-TeleEntry}
 use Rattle.clf_syntax.specs.TypeTree.{family, function, both, monad, telescope_of}
