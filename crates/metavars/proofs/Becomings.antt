@@ -1,5 +1,5 @@
 -- What trees become with all solutions put in, one form of tree after the other, and that they stay typed. A solution has no free variable, so nothing changes under binders.
-use Rattle.std.specs.Prelude.{ℕ, zero, suc, ◌+◌, ◌-◌, ◌<◌, ◌≡◌, ◌⊎◌, nat_lt, if◌then◌else◌, true, false, List, [], ◌∷◌, ◌++◌, length, map, take, drop, Option, Some, None, refl}
+use Rattle.std.specs.Prelude.{ℕ, zero, suc, ◌+◌, ◌<◌, ◌≡◌, true, false, List, [], ◌∷◌, ◌++◌, length, map, take, drop, Option, Some, None, refl}
 use Rattle.std.proofs.Common.{ap, sym, subst, ◌∙◌, arith, get_or, inl, inr, ⊎_elim}
 use Rattle.std.proofs.lemmas.List.{map-append, take_more}
 use Rattle.std.specs.List.{slice_get}
@@ -9,9 +9,9 @@ use Rattle.clf_syntax.specs.declared.tree.Head.TheVariants.{Const, Var, Meta}
 use Rattle.clf_syntax.specs.declared.tree.Obj.{Obj}
 use Rattle.clf_syntax.specs.declared.tree.TupleEntry.{TupleEntry}
 use Rattle.clf_syntax.specs.declared.tree.TeleEntry.{TeleEntry}
-use Rattle.clf_syntax.specs.Tree.{PlainObject, lam, pair, unit, monadic, atomic, hole, PlainNeutral, head_alone, app, fst, snd, PlainElimination, arg, first, second, eliminated, spine_on, PlainExpression, step, steps_on, done, PlainTuple, tuple_of, head_of}
+use Rattle.clf_syntax.specs.Tree.{PlainObject, lam, pair, unit, monadic, atomic, hole, PlainNeutral, head_alone, app, fst, snd, PlainElimination, arg, first, second, spine_on, PlainExpression, step, steps_on, done, tuple_of, head_of}
 use Rattle.clf_syntax.specs.TypeTree.{PlainType, family, function, both, top, monad, PlainTelescope, telescope_of, SimpleType, arrow, simple_with, lax, SimpleTelescope, simple_binding}
-use Rattle.clf_syntax.specs.Simple.{Assignment, Families, erase, erase_telescope, extended, extended_by, simple_modes, no_holes, MayStand, SimplyTyped, SimplyTypedNeutral, SimplyTypedExpression, SimplyTypedTuple, SimplyTypedEach, SimplyFormed, SimplyFormedTelescope}
+use Rattle.clf_syntax.specs.Simple.{Assignment, Families, erase, erase_telescope, extended, extended_by, no_holes, MayStand, SimplyTyped, SimplyTypedTuple, SimplyTypedEach, SimplyFormed, SimplyFormedTelescope}
 use Rattle.clf_syntax.specs.Occurs.{occurs}
 use Rattle.clf_syntax.specs.Renaming.{ren, up}
 use Rattle.clf_syntax.specs.declared.tree.Step.{Step}
@@ -21,7 +21,7 @@ use Rattle.clf_syntax.specs.PlainSimple.{plain_simple}
 use Rattle.clf_syntax.proofs.Next.{dropped}
 use Rattle.clf_syntax.proofs.OccursLaws.{agreeing, not_both}
 use Rattle.clf_syntax.proofs.RenamingLaws.{ext, identity}
-use Rattle.hered_subst.specs.Substitution.{Image, keep, put, ren_image, under, Substituted, through_lam, through_pair, through_unit, through_hole, through_monadic, through_kept, through_value, kept_bare, kept_app, kept_fst, kept_snd, HasValue, value_bare, value_app, value_fst, value_snd, SubstitutedExpression, through_done, step_kept, step_value, step_meta, SubstitutedTuple, through_empty, through_entry, SubstitutedEach, each_none, each_next, SubstitutedType, in_family, in_function, in_both, in_top, in_monad, SubstitutedTelescope, in_end, in_binding}
+use Rattle.hered_subst.specs.Substitution.{put, ren_image, under, Substituted, through_lam, through_pair, through_unit, through_hole, through_monadic, through_kept, through_value, kept_bare, kept_app, kept_fst, kept_snd, HasValue, value_bare, value_app, value_fst, value_snd, SubstitutedExpression, through_done, step_kept, step_value, step_meta, SubstitutedTuple, through_empty, through_entry, SubstitutedEach, each_none, each_next, SubstitutedType, in_family, in_function, in_both, in_top, in_monad, SubstitutedTelescope, in_end, in_binding}
 use Rattle.hered_subst.proofs.Determined.{determined}
 use Rattle.subst_laws.specs.Environments.{Instantiation, instant, image_or}
 use Rattle.metavars.specs.declared.value.Outcome.{Outcome}
@@ -199,7 +199,7 @@ module _ (store : Stored) where
   value-fst r f x y h q = (
     (λ s p c. value_fst (subst (HasValue (instant s) r) q.0 (h.0 s p c))),
     (λ z t w p. let (d, u) = p in let (e, i) = h.1 z (simple_with t d) w u in let k : simple_with x.1 y.1 ≡ simple_with t d = sym q.1 ∙ e in
-      ((with_same k).0, (parts-typed z f.0 x.0 y.0 x.1 y.1 t d q.0 k i).0)),
+        ((with_same k).0, (parts-typed z f.0 x.0 y.0 x.1 y.1 t d q.0 k i).0)),
   )
 
   value-snd : (r : PlainNeutral) (f x y : PlainObject × SimpleType) → Value store r f → IsPair f x y → Value store (snd r) y
@@ -207,7 +207,7 @@ module _ (store : Stored) where
   value-snd r f x y h q = (
     (λ s p c. value_snd (subst (HasValue (instant s) r) q.0 (h.0 s p c))),
     (λ z t w p. let (d, u) = p in let (e, i) = h.1 z (simple_with d t) w u in let k : simple_with x.1 y.1 ≡ simple_with d t = sym q.1 ∙ e in
-      ((with_same k).1, (parts-typed z f.0 x.0 y.0 x.1 y.1 d t q.0 k i).1)),
+        ((with_same k).1, (parts-typed z f.0 x.0 y.0 x.1 y.1 d t q.0 k i).1)),
   )
 
   pub no-argument : (m : Mode) (r : PlainNeutral) (o : PlainObject) → NoObject store o → NoNeutral store (app m r o)

@@ -1,19 +1,14 @@
 -- Spines and steps that are gone through from an end.
 use Rattle.std.specs.Prelude.{ℕ, zero, suc, ◌+◌, ◌<◌, ◌≤◌, ◌≡◌, length, take, drop, List, [], ◌∷◌, ◌++◌, refl}
 use Rattle.std.proofs.Common.{ap, sym, ◌∙◌, arith, get_or}
-use Rattle.std.proofs.lemmas.List.{map-append, reverse-append, reverse-reverse, take_more}
-use Rattle.clf_syntax.specs.declared.tree.Mode.{Mode}
+use Rattle.std.proofs.lemmas.List.{map-append, take_more}
 use Rattle.clf_syntax.specs.declared.tree.Elim.{Elim}
 use Rattle.clf_syntax.specs.declared.tree.Neutral.{Neutral}
 use Rattle.clf_syntax.specs.declared.tree.Step.{Step}
-use Rattle.clf_syntax.specs.Tree.{PlainNeutral, head_alone, app, fst, snd, PlainExpression, step, steps_on, PlainElimination, eliminated, spine_on}
+use Rattle.clf_syntax.specs.Tree.{PlainNeutral, head_alone, PlainExpression, step, steps_on, eliminated, spine_on}
 use Rattle.hered_put.proofs.Pieces.{spine-more}
 use Rattle.clf_syntax.specs.Plain.{plain_neutral, plain_elim, plain_step, plain-neutral}
 use Rattle.std.proofs.Common.{map}
-
-pub spine-append : (es fs : List PlainElimination) (r : PlainNeutral) → spine_on (es ++ fs) r ≡ spine_on fs (spine_on es r)
-spine-append [] fs r = refl
-spine-append (e ∷ es) fs r = spine-append es fs (eliminated e r)
 
 pub spine-next : (xs : List Elim) (i : ℕ) (x : Elim) (r : PlainNeutral) → i < length xs → x ≡ get_or xs i x
     → spine_on (map plain_elim (take (i + 1) xs)) r ≡ eliminated (plain_elim x) (spine_on (map plain_elim (take i xs)) r)

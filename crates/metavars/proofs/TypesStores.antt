@@ -1,5 +1,5 @@
 -- Types of a store: under binders, of what a solved metavariable stands for, and those that the store has itself.
-use Rattle.std.specs.Prelude.{ℕ, nat_eq, if◌then◌else◌, Bool, true, false, ◌≡◌, List, [], ◌∷◌, ◌++◌, Some, None, refl}
+use Rattle.std.specs.Prelude.{ℕ, nat_eq, if◌then◌else◌, Bool, true, false, ◌≡◌, List, [], ◌∷◌, ◌++◌, Some, refl}
 use Rattle.std.proofs.Common.{ap, sym, subst, ◌∙◌, arith}
 use Rattle.std.specs.List.{slice_get}
 use Rattle.clf_syntax.specs.declared.tree.Head.{Head}
@@ -26,7 +26,7 @@ without-extended d z = ext (λ h. at_head h)
 pub types-extended : (d : SimpleType) (z : Assignment) (zs : List Addition) → TypesStore z zs → TypesStore (extended d z) zs
 types-extended d z zs w = record {
   metavariables = λ m t e. w.metavariables m t e;
-  solutions = λ m o e. let (t, i, p) = w.solutions m o e in (t, i, subst (λ g. SimplyTyped g o t) (sym (without-extended d z)) p)
+  solutions = λ m o e. let (t, i, p) = w.solutions m o e in (t, i, subst (λ g. SimplyTyped g o t) (sym (without-extended d z)) p);
 }
 
 pub types-extended_by : (ts : SimpleTelescope) (z : Assignment) (zs : List Addition) → TypesStore z zs → TypesStore (extended_by ts z) zs
@@ -68,7 +68,7 @@ given-added (solved k u ∷ zs) m o e = by (nat_eq m k) refl e (λ f. given-adde
 pub store_is_typed : StoreIsTyped
 store_is_typed constants zs store variables = record {
   metavariables = λ m t e. e;
-  solutions = λ m o e. of_added m o (given-added zs m o e)
+  solutions = λ m o e. of_added m o (given-added zs m o e);
 }
   where
     of_added : (m : ℕ) (o : PlainObject) → (before after : List Addition) × (zs ≡ before ++ solved m o ∷ after)

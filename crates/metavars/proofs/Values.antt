@@ -1,6 +1,6 @@
 -- Values under eliminations and in front of steps, which fit where types type them; and how a refusal is passed on.
-use Rattle.std.specs.Prelude.{ℕ, zero, suc, true, ◌≡◌, ◌≢◌, ◌⊎◌, List, [], ◌∷◌, length, map, Option, Result, Ok, Err, IfOk, Some, None, refl}
-use Rattle.std.proofs.Common.{ap, sym, subst, ◌∙◌, arith, inl, inr, ⊎_elim, add-one}
+use Rattle.std.specs.Prelude.{ℕ, zero, suc, true, ◌≡◌, ◌≢◌, List, length, map, Result, Ok, Err, IfOk, refl}
+use Rattle.std.proofs.Common.{ap, sym, subst, ◌∙◌, arith, ⊎_elim, add-one}
 use Rattle.std.specs.Result.{IsErrAnd}
 use Rattle.clf_syntax.specs.declared.fault.OrWide.{OrWide}
 use Rattle.clf_syntax.specs.declared.fault.OrWide.TheVariants.{Fault, NoMemory as WantsMemory, TooFar as PassesFar}
@@ -12,7 +12,7 @@ use Rattle.clf_syntax.specs.declared.tree.Expr.{Expr}
 use Rattle.clf_syntax.specs.declared.tree.SimpleEntry.{SimpleEntry}
 use Rattle.clf_syntax.specs.Plain.{plain_obj, plain_expr}
 use Rattle.clf_syntax.specs.PlainSimple.{plain_simple_entry, simple_telescope_of}
-use Rattle.clf_syntax.specs.Tree.{PlainObject, lam, pair, unit, monadic, atomic, hole, PlainNeutral, PlainExpression, step, head_of}
+use Rattle.clf_syntax.specs.Tree.{PlainObject, lam, pair, unit, monadic, atomic, hole, PlainNeutral, PlainExpression, head_of}
 use Rattle.clf_syntax.specs.TypeTree.{SimpleType, base, arrow, simple_with, simple_top, lax, SimpleTelescope}
 use Rattle.clf_syntax.specs.Simple.{Assignment, extended, extended_by, simple_modes, no_holes, MayStand, SimplyTyped, SimplyTypedExpression}
 use Rattle.clf_syntax.proofs.RenamingLaws.{ext}
@@ -34,11 +34,7 @@ refuses-more F G Untyped f h = f h
 refuses-more F G TooFar f h = tt
 refuses-more F G NoMemory f h = tt
 
--- a refusal that is passed on
-pub refused : {X : Type 0} (F G : Type 0) (P : X → Type 0) (r : Result X PutFault) (fault : PutFault) → r ≡ Err fault → (F → G) → Refuses F fault → Gives G P r
-refused F G P r fault e f h = subst (Gives G P) (sym e) (refuses-more F G fault f h)
-
--- the same, at the exit of a `?`
+-- a refusal that is passed on, at the exit of a `?`
 pub refused-by : {X : Type 0} (F G : Type 0) (P : X → Type 0) (r : Result X PutFault) (fault : PutFault) → IsErrAnd r (λ y. y ≡ fault) → (F → G) → Refuses F fault → Gives G P r
 refused-by F G P (Ok x) fault i f h = absurd i
 refused-by F G P (Err y) fault i f h = refuses-more F G y f (subst (Refuses F) (sym i) h)

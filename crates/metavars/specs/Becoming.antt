@@ -1,5 +1,5 @@
 -- Inner: what trees become with all solutions of a store put in, and when no types type them; each relation under a name that stays closed.
-use Rattle.std.specs.Prelude.{ℕ, ◌≡◌, List, [], ◌∷◌}
+use Rattle.std.specs.Prelude.{◌≡◌, List, [], ◌∷◌}
 use Rattle.clf_syntax.specs.declared.tree.Mode.{Mode}
 use Rattle.clf_syntax.specs.Tree.{PlainObject, PlainNeutral, PlainExpression, tuple_of, head_of}
 use Rattle.clf_syntax.specs.TypeTree.{PlainType, PlainTelescope, SimpleType, SimpleTelescope}

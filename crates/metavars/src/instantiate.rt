@@ -321,12 +321,7 @@ fn flat_in_front(
 
 /// A step in front of the rest.
 #[tactic(auto, using(clf_syntax::specs::Plain::plain_laws))]
-fn step_in_front(
-    alloc: Global,
-    modes: &Modes,
-    rhs: Neutral,
-    rest: Rest,
-) -> Result<Rest, AllocError>
+fn step_in_front(alloc: Global, modes: &Modes, rhs: Neutral, rest: Rest) -> Result<Rest, AllocError>
     ensures { IfOk result (λ r. plain_rest r ≡ step modes.now (plain_neutral rhs) (plain_rest rest)) }
 {
     let modes = modes.copy(alloc)?;

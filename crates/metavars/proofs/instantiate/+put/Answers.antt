@@ -4,7 +4,7 @@ use Rattle.clf_syntax.specs.declared.tree.Elim.{Elim}
 use Rattle.clf_syntax.specs.declared.tree.Step.{Step}
 use Rattle.clf_syntax.specs.declared.tree.TupleEntry.{TupleEntry}
 use Rattle.clf_syntax.specs.declared.tree.Expr.{out-Expr}
-use Rattle.clf_syntax.specs.Tree.{PlainNeutral, PlainExpression, lam, pair, monadic, atomic, app, fst, snd, arg, first, second, eliminated, head_alone, spine_on, step, steps_on, done, tuple_of}
+use Rattle.clf_syntax.specs.Tree.{PlainNeutral, PlainExpression, lam, pair, monadic, atomic, arg, first, second, eliminated, head_alone, spine_on, step, steps_on, done, tuple_of}
 use Rattle.clf_syntax.specs.Plain.{plain_obj, plain_neutral, plain_elim, plain_expr, plain_step, plain_entry, plain-Lam, plain-Pair, plain-Mon, plain-At, plain-Arg, plain-First, plain-Second, plain-neutral, plain-expr, plain-step, plain-entry}
 use Rattle.hered_put.specs.declared.step.Rest.{Rest}
 use Rattle.hered_put.specs.Outcomes.{plain_rest}
@@ -221,7 +221,7 @@ put_expression-returns-in_err-rest t c =
     let whole = ap (λ (ys : List Step). steps_on (map plain_step ys) end) c.as_slice-steps.ensures ∙ sym (plain-expr e) in
     refused-by _ _ _ _ _ c.from_residual-in_err-rest.ensures.1
     (λ h. subst (becoming.NoExpression store) whole (no-step store xs i x end lt c.index-steps-left.is
-        (subst (λ k. becoming.NoExpression store (steps_on (plain_step x ∷ []) (steps_on (map plain_step (drop k xs)) end))) (sym next) (h _ c.loop-left.invariant.1)))) c.in_err-rest.ensures
+    (subst (λ k. becoming.NoExpression store (steps_on (plain_step x ∷ []) (steps_on (map plain_step (drop k xs)) end))) (sym next) (h _ c.loop-left.invariant.1)))) c.in_err-rest.ensures
 
 pub put_step-returns-in_err-outcome : goal.put_step-returns-in_err-outcome
 put_step-returns-in_err-outcome t c =

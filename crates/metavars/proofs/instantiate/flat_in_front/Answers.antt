@@ -1,14 +1,12 @@
-use Rattle.std.proofs.Common.{ap, sym, subst, ◌∙◌, ◌≡◌, ◌≢◌, length, map, Err, List, arith}
-use Rattle.std.proofs.lemmas.Result.{err_from_is_err_and}
+use Rattle.std.proofs.Common.{ap, sym, subst, ◌∙◌, ◌≡◌, ◌≢◌, length, map, List, arith}
 use Rattle.clf_syntax.specs.declared.tree.SimpleEntry.{SimpleEntry}
 use Rattle.clf_syntax.specs.TypeTree.{lax}
 use Rattle.clf_syntax.specs.Plain.{plain_expr}
 use Rattle.clf_syntax.specs.PlainSimple.{plain_simple, plain_simple_entry, simple_telescope_of, plain-SimpleMonad}
 use Rattle.hered_subst.specs.Substitution.{Flattened}
-use Rattle.hered_put.specs.declared.step.Rest.{Rest}
 use Rattle.hered_put.specs.Outcomes.{plain_rest}
 use Rattle.metavars.specs.Outcomes.{Flat, NotFlat}
-use Rattle.metavars.proofs.Values.{refused, other-not_flat, kept-flat, kept-refuses}
+use Rattle.metavars.proofs.Values.{refused-by, other-not_flat, kept-flat, kept-refuses}
 use Rattle.metavars.proofs.instantiate.flat_in_front.Goals as goal
 
 pub returns-then-len : goal.returns-then-len
@@ -30,9 +28,7 @@ returns-in_err-whole-in-Monad c =
     let t = lax (simple_telescope_of (map plain_simple_entry es)) in
     let fault = c.in_err-whole-in-Monad.field-0.0 in
     let of : plain_simple c.args.ty.now ≡ t = ap plain_simple c.in-Monad.is ∙ plain-SimpleMonad c.in-Monad.entries ∙ ap (λ (l : List SimpleEntry). lax (simple_telescope_of (map plain_simple_entry l))) (sym c.as_slice.ensures) in
-    let p = err_from_is_err_and c.from_residual-in_err-whole-in-Monad.result c.from_residual-in_err-whole-in-Monad.ensures.1 in
-    let i : c.from_residual-in_err-whole-in-Monad.result ≡ Err fault = cc (p.1, p.2) in
-    refused (NotFlat ms g t f) (NotFlat ms g (plain_simple c.args.ty.now) e) (λ (r : Rest). Flat ms g (plain_simple c.args.ty.now) e (plain_rest r)) c.from_residual-in_err-whole-in-Monad.result fault i
+    refused-by _ _ _ _ _ c.from_residual-in_err-whole-in-Monad.ensures.1
     (λ h. subst (λ u. NotFlat ms g u e) (sym of) (subst (λ y. NotFlat ms g t y) c.in_ok-rest-in-Monad.ensures h))
     (kept-refuses ms f g es fault c.in_err-whole-in-Monad.ensures.typed)
 

@@ -25,5 +25,5 @@ returns-in-Fun c =
     let a = plain_simple c.get-in-Fun.result.now in
     let x = plain_obj c.in_ok-apply_object-in-Fun.field-0 in
     let of : plain_simple c.args.value.ty.now ≡ arrow c.in-Fun.mode d a = ap plain_simple c.in-Fun.is ∙ plain-SimpleFun c.in-Fun.mode c.in-Fun.dom c.in-Fun.cod
-      ∙ ap (λ z. arrow c.in-Fun.mode (plain_simple z) (plain_simple c.in-Fun.cod)) (sym c.get.ensures) ∙ ap (λ z. arrow c.in-Fun.mode d (plain_simple z)) (sym c.get-in-Fun.ensures) in
+    ∙ ap (λ z. arrow c.in-Fun.mode (plain_simple z) (plain_simple c.in-Fun.cod)) (sym c.get.ensures) ∙ ap (λ z. arrow c.in-Fun.mode d (plain_simple z)) (sym c.get-in-Fun.ensures) in
     subst (λ t. Applied m (o, t) y (x, a)) (sym of) (at-domain m d y c.in-Fun.mode a o x c.in_ok-apply_object-in-Fun.ensures)

@@ -1,4 +1,4 @@
-use Rattle.std.proofs.Common.{ap, sym, subst, ◌∙◌, ◌≡◌, ◌≢◌, arith, rules}
+use Rattle.std.proofs.Common.{ap, sym, subst, ◌∙◌, ◌≡◌, ◌≢◌, rules}
 use Rattle.clf_syntax.specs.Tree.{lam}
 use Rattle.clf_syntax.specs.Plain.{plain_obj, plain-Lam}
 use Rattle.clf_syntax.specs.PlainSimple.{plain_simple}
