@@ -1,5 +1,5 @@
 -- The places of a metavariable on locals are determined by the neutral: the locals, and their own types.
-use Rattle.std.specs.Prelude.{ℕ, Bool, true, false, zero, suc, ◌≡◌, ◌⊎◌, if◌then◌else◌, List, [], ◌∷◌, Some, None, refl}
+use Rattle.std.specs.Prelude.{ℕ, Bool, true, false, zero, suc, ◌≡◌, ◌⊎◌, ◌==◌, if◌then◌else◌, List, [], ◌∷◌, Some, None, refl}
 use Rattle.std.proofs.Common.{ap, sym, subst, ◌∙◌, arith, inl, inr, ⊎_elim}
 use Rattle.clf_syntax.specs.declared.tree.Mode.{Mode}
 use Rattle.clf_syntax.specs.declared.tree.Head.TheVariants.{Var, Meta}
@@ -97,8 +97,7 @@ pub alike_lacks : {ps qs ps' qs' : List Place} → Alike ps qs ps' qs' → (x : 
 alike_lacks alike_none x l = tt
 alike_lacks (alike_more {p = p} {q = q} {p' = p'} {q' = q'} a h) x l = (⊎_elim
     (λ b. inr (inl (ap blank (sym a.type) ∙ b)))
-    (λ k. ⊎_elim (λ e. inl (sym a.type ∙ e ∙ k.1)) (λ c. inr (⊎_elim (λ b. inl (ap blank (sym a.type) ∙ b)) (λ o. inr (subst (λ v. occurs v x ≡ false) k.0 o)) c)) l.0) a.local,
-alike_lacks h x l.1)
+    (λ k. ⊎_elim (λ e. inl (sym a.type ∙ e ∙ k.1)) (λ c. inr (⊎_elim (λ b. inl (ap blank (sym a.type) ∙ b)) (λ o. inr (subst (λ v. occurs v x ≡ false) k.0 o)) c)) l.0) a.local, alike_lacks h x l.1)
 
 pub turned : {ps qs ps' qs' : List Place} → Alike ps qs ps' qs' → Alike ps' qs' ps qs
 turned alike_none = alike_none

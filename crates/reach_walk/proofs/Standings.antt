@@ -39,7 +39,7 @@ of_unit s = elim s [ ]
 of_monadic : {g : Assignment} {es : Locals} {q : PlainNeutral} {c t : SimpleType} {e : PlainExpression} → Standing g es q c (monadic e) t → ⊥
 of_monadic s = elim s [ ]
 
-of_atomic : {g : Assignment} {es : Locals} {q n : PlainNeutral} {c t : SimpleType} → Standing g es q c (atomic n) t
+pub of_atomic : {g : Assignment} {es : Locals} {q n : PlainNeutral} {c t : SimpleType} → Standing g es q c (atomic n) t
     → ((es ≡ []) × (q ≡ n) × (c ≡ t)) ⊎ ((is_metavariable (head_of n) ≡ false) × StandingBelow g es q c n)
 of_atomic standing_here = inl (refl, refl, refl)
 of_atomic (standing_below e s) = inr (e, s)

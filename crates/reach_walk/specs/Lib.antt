@@ -4,6 +4,7 @@ pub use Rattle.pattern_laws.specs.Patterns
 pub use Rattle.reach_laws.specs.Reach
 pub mod Somewhere
 pub mod Answers
+pub mod Premises
 pub mod Marks
 pub mod Walked
 pub mod Laws

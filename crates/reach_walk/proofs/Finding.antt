@@ -67,7 +67,7 @@ module _ (g : Assignment) (ls : Locals) (m : ℕ) (ps : List Place) where
   -- ---- lambdas
 
   pruned_body : (ds : Locals) (k : Mode) (d c : SimpleType) (b : PlainObject) (o : Option (ℕ × List Bool)) → IsPruned g ls ps ((k, d) ∷ ds) b c o → IsPruned g ls ps ds (lam k b) (arrow k d c) o
-  pruned_body ds k d c b None h w e f = h (w + 1) e (subst (λ i. Foreign (length ls) ps i (w + 1)) (one_longer ds (k, d)) (foreign_under (length ls) ps (length ds) w f))
+  pruned_body ds k d c b None h = λ w e f. h (w + 1) e (subst (λ i. Foreign (length ls) ps i (w + 1)) (one_longer ds (k, d)) (foreign_under (length ls) ps (length ds) w f))
   pruned_body ds k d c b (Some p) h = into_body (IsTaken g ls ps p.0 p.1) g ls ds k d c b h
 
   pub walked_lam : (ds : Locals) (k : Mode) (d c : SimpleType) (b : PlainObject) (f : Found) → Walked g ls m ps ((k, d) ∷ ds) b c f → Walked g ls m ps ds (lam k b) (arrow k d c) f
@@ -83,7 +83,7 @@ module _ (g : Assignment) (ls : Locals) (m : ℕ) (ps : List Place) where
   -- ---- pairs
 
   pruned_pair : (ds : Locals) (c d : SimpleType) (l r : PlainObject) (o u : Option (ℕ × List Bool)) → IsPruned g ls ps ds l c o → IsPruned g ls ps ds r d u → IsPruned g ls ps ds (pair l r) (simple_with c d) (first_of o u)
-  pruned_pair ds c d l r None None h k w e f = ⊎_elim (λ a. h w a f) (λ a. k w a f) (either (occurs w l) (occurs w r) e)
+  pruned_pair ds c d l r None None h k = λ w e f. ⊎_elim (λ a. h w a f) (λ a. k w a f) (either (occurs w l) (occurs w r) e)
   pruned_pair ds c d l r None (Some p) h k = into_right (IsTaken g ls ps p.0 p.1) g ls ds c d l r k
   pruned_pair ds c d l r (Some p) u h k = into_left (IsTaken g ls ps p.0 p.1) g ls ds c d l r h
 
@@ -221,7 +221,7 @@ module _ (g : Assignment) (ls : Locals) (m : ℕ) (ps : List Place) where
 
   pruned_app : (ds : Locals) (k : Mode) (r : PlainNeutral) (x : PlainObject) (d e : SimpleType) → SimplyTypedNeutral (scoped (ds ++ ls) g) r (arrow k d e) → (o u : Option (ℕ × List Bool))
       → IsPrunedBelow g ls ps ds r o → IsPruned g ls ps ds x d u → IsPrunedBelow g ls ps ds (app k r x) (first_of o u)
-  pruned_app ds k r x d e p None None h j w a f = ⊎_elim (λ b. h w b f) (λ b. j w b f) (either (occurs_neutral w r) (occurs w x) a)
+  pruned_app ds k r x d e p None None h j = λ w a f. ⊎_elim (λ b. h w b f) (λ b. j w b f) (either (occurs_neutral w r) (occurs w x) a)
   pruned_app ds k r x d e p None (Some q) h j = into_argument (IsTaken g ls ps q.0 q.1) g ls ds k r x d e p j
   pruned_app ds k r x d e p (Some q) u h j = into_function (IsTaken g ls ps q.0 q.1) g ls ds k r x h
 

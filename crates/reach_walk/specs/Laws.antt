@@ -1,0 +1,1 @@
+-- Laws of the answers, as statements; the functions of the crate's `laws` state them.
