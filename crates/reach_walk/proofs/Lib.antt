@@ -4,3 +4,5 @@ pub mod Marking
 pub mod Finding
 pub mod StandingTyped
 pub mod Reaching
+pub mod Fitted
+pub mod Premising

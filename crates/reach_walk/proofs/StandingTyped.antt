@@ -39,7 +39,7 @@ mutual
   standing_typed (standing_right {g = g} {r = r} s) p = standing_typed s (subst (SimplyTyped g r) (second_type p.2) p.4)
   standing_typed (standing_below {t = t} e s) p = below_typed s t p.1
 
-  below_typed : {g : Assignment} {es : Locals} {q n : PlainNeutral} {c : SimpleType} → StandingBelow g es q c n → (t : SimpleType) → SimplyTypedNeutral g n t → SimplyTyped (scoped es g) (atomic q) c
+  pub below_typed : {g : Assignment} {es : Locals} {q n : PlainNeutral} {c : SimpleType} → StandingBelow g es q c n → (t : SimpleType) → SimplyTypedNeutral g n t → SimplyTyped (scoped es g) (atomic q) c
   below_typed (in_this {g = g} {r = r} {d = d} {m = m} {o = o} e i s) t p = standing_typed s (subst (SimplyTyped g o) (from_type (neutral_has_one_type (no_holes true) g r (arrow m d e) (arrow m p.0 t) i p.1)) p.2)
   below_typed (in_earlier {m = m} s) t p = below_typed s (arrow m p.0 t) p.1
   below_typed (under_fst s) t p = below_typed s (simple_with t p.0) p.1

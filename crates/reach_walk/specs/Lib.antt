@@ -6,5 +6,6 @@ pub mod Somewhere
 pub mod Answers
 pub mod Premises
 pub mod Marks
+pub mod Fits
 pub mod Walked
 pub mod Laws

@@ -3,4 +3,4 @@
 
 mod laws;
 
-pub use laws::answering;
+pub use laws::{answering, stepping};
