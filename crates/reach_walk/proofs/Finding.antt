@@ -1,21 +1,20 @@
 -- What is found in an object, from what is found in its parts.
-use Rattle.std.specs.Prelude.{ℕ, Bool, true, false, ◌+◌, ◌≡◌, ◌<◌, ◌⊎◌, ◌↔◌, ◌||◌, ◌&&◌, not, List, [], ◌∷◌, ◌++◌, length, Option, Some, None, refl}
-use Rattle.std.proofs.Common.{ap, sym, subst, ◌∙◌, arith, inl, inr, ⊎_elim}
+use Rattle.std.specs.Prelude.{ℕ, Bool, true, false, ◌+◌, ◌≡◌, ◌↔◌, ◌||◌, ◌&&◌, not, List, ◌∷◌, ◌++◌, length, Option, Some, None, refl}
+use Rattle.std.proofs.Common.{ap, sym, subst, arith, inl, inr, ⊎_elim}
 use Rattle.clf_syntax.specs.declared.tree.Mode.{Mode}
-use Rattle.clf_syntax.specs.declared.tree.Head.{Head}
-use Rattle.clf_syntax.specs.declared.tree.Head.TheVariants.{Const, Var, Meta}
-use Rattle.clf_syntax.specs.Tree.{PlainObject, lam, pair, unit, monadic, atomic, hole, PlainNeutral, head_alone, app, fst, snd, PlainExpression, head_of}
+use Rattle.clf_syntax.specs.declared.tree.Head.TheVariants.{Const, Var}
+use Rattle.clf_syntax.specs.Tree.{PlainObject, lam, pair, unit, monadic, atomic, PlainNeutral, head_alone, app, fst, snd, PlainExpression, head_of}
 use Rattle.clf_syntax.specs.TypeTree.{SimpleType, arrow, simple_with}
 use Rattle.clf_syntax.specs.Simple.{Assignment, SimplyTypedNeutral, no_holes}
 use Rattle.clf_syntax.specs.Occurs.{occurs, occurs_neutral}
-use Rattle.clf_syntax.proofs.OccursLaws.{or_first, or_second, either, not_both, not_true, own_number}
+use Rattle.clf_syntax.proofs.OccursLaws.{or_first, or_second, either, not_both, not_true}
 use Rattle.hered_subst.specs.TypedEnvironments.{is_metavariable}
 use Rattle.store_laws.specs.Mentions.{mentions, mentions_neutral}
 use Rattle.subst_laws.proofs.Variables.{neutral_has_one_type}
 use Rattle.pattern_laws.specs.Equations.{scoped, Locals}
 use Rattle.pattern_laws.specs.Patterns.{Place, OnDistinct, Foreign, NoForeign}
-use Rattle.reach_laws.specs.Reach.{Prunable, PrunableBelow}
-use Rattle.reach_walk.specs.Somewhere.{Somewhere, SomewhereBelow, ForeignHead, IsItself, Clashing}
+use Rattle.reach_laws.specs.Reach.{Prunable}
+use Rattle.reach_walk.specs.Somewhere.{Somewhere, IsItself, Clashing}
 use Rattle.reach_walk.specs.Answers.{IsTaken}
 use Rattle.reach_walk.specs.Walked.{Found, nothing, first_of, both, IsPruned, IsPrunedBelow, Walked, WalkedBelow}
 use Rattle.reach_walk.proofs.Standings.{into_body, from_body, into_left, into_right, from_pair, not_in_unit, not_in_monadic, here, below, from_atomic, not_in_bare, into_function, into_argument, from_app, into_fst, from_fst, into_snd, from_snd}
@@ -91,11 +90,11 @@ module _ (g : Assignment) (ls : Locals) (m : ℕ) (ps : List Place) where
   walked_pair ds c d l r f k a b = record {
     clash = (
       λ e. ⊎_elim (λ h. into_left (Clashing g ls m ps) g ls ds c d l r (a.clash.0 h)) (λ h. into_right (Clashing g ls m ps) g ls ds c d l r (b.clash.0 h)) (either f.clash k.clash e),
-      λ s. ⊎_elim (λ h. or_first f.clash k.clash (a.clash.1 h)) (λ h. or_second f.clash k.clash (b.clash.1 h)) (from_pair (Clashing g ls m ps) g ls ds c d l r s)
+      λ s. ⊎_elim (λ h. or_first f.clash k.clash (a.clash.1 h)) (λ h. or_second f.clash k.clash (b.clash.1 h)) (from_pair (Clashing g ls m ps) g ls ds c d l r s),
     );
     free = (
       λ e. let (n, p) = a.free.0 (and_first f.free k.free e) in let (o, q) = b.free.0 (and_second f.free k.free e) in (neither n o, (c, d, refl, p, q)),
-      λ p. and_true f.free k.free (a.free.1 (first_not (mentions m l) (mentions m r) p.0, left p.1)) (b.free.1 (second_not (mentions m l) (mentions m r) p.0, right p.1))
+      λ p. and_true f.free k.free (a.free.1 (first_not (mentions m l) (mentions m r) p.0, left p.1)) (b.free.1 (second_not (mentions m l) (mentions m r) p.0, right p.1)),
     );
     pruned = λ e. pruned_pair ds c d l r f.prune k.prune (a.pruned (and_first f.free k.free e)) (b.pruned (and_second f.free k.free e));
   }
@@ -133,7 +132,7 @@ module _ (g : Assignment) (ls : Locals) (m : ℕ) (ps : List Place) where
     clash = (λ e. absurd (cc), λ s. absurd (none s));
     free = (
       λ e. (not_false (mentions m x) (and_first (not (mentions m x)) (not u) e), make (found (not_false u (and_second (not (mentions m x)) (not u) e)))),
-      λ p. and_true (not (mentions m x)) (not u) (false_not (mentions m x) p.0) (false_not u (back (take p.1)))
+      λ p. and_true (not (mentions m x)) (not u) (false_not (mentions m x) p.0) (false_not u (back (take p.1))),
     );
     pruned = λ e. found (not_false u (and_second (not (mentions m x)) (not u) e));
   }
@@ -165,7 +164,7 @@ module _ (g : Assignment) (ls : Locals) (m : ℕ) (ps : List Place) where
   walked_distinct ds n t k zs u o e d same itself pruned = record {
     clash = (
       λ h. here (Clashing g ls m ps) g ls ds n t (inr (zs, subst (λ j. OnDistinct (scoped (ds ++ ls) g) n j zs t) (same h) d)),
-      λ s. ⊎_elim (λ c. ⊎_elim (λ f. absurd (rigid_no e (variable_rigid n f.0 f.1))) (λ i. itself i) c) (λ b. absurd (rigid_no e b.0)) (from_atomic (Clashing g ls m ps) g ls ds n t s)
+      λ s. ⊎_elim (λ c. ⊎_elim (λ f. absurd (rigid_no e (variable_rigid n f.0 f.1))) (λ i. itself i) c) (λ b. absurd (rigid_no e b.0)) (from_atomic (Clashing g ls m ps) g ls ds n t s),
     );
     free = (λ h. (not_false (mentions m (atomic n)) h, inr (e, inr (k, zs, d))), λ p. false_not (mentions m (atomic n)) p.0);
     pruned = λ h. pruned;
@@ -181,7 +180,7 @@ module _ (g : Assignment) (ls : Locals) (m : ℕ) (ps : List Place) where
   walked_rigid ds n t f e not_itself h = record {
     clash = (
       λ c. ⊎_elim (λ a. here (Clashing g ls m ps) g ls ds n t (inl a)) (λ a. below (Clashing g ls m ps) g ls ds n t e a) (h.clash.0 c),
-      λ s. h.clash.1 (⊎_elim (λ c. ⊎_elim (λ a. inl a) (λ i. absurd (not_itself i)) c) (λ b. inr b.1) (from_atomic (Clashing g ls m ps) g ls ds n t s))
+      λ s. h.clash.1 (⊎_elim (λ c. ⊎_elim (λ a. inl a) (λ i. absurd (not_itself i)) c) (λ b. inr b.1) (from_atomic (Clashing g ls m ps) g ls ds n t s)),
     );
     free = (λ c. let (o, p) = h.free.0 c in (o, inl (e, p)), λ p. h.free.1 (p.0, ⊎_elim (λ a. a.1) (λ a. absurd (not_both a.0 e)) p.1));
     pruned = λ c. rigid_pruned ds n t e f.prune (h.pruned c);
@@ -207,11 +206,11 @@ module _ (g : Assignment) (ls : Locals) (m : ℕ) (ps : List Place) where
   walked_variable ds i u k = record {
     clash = (
       λ e. inl (i, refl, k.0 e),
-      λ s. ⊎_elim (λ f. k.1 (subst (Foreign (length ls) ps (length ds)) (sym (number_of f.1)) f.2)) (λ a. absurd (not_in_bare (Clashing g ls m ps) g ls ds (Var i) a)) s
+      λ s. ⊎_elim (λ f. k.1 (subst (Foreign (length ls) ps (length ds)) (sym (number_of f.1)) f.2)) (λ a. absurd (not_in_bare (Clashing g ls m ps) g ls ds (Var i) a)) s,
     );
     free = (
       λ e. (refl, λ w h f. not_both (k.1 (subst (Foreign (length ls) ps (length ds)) (sym (number_of h)) f)) (not_false u e)),
-      λ p. false_not u (not_true u (λ e. p.1 i refl (k.0 e)))
+      λ p. false_not u (not_true u (λ e. p.1 i refl (k.0 e))),
     );
     pruned = λ e w o f. not_both (k.1 (subst (Foreign (length ls) ps (length ds)) (sym (the_number i w o)) f)) (not_false u e);
   }
@@ -234,11 +233,11 @@ module _ (g : Assignment) (ls : Locals) (m : ℕ) (ps : List Place) where
           (λ i. inr (into_argument (Clashing g ls m ps) g ls ds k r x d e p (b.clash.0 i))) (either f.clash h.clash c),
       λ s. ⊎_elim
           (λ i. or_first f.clash h.clash (a.clash.1 (inl i)))
-          (λ i. ⊎_elim (λ j. or_first f.clash h.clash (a.clash.1 (inr j))) (λ j. or_second f.clash h.clash (b.clash.1 j)) (from_app (Clashing g ls m ps) g ls ds k r x d e p i)) s
+          (λ i. ⊎_elim (λ j. or_first f.clash h.clash (a.clash.1 (inr j))) (λ j. or_second f.clash h.clash (b.clash.1 j)) (from_app (Clashing g ls m ps) g ls ds k r x d e p i)) s,
     );
     free = (
       λ c. let (n, q) = a.free.0 (and_first f.free h.free c) in let (o, u) = b.free.0 (and_second f.free h.free c) in (neither n o, (q, (d, e, p, u))),
-      λ c. and_true f.free h.free (a.free.1 (first_not (mentions_neutral m r) (mentions m x) c.0, c.1.0)) (b.free.1 (second_not (mentions_neutral m r) (mentions m x) c.0, argument c.1.1))
+      λ c. and_true f.free h.free (a.free.1 (first_not (mentions_neutral m r) (mentions m x) c.0, c.1.0)) (b.free.1 (second_not (mentions_neutral m r) (mentions m x) c.0, argument c.1.1)),
     );
     pruned = λ c. pruned_app ds k r x d e p f.prune h.prune (a.pruned (and_first f.free h.free c)) (b.pruned (and_second f.free h.free c));
   }

@@ -1,16 +1,16 @@
 -- A metavariable on locals that stand at their own types is on distinct locals, and the other way round.
 use Rattle.std.specs.Prelude.{ℕ, Bool, true, false, zero, suc, ◌≡◌, ◌⊎◌, ◌&&◌, ◌==◌, if◌then◌else◌, List, [], ◌∷◌, Some, None, refl}
-use Rattle.std.proofs.Common.{ap, sym, subst, ◌∙◌, arith, inl, inr, ⊎_elim}
+use Rattle.std.proofs.Common.{ap, sym, ◌∙◌, arith, inl, inr, ⊎_elim}
 use Rattle.clf_syntax.specs.declared.tree.Mode.{Mode}
 use Rattle.clf_syntax.specs.declared.tree.Head.TheVariants.{Var, Meta}
-use Rattle.clf_syntax.specs.Tree.{PlainObject, PlainNeutral, head_alone, app, head_of, atomic}
+use Rattle.clf_syntax.specs.Tree.{PlainObject, PlainNeutral, head_alone, app}
 use Rattle.clf_syntax.specs.TypeTree.{SimpleType}
 use Rattle.clf_syntax.specs.Simple.{Assignment}
 use Rattle.clf_syntax.specs.Occurs.{occurs, occurs_neutral}
 use Rattle.clf_syntax.proofs.OccursLaws.{either, not_both}
 use Rattle.hered_subst.proofs.SimpleTyping.{Typed, typed_lam, typed_pair, typed_unit, typed_monadic, typed_metavariable, typed_atomic, to_typed}
 use Rattle.eta_laws.specs.Eta.{eta}
-use Rattle.pattern_laws.specs.Patterns.{Place, IsFinal, on, blank, is_blank, local_at, Fitting, OwnPlace, OwnPlaces, OnDistinct, OnLocals, SameTypes}
+use Rattle.pattern_laws.specs.Patterns.{Place, IsFinal, on, blank, is_blank, local_at, Fitting, OwnPlaces, OnDistinct, OnLocals}
 use Rattle.pattern_laws.proofs.EtaVariables.{eta_source}
 use Rattle.pattern_laws.proofs.Owning.{on_locals, blank_typed}
 use Rattle.pattern_laws.proofs.Typings.{blank_is, blank_absent}
@@ -58,9 +58,12 @@ fitting_of : (z : Assignment) (ps qs : List Place) → OwnPlaces z ps qs → Fit
 fitting_of z [] [] o f = tt
 fitting_of z [] (q ∷ qs) o f = absurd o
 fitting_of z (p ∷ ps) [] o f = absurd o
-fitting_of z (p ∷ ps) (q ∷ qs) o f = (⊎_elim
-    (λ e. ⊎_elim (λ h. inl (ap (λ v. z (Var v)) o.0.local ∙ h ∙ ap (λ t. Some t) (sym e))) (λ h. inr h) o.0.own)
-    (λ e. inr e) f.0, fitting_of z ps qs o.1 f.1)
+fitting_of z (p ∷ ps) (q ∷ qs) o f = (
+  ⊎_elim
+      (λ e. ⊎_elim (λ h. inl (ap (λ v. z (Var v)) o.0.local ∙ h ∙ ap (λ t. Some t) (sym e))) (λ h. inr h) o.0.own)
+      (λ e. inr e) f.0,
+  fitting_of z ps qs o.1 f.1,
+)
 
 pub distinct_of : (z : Assignment) (n : PlainNeutral) (k : ℕ) (ps qs : List Place) (t : SimpleType) → OnLocals z n k ps qs t → FitsOwn ps qs → OnDistinct z n k ps t
 distinct_of z n k ps qs t o f = record { neutral = o.neutral ∙ same_on z ps qs (head_alone (Meta k)) o.places f; type = o.type; fitting = fitting_of z ps qs o.places f; distinct = o.distinct }

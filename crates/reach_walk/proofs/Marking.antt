@@ -1,12 +1,12 @@
 -- A marked local occurs exactly where the walk over the tree says so.
-use Rattle.std.specs.Prelude.{ℕ, Bool, true, false, ◌+◌, ◌-◌, ◌≡◌, ◌≤◌, ◌<◌, ◌⊎◌, ◌&&◌, ◌||◌, ◌==◌, nat_le, List, length, Some, refl}
-use Rattle.std.proofs.Common.{ap, sym, subst, ◌∙◌, arith, inl, inr, ⊎_elim}
+use Rattle.std.specs.Prelude.{ℕ, Bool, true, false, ◌+◌, ◌-◌, ◌≡◌, ◌≤◌, ◌&&◌, ◌==◌, nat_le, List, length, refl}
+use Rattle.std.proofs.Common.{sym, subst, arith, ⊎_elim}
 use Rattle.clf_syntax.specs.declared.tree.Head.{Head}
 use Rattle.clf_syntax.specs.declared.tree.Head.TheVariants.{Const, Var, Meta}
 use Rattle.clf_syntax.specs.Tree.{PlainObject, lam, pair, unit, monadic, atomic, hole, PlainNeutral, head_alone, app, fst, snd, PlainExpression, step, done, PlainTuple, empty, entry}
 use Rattle.clf_syntax.specs.Occurs.{is_variable, occurs, occurs_neutral, occurs_expression, occurs_tuple}
 use Rattle.clf_syntax.proofs.OccursLaws.{or_first, or_second, either, not_both, not_true, own_number}
-use Rattle.pattern_laws.specs.Patterns.{Place, local_at, mask_at, Foreign, NoForeign}
+use Rattle.pattern_laws.specs.Patterns.{Place, mask_at, Foreign, NoForeign}
 use Rattle.reach_walk.specs.Marks.{is_marked, marked_in, marked_in_neutral, marked_in_expression, marked_in_tuple, MarksForeign}
 
 further : (v d n : ℕ) → (v + d) + n ≡ v + (d + n)

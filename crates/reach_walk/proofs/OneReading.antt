@@ -4,13 +4,13 @@ use Rattle.std.proofs.Common.{ap, sym, subst, ◌∙◌, arith, inl, inr, ⊎_el
 use Rattle.clf_syntax.specs.declared.tree.Mode.{Mode}
 use Rattle.clf_syntax.specs.declared.tree.Head.TheVariants.{Var, Meta}
 use Rattle.clf_syntax.specs.Tree.{PlainObject, PlainNeutral, head_alone, app, head_of, atomic}
-use Rattle.clf_syntax.specs.TypeTree.{SimpleType, base, lax}
+use Rattle.clf_syntax.specs.TypeTree.{SimpleType}
 use Rattle.clf_syntax.specs.Simple.{Assignment, SimplyTyped}
-use Rattle.clf_syntax.specs.Occurs.{occurs, occurs_neutral}
+use Rattle.clf_syntax.specs.Occurs.{occurs}
 use Rattle.clf_syntax.proofs.OccursLaws.{not_both, not_true, own_number}
 use Rattle.hered_subst.proofs.SimpleTyping.{to_typed}
 use Rattle.eta_laws.specs.Eta.{eta}
-use Rattle.pattern_laws.specs.Patterns.{Place, IsFinal, on, arrows, blank, local_at, OwnPlace, OwnPlaces, OnLocals, SameTypes, LacksMisfits}
+use Rattle.pattern_laws.specs.Patterns.{Place, IsFinal, on, blank, local_at, OwnPlace, OwnPlaces, OnLocals, SameTypes, LacksMisfits}
 use Rattle.pattern_laws.proofs.EtaVariables.{eta_there, eta_source}
 use Rattle.pattern_laws.proofs.Places.{same_types}
 use Rattle.pattern_laws.proofs.Typings.{blank_is}
@@ -95,9 +95,12 @@ alike_local (alike_more a h) (suc i) = alike_local h i
 
 pub alike_lacks : {ps qs ps' qs' : List Place} → Alike ps qs ps' qs' → (x : PlainObject) → LacksMisfits ps qs x → LacksMisfits ps' qs' x
 alike_lacks alike_none x l = tt
-alike_lacks (alike_more {p = p} {q = q} {p' = p'} {q' = q'} a h) x l = (⊎_elim
-    (λ b. inr (inl (ap blank (sym a.type) ∙ b)))
-    (λ k. ⊎_elim (λ e. inl (sym a.type ∙ e ∙ k.1)) (λ c. inr (⊎_elim (λ b. inl (ap blank (sym a.type) ∙ b)) (λ o. inr (subst (λ v. occurs v x ≡ false) k.0 o)) c)) l.0) a.local, alike_lacks h x l.1)
+alike_lacks (alike_more {p = p} {q = q} {p' = p'} {q' = q'} a h) x l = (
+  ⊎_elim
+      (λ b. inr (inl (ap blank (sym a.type) ∙ b)))
+      (λ k. ⊎_elim (λ e. inl (sym a.type ∙ e ∙ k.1)) (λ c. inr (⊎_elim (λ b. inl (ap blank (sym a.type) ∙ b)) (λ o. inr (subst (λ v. occurs v x ≡ false) k.0 o)) c)) l.0) a.local,
+  alike_lacks h x l.1,
+)
 
 pub turned : {ps qs ps' qs' : List Place} → Alike ps qs ps' qs' → Alike ps' qs' ps qs
 turned alike_none = alike_none

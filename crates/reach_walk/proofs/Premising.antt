@@ -1,9 +1,9 @@
 -- Each answer gives the premise of its step.
-use Rattle.std.specs.Prelude.{ℕ, Bool, true, false, zero, suc, ◌+◌, ◌≡◌, ◌<◌, ◌≤◌, ◌⊎◌, ◌==◌, if◌then◌else◌, List, [], ◌∷◌, ◌++◌, length, Option, Some, None, refl}
+use Rattle.std.specs.Prelude.{ℕ, Bool, true, false, zero, suc, ◌+◌, ◌≡◌, ◌<◌, ◌≤◌, ◌⊎◌, if◌then◌else◌, List, [], ◌∷◌, ◌++◌, length, Some, None, refl}
 use Rattle.std.proofs.Common.{ap, sym, subst, ◌∙◌, arith, inl, inr, ⊎_elim}
 use Rattle.std.proofs.lemmas.List.{append-nil, length-append}
 use Rattle.clf_syntax.specs.declared.tree.Mode.{Mode}
-use Rattle.clf_syntax.specs.declared.tree.Head.TheVariants.{Const, Var, Meta}
+use Rattle.clf_syntax.specs.declared.tree.Head.TheVariants.{Var, Meta}
 use Rattle.clf_syntax.specs.Tree.{PlainObject, atomic, PlainNeutral, head_alone, app, head_of}
 use Rattle.clf_syntax.specs.TypeTree.{SimpleType}
 use Rattle.clf_syntax.specs.Simple.{Assignment, SimplyTyped}
@@ -15,18 +15,16 @@ use Rattle.eta_laws.specs.Eta.{eta}
 use Rattle.store_laws.specs.Mentions.{mentions, mentions_neutral}
 use Rattle.pattern_laws.specs.Instantiations.{Types, closed}
 use Rattle.pattern_laws.specs.Equations.{scoped, Locals, Equation}
-use Rattle.pattern_laws.specs.Patterns.{Place, IsFinal, on, arrows, blank, local_at, OwnPlace, OwnPlaces, OnDistinct, OnLocals, LacksMisfits, SameTypes, Foreign, masked, mask_at}
+use Rattle.pattern_laws.specs.Patterns.{Place, IsFinal, on, blank, local_at, OwnPlace, OwnPlaces, OnDistinct, LacksMisfits, SameTypes, Foreign, masked, mask_at}
 use Rattle.pattern_laws.proofs.Instances.{scoped_meta}
 use Rattle.pattern_laws.proofs.Inverse.{local_within}
 use Rattle.pattern_laws.proofs.Owning.{on_locals}
 use Rattle.pattern_laws.proofs.Places.{same_types}
 use Rattle.unify_laws.specs.Problems.{Consequence, HasNone}
-use Rattle.unify_laws.specs.Rigid.{Stands}
 use Rattle.unify_laws.proofs.PruneStep.{head_clash_step, inside_clash_step}
 use Rattle.reach_laws.specs.Reach.{Standing, StandingBelow}
 use Rattle.reach_laws.proofs.Reached.{stands, stands_in}
-use Rattle.reach_walk.specs.Somewhere.{Somewhere, Clashing}
-use Rattle.reach_walk.specs.Answers.{IsPattern, IsClash, IsSame, KeepsAgreeing, TakesForeign, IsTaken, IsPrune, IsAssign}
+use Rattle.reach_walk.specs.Answers.{IsPattern, IsClash, IsSame, TakesForeign, IsPrune}
 use Rattle.reach_walk.specs.Premises.{Pruning}
 use Rattle.reach_walk.proofs.Fitted.{one_blank}
 use Rattle.reach_walk.proofs.OneReading.{stands_final}
@@ -112,7 +110,7 @@ module _ (constants metas : Types) (ls : Locals) (a : SimpleType) where
       inside fs q d zs o n e i s =
           let typed : SimplyTyped (scoped ls (closed constants metas)) (atomic n) a = subst (λ y. SimplyTyped (scoped ls (closed constants metas)) y a) e t in
           let (k, j) = same_types c.places zs a d f (stands_final (scoped fs (scoped ls (closed constants metas))) q d (below_typed s a typed.1))
-            (one_type (sym c.pattern.on_locals.type ∙ scoped_meta ls (closed constants metas) c.meta ∙ sym (scoped_meta ((fs ++ []) ++ ls) (closed constants metas) c.meta) ∙ o.type)) in
+          (one_type (sym c.pattern.on_locals.type ∙ scoped_meta ls (closed constants metas) c.meta ∙ sym (scoped_meta ((fs ++ []) ++ ls) (closed constants metas) c.meta) ∙ o.type)) in
           inside_clash_step constants metas given es ls c.pattern.neutral c.meta c.places c.own a n
           (subst (λ y. Consequence constants (record { metas = metas; given = given; equations = es }) (record { locals = ls; left = atomic c.pattern.neutral; right = y; type = a })) e from_neutral)
           c.pattern.on_locals (subst (LacksMisfits c.places c.own) e c.pattern.lacks) ((fs ++ []) ++ ls) (length fs) q zs (longer fs) (subst (OnDistinct (scoped ((fs ++ []) ++ ls) (closed constants metas)) q c.meta zs) (sym j) o) k i (stands_in s)

@@ -1,6 +1,6 @@
 -- From what is found to the answer, and from the answer to reach.
-use Rattle.std.specs.Prelude.{ℕ, Bool, true, false, ◌+◌, ◌≡◌, ◌<◌, ◌⊎◌, List, [], ◌∷◌, ◌++◌, length, Option, Some, None, refl}
-use Rattle.std.proofs.Common.{ap, sym, subst, ◌∙◌, arith, inl, inr, ⊎_elim}
+use Rattle.std.specs.Prelude.{ℕ, Bool, true, false, ◌≡◌, List, [], ◌∷◌, ◌++◌, length, Some, None, refl}
+use Rattle.std.proofs.Common.{ap, sym, subst, ◌∙◌, inl, inr, ⊎_elim}
 use Rattle.std.proofs.lemmas.List.{append-nil}
 use Rattle.clf_syntax.specs.declared.tree.Head.TheVariants.{Const, Var, Meta}
 use Rattle.clf_syntax.specs.Tree.{PlainObject, atomic, PlainNeutral, head_alone, app, fst, snd, head_of}
@@ -11,17 +11,16 @@ use Rattle.hered_subst.specs.TypedEnvironments.{is_metavariable}
 use Rattle.store_laws.specs.Mentions.{mentions, mentions_neutral}
 use Rattle.pattern_laws.specs.Instantiations.{Types, closed}
 use Rattle.pattern_laws.specs.Equations.{scoped, Locals}
-use Rattle.pattern_laws.specs.Patterns.{Place, IsFinal, on, local_at, OnDistinct, OnLocals, LacksMisfits, SameTypes, Foreign, NoCircle, Ends, ends_here, ends_later, Covers}
+use Rattle.pattern_laws.specs.Patterns.{Place, IsFinal, on, local_at, OnDistinct, OnLocals, LacksMisfits, SameTypes, Foreign, NoCircle, Ends, ends_here, ends_later}
 use Rattle.pattern_laws.proofs.Owning.{on_locals}
 use Rattle.pattern_laws.proofs.Places.{covers}
-use Rattle.reach_laws.specs.Reach.{Standing, StandingBelow, standing_below, InReach, same_reach, head_reach, inside_reach, free_reach, Reaches}
-use Rattle.reach_walk.specs.Somewhere.{Somewhere, ForeignHead, Clashing}
-use Rattle.reach_walk.specs.Answers.{IsPattern, IsClash, IsSame, KeepsAgreeing, IsTaken, IsPrune, IsAssign}
+use Rattle.reach_laws.specs.Reach.{Standing, standing_below, InReach, same_reach, head_reach, inside_reach, free_reach, Reaches}
+use Rattle.reach_walk.specs.Answers.{IsPattern, IsClash, IsSame, IsPrune, IsAssign}
 use Rattle.reach_walk.specs.Marks.{MarksForeign}
 use Rattle.reach_walk.specs.Walked.{Found, IsPruned, Walked}
-use Rattle.reach_walk.proofs.OneReading.{Alike, alike_local, alike_lacks, turned, stands_final, one_reading_on}
+use Rattle.reach_walk.proofs.OneReading.{Alike, alike_local, alike_lacks, turned, one_reading_on}
 use Rattle.reach_walk.proofs.Standings.{of_atomic}
-use Rattle.reach_walk.proofs.StandingTyped.{standing_typed, standing_cases}
+use Rattle.reach_walk.proofs.StandingTyped.{standing_cases}
 
 same_neutral : {r n : PlainNeutral} → atomic r ≡ atomic n → r ≡ n
 same_neutral e = cc
@@ -66,7 +65,7 @@ circle_same f h c j v e = ⊎_elim (λ k. inl (sym (h j) ∙ k)) (λ k. inr (end
 pub marks_same : (n : ℕ) (ps ps' : List Place) (bs : List Bool) → ((i : ℕ) → local_at ps i ≡ local_at ps' i) → MarksForeign n ps bs → MarksForeign n ps' bs
 marks_same n ps ps' bs f k = (
   λ v e. let (l, h) = k.0 v e in (l, λ i p. h i (f i ∙ p)),
-  λ v l h. k.1 v l (λ i p. h i (sym (f i) ∙ p))
+  λ v l h. k.1 v l (λ i p. h i (sym (f i) ∙ p)),
 )
 
 module _ (constants metas : Types) (ls : Locals) (a : SimpleType) where

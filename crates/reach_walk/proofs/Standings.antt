@@ -1,9 +1,9 @@
 -- What stands somewhere in a tree stands in one of its parts.
-use Rattle.std.specs.Prelude.{ℕ, Bool, true, false, ◌≡◌, ◌⊎◌, List, [], ◌∷◌, ◌++◌, refl}
-use Rattle.std.proofs.Common.{ap, sym, subst, ◌∙◌, inl, inr, ⊎_elim, append_assoc}
+use Rattle.std.specs.Prelude.{true, false, ◌≡◌, ◌⊎◌, [], ◌∷◌, ◌++◌, refl}
+use Rattle.std.proofs.Common.{sym, subst, inl, inr, ⊎_elim, append_assoc}
 use Rattle.clf_syntax.specs.declared.tree.Mode.{Mode}
 use Rattle.clf_syntax.specs.declared.tree.Head.{Head}
-use Rattle.clf_syntax.specs.Tree.{PlainObject, lam, pair, unit, monadic, atomic, hole, PlainNeutral, head_alone, app, fst, snd, PlainExpression, head_of}
+use Rattle.clf_syntax.specs.Tree.{PlainObject, lam, pair, unit, monadic, atomic, PlainNeutral, head_alone, app, fst, snd, PlainExpression, head_of}
 use Rattle.clf_syntax.specs.TypeTree.{SimpleType, arrow, simple_with}
 use Rattle.clf_syntax.specs.Simple.{Assignment, extended, SimplyTypedNeutral, no_holes}
 use Rattle.hered_subst.specs.TypedEnvironments.{is_metavariable}
