@@ -50,7 +50,7 @@ impl Equations {
 
     /// The equations themselves, in order.
     pub fn into_vec(self) -> Vec<Equation>
-        ensures { map plain_equation result.items ≡ equations_in self.entry }
+        ensures { map plain_equation result.items ≡ equations_in self }
     {
         self.items
     }

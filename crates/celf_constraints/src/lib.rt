@@ -14,5 +14,5 @@ mod ways;
 pub use blank::is_blank;
 pub use equation::{Equation, Equations};
 pub use mentioned::mentions;
-pub use places::{Place, Places, read_in_scope, read_places};
+pub use places::{Place, Places, read_in_scope, read_places, scope_of};
 pub use ways::ends;

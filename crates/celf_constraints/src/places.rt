@@ -90,7 +90,7 @@ fn meta_type<'a>(metas: &'a [Simple], meta: u32) -> Option<&'a Simple>
 }
 
 /// The simple types of the locals.
-fn scope_of<'a>(alloc: Global, locals: &'a [SimpleEntry]) -> Result<Vec<&'a Simple>, AllocError>
+pub fn scope_of<'a>(alloc: Global, locals: &'a [SimpleEntry]) -> Result<Vec<&'a Simple>, AllocError>
     ensures { IfOk result (λ types. scope types.items ≡ map (λ l. l.1) (plain_locals locals.now)) }
 {
     let mut types = Vec::new(alloc);
