@@ -1,10 +1,10 @@
 //! Places whose locals stand at their own types.
-ghost use Rattle.std.specs.Prelude.{◌≡◌, ◌↔◌, [], ◌∷◌, IfOk, IsTrue};
+ghost use Rattle.std.specs.Prelude.{◌≡◌, ◌&&◌, IfOk};
+ghost use Rattle.std.specs.List.{list_any};
+ghost use Rattle.clf_syntax.specs.Occurs.{occurs as occurs_of};
 ghost use Rattle.clf_syntax.specs.Plain.{plain_obj};
-ghost use Rattle.pattern_laws.specs.Patterns.{LacksMisfits};
-ghost use Rattle.reach_walk.specs.Fits.{FitsOwn};
-ghost use Rattle.celf_constraints.specs.Reading.{plain_place, own_place, plain_places, own_places};
-ghost use Rattle.celf_reach.specs.Misfits.{fits as fits_of};
+ghost use Rattle.celf_constraints.specs.Reading.{plain_place, own_place};
+ghost use Rattle.celf_reach.specs.Misfits.{fits as fits_of, misfits};
 
 use crate::marks::occurs;
 use crate::types::same_type;
@@ -19,38 +19,37 @@ fn fits(place: &Place<'_>) -> bool
     is_blank(place.ty) || same_type(place.ty, place.own)
 }
 
-/// Whether each place is blank, or its local has the type of the place.
-pub fn fits_own(places: &Places<'_>) -> bool
-    ensures { IsTrue result ↔ FitsOwn (plain_places places.now) (own_places places.now) }
+/// Whether some local stands at another type than its own.
+pub fn has_misfit(places: &Places<'_>) -> bool
+    ensures { result ≡ list_any misfits places.now.places.items }
 {
     for place in places.places.as_slice() {
         if !fits(place) {
-            return false;
+            return true;
         }
     }
-    true
+    false
 }
 
-/// Whether the place fits, or its local does not occur in the object.
-fn lacks_misfit(alloc: Global, place: &Place<'_>, obj: &Obj) -> Result<bool, AllocError>
-    ensures { IfOk result (λ b. IsTrue b
-        ↔ LacksMisfits (plain_place place.now ∷ []) (own_place place.now ∷ []) (plain_obj obj.now)) }
+/// Whether the local of the place stands at another type than its own, and occurs in the object.
+fn occurs_misfit(alloc: Global, place: &Place<'_>, obj: &Obj) -> Result<bool, AllocError>
+    ensures { IfOk result (λ b. b ≡ (misfits place.now && occurs_of place.now.local (plain_obj obj.now))) }
 {
     if fits(place) {
-        return Ok(true);
+        return Ok(false);
     }
-    Ok(!occurs(alloc, place.local, obj)?)
+    occurs(alloc, place.local, obj)
 }
 
-/// Whether no local that stands at another type than its own occurs in the object.
-pub fn lacks_misfits(alloc: Global, places: &Places<'_>, obj: &Obj) -> Result<bool, AllocError>
-    ensures { IfOk result (λ b. IsTrue b
-        ↔ LacksMisfits (plain_places places.now) (own_places places.now) (plain_obj obj.now)) }
+/// Whether a local that stands at another type than its own occurs in the object.
+pub fn misfit_occurs(alloc: Global, places: &Places<'_>, obj: &Obj) -> Result<bool, AllocError>
+    ensures { IfOk result (λ b. b ≡ list_any (λ p. misfits p && occurs_of p.local (plain_obj obj.now)) places.now.places.items) }
 {
     for place in places.places.as_slice() {
-        if !lacks_misfit(alloc, place, obj)? {
-            return Ok(false);
+        let found = occurs_misfit(alloc, place, obj)?;
+        if found {
+            return Ok(true);
         }
     }
-    Ok(true)
+    Ok(false)
 }

@@ -42,7 +42,8 @@ pub fn marked_in(marks: &[bool], depth: u64, obj: &Obj) -> Result<bool, AllocErr
     match obj {
         Obj::Lam { mode: _, body } => marked_in(marks, deeper(depth, 1)?, body.get()),
         Obj::Pair { left, right } => {
-            if marked_in(marks, depth, left.get())? {
+            let found = marked_in(marks, depth, left.get())?;
+            if found {
                 return Ok(true);
             }
             marked_in(marks, depth, right.get())
@@ -71,7 +72,8 @@ fn marked_in_spine(marks: &[bool], depth: u64, spine: &[Elim]) -> Result<bool, A
         (λ b. b ≡ list_any (spec.marked_in_elimination marks.now depth) (map plain_elim spine.now)) }
 {
     for act in spine {
-        if marked_in_elimination(marks, depth, act)? {
+        let found = marked_in_elimination(marks, depth, act)?;
+        if found {
             return Ok(true);
         }
     }
@@ -96,7 +98,8 @@ fn marked_in_expression(marks: &[bool], depth: u64, expr: &Expr) -> Result<bool,
 {
     let mut inner = depth;
     for step in expr.steps.as_slice() {
-        if marked_in_neutral(marks, inner, &step.rhs)? {
+        let found = marked_in_neutral(marks, inner, &step.rhs)?;
+        if found {
             return Ok(true);
         }
         inner = deeper(inner, step.modes.len())?;
@@ -110,7 +113,8 @@ fn marked_in_tuple(marks: &[bool], depth: u64, tuple: &[TupleEntry]) -> Result<b
     ensures { IfOk result (λ b. b ≡ spec.marked_in_tuple marks.now depth (tuple_of (map plain_entry tuple.now))) }
 {
     for entry in tuple {
-        if marked_in(marks, depth, &entry.obj)? {
+        let found = marked_in(marks, depth, &entry.obj)?;
+        if found {
             return Ok(true);
         }
     }

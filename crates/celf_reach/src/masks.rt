@@ -1,9 +1,10 @@
 //! Which places of a metavariable are kept.
-ghost use Rattle.std.specs.Prelude.{◌≡◌, ◌↔◌, IfOk, IsTrue, map};
+ghost use Rattle.std.specs.Prelude.{◌≡◌, IfOk, map, not};
+ghost use Rattle.std.specs.List.{list_any};
 ghost use Rattle.std.specs.Option.{option_map};
 ghost use Rattle.celf_constraints.specs.Reading.{plain_place, plain_places};
 ghost use Rattle.reach_walk.specs.Marks.{MarksForeign};
-ghost use Rattle.celf_reach.specs.Masks.{is_kept as is_kept_of, local_among, KeepsAll, PrunesTo};
+ghost use Rattle.celf_reach.specs.Masks.{is_kept as is_kept_of, has_local as has_local_of, PrunesTo};
 ghost use Rattle.celf_reach.specs.Scanned.{plain_prune};
 
 use crate::found::Prune;
@@ -33,16 +34,16 @@ fn mask_of(alloc: Global, marks: &[bool], depth: u64, places: &[Place<'_>]) -> R
     Ok(mask)
 }
 
-/// Whether the mask keeps all places.
-fn keeps_all(mask: &[bool]) -> bool
-    ensures { IsTrue result ↔ KeepsAll mask.now }
+/// Whether the mask leaves out a place.
+fn leaves_one(mask: &[bool]) -> bool
+    ensures { result ≡ list_any not mask.now }
 {
-    for place in 0..mask.len() {
-        if !mask[place] {
-            return false;
+    for kept in mask {
+        if !*kept {
+            return true;
         }
     }
-    true
+    false
 }
 
 /// The metavariable with the places that are not marked, if one is.
@@ -55,22 +56,29 @@ pub fn prune_of(
     ensures { IfOk result (λ found. PrunesTo marks.now depth places.now.meta (plain_places places.now) (option_map plain_prune found)) }
 {
     let mask = mask_of(alloc, marks, depth, places.places.as_slice())?;
-    if keeps_all(mask.as_slice()) {
-        Ok(None)
-    } else {
+    if leaves_one(mask.as_slice()) {
         Ok(Some(Prune {
             meta: places.meta,
             mask,
         }))
+    } else {
+        Ok(None)
     }
 }
 
+/// Whether the local stands at the place, which is not blank.
+fn has_local(place: &Place<'_>, local: usize) -> bool
+    ensures { result ≡ has_local_of local (plain_place place.now) }
+{
+    !is_blank(place.ty) && place.local as usize == local
+}
+
 /// Whether the local stands at one of the places.
-fn is_among(places: &[Place<'_>], local: u32) -> bool
-    ensures { result ≡ local_among (map plain_place places.now) local }
+fn is_among(places: &[Place<'_>], local: usize) -> bool
+    ensures { result ≡ list_any (λ p. has_local_of local (plain_place p)) places.now }
 {
     for place in places {
-        if !is_blank(place.ty) && place.local == local {
+        if has_local(place, local) {
             return true;
         }
     }
@@ -87,17 +95,7 @@ pub fn foreign_marks(
 {
     let mut marks = Vec::new(alloc);
     for local in 0..count {
-        marks.push(!is_among_all(places.places.as_slice(), local))?;
+        marks.push(!is_among(places.places.as_slice(), local))?;
     }
     Ok(marks)
-}
-
-/// The same for a number of any size.
-fn is_among_all(places: &[Place<'_>], local: usize) -> bool
-    ensures { result ≡ local_among (map plain_place places.now) local }
-{
-    match u32::try_from(local) {
-        Ok(number) => is_among(places, number),
-        Err(_) => false,
-    }
 }

@@ -2,7 +2,7 @@
 ghost use Rattle.std.specs.Prelude.{◌≡◌, ◌-◌, IfOk, Some, false, true, length, map};
 ghost use Rattle.clf_syntax.specs.Plain.{plain_obj, plain_neutral, plain_elim};
 ghost use Rattle.clf_syntax.specs.PlainSimple.{plain_simple};
-ghost use Rattle.clf_syntax.specs.Tree.{PlainNeutral, app, atomic, eliminated, head_alone, head_of, lam, pair, spine_on};
+ghost use Rattle.clf_syntax.specs.Tree.{PlainNeutral, app, atomic, eliminated, head_alone, head_of, lam, spine_on};
 ghost use Rattle.clf_syntax.specs.TypeTree.{SimpleType, simple_with};
 ghost use Rattle.clf_syntax.specs.declared.tree.Mode.{Mode};
 ghost use Rattle.store_laws.specs.Mentions.{mentions as mentions_of};
@@ -12,11 +12,11 @@ ghost use Rattle.clf_simple.specs.Scope.{scope};
 ghost use Rattle.celf_reach.specs.Sought.{head_type_in};
 ghost use Rattle.celf_reach.specs.Scanned.{plain_found, loose_found, Finds, FindsBelow, SoFar, ReadAt};
 
-use crate::fits::fits_own;
+use crate::fits::has_misfit;
 use crate::found::{Found, both, nothing};
 use crate::marks::{is_marked, marked_in};
 use crate::masks::prune_of;
-use crate::tables::{Sought, depth, head_type, with_type};
+use crate::tables::{Sought, depth, function_parts, head_type, pair_parts, with_type};
 use celf_constraints::{Places, mentions, read_in_scope};
 use clf_syntax::{Elim, Head, Mode, Neutral, Obj, Or, Simple, TooFar};
 use std::alloc::{AllocError, Global};
@@ -42,7 +42,14 @@ pub fn scan<'a>(
 {
     match obj {
         Obj::Lam { mode, body } => scan_lambda(alloc, sought, types, *mode, body.get(), ty),
-        Obj::Pair { left, right } => scan_pair(alloc, sought, types, left.get(), right.get(), ty),
+        Obj::Pair { left, right } => match pair_parts(ty) {
+            None => Ok(nothing()),
+            Some(parts) => {
+                let found = scan(alloc, sought, types, left.get(), parts.first)?;
+                let other = scan(alloc, sought, types, right.get(), parts.second)?;
+                Ok(both(found, other))
+            }
+        },
         Obj::Unit | Obj::Hole => Ok(nothing()),
         Obj::Mon { expr: _ } => Ok(loose(sought, types, obj)?),
         Obj::At { neutral } => match neutral.head {
@@ -53,7 +60,6 @@ pub fn scan<'a>(
 }
 
 #[cycle(scan)]
-#[tactic(auto, using(clf_syntax::specs::PlainSimple::plain_simple_laws))]
 fn scan_lambda<'a>(
     alloc: Global,
     sought: &Sought<'a>,
@@ -65,38 +71,12 @@ fn scan_lambda<'a>(
     ensures { IfOk result
         (λ f. Finds sought.now types.now (lam mode (plain_obj body.now)) (plain_simple ty.now) (plain_found f)) }
 {
-    match ty {
-        Simple::Fun { mode: _, dom, cod } => {
-            let inner = with_type(alloc, types, dom.get())?;
-            scan(alloc, sought, inner.as_slice(), body, cod.get())
+    match function_parts(ty) {
+        None => Ok(nothing()),
+        Some(parts) => {
+            let inner = with_type(alloc, types, parts.first)?;
+            scan(alloc, sought, inner.as_slice(), body, parts.second)
         }
-        Simple::Atom(_) | Simple::With { .. } | Simple::Top | Simple::Monad { .. } => Ok(nothing()),
-    }
-}
-
-#[cycle(scan)]
-#[tactic(auto, using(clf_syntax::specs::PlainSimple::plain_simple_laws))]
-fn scan_pair<'a>(
-    alloc: Global,
-    sought: &Sought<'a>,
-    types: &[&'a Simple],
-    left: &Obj,
-    right: &Obj,
-    ty: &'a Simple,
-) -> Result<Found, Or<TooFar>>
-    ensures { IfOk result
-        (λ f. Finds sought.now types.now (pair (plain_obj left.now) (plain_obj right.now)) (plain_simple ty.now) (plain_found f)) }
-{
-    match ty {
-        Simple::With {
-            left: first,
-            right: second,
-        } => {
-            let found = scan(alloc, sought, types, left, first.get())?;
-            let other = scan(alloc, sought, types, right, second.get())?;
-            Ok(both(found, other))
-        }
-        Simple::Atom(_) | Simple::Fun { .. } | Simple::Top | Simple::Monad { .. } => Ok(nothing()),
     }
 }
 
@@ -146,7 +126,7 @@ fn scan_places<'a>(
         → ReadAt sought.now types.now n t places.entry
         → Finds sought.now types.now (plain_obj obj.now) t (plain_found f)) }
 {
-    if !fits_own(&places) {
+    if has_misfit(&places) {
         return loose(sought, types, obj);
     }
     Ok(Found {
@@ -239,7 +219,6 @@ fn scan_elimination<'a>(
 
 /// The same under an argument.
 #[cycle(scan)]
-#[tactic(auto, using(clf_syntax::specs::PlainSimple::plain_simple_laws))]
 fn scan_argument<'a>(
     alloc: Global,
     sought: &Sought<'a>,
@@ -252,16 +231,14 @@ fn scan_argument<'a>(
         → SoFar sought.now types.now (app k n (plain_obj obj.now)) (plain_simple w.ty.now) (plain_found w.found)) }
 {
     let Walking { found, ty } = walking;
-    match ty {
-        Simple::Fun { mode: _, dom, cod } => {
-            let other = scan(alloc, sought, types, obj, dom.get())?;
+    match function_parts(ty) {
+        None => Ok(Walking { found, ty }),
+        Some(parts) => {
+            let other = scan(alloc, sought, types, obj, parts.first)?;
             Ok(Walking {
                 found: both(found, other),
-                ty: cod.get(),
+                ty: parts.second,
             })
-        }
-        Simple::Atom(_) | Simple::With { .. } | Simple::Top | Simple::Monad { .. } => {
-            Ok(Walking { found, ty })
         }
     }
 }

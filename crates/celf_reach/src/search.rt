@@ -15,7 +15,7 @@ ghost use Rattle.celf_reach.specs.Asked.{AnswersAt, AnswersFor, Told};
 ghost use Rattle.celf_reach.specs.Scanned.{plain_found};
 
 use crate::answer::Reach;
-use crate::fits::lacks_misfits;
+use crate::fits::misfit_occurs;
 use crate::found::Found;
 use crate::masks::foreign_marks;
 use crate::same::agreeing;
@@ -86,7 +86,7 @@ fn reach_places<'a>(
     ensures { IfOk result (λ r. (n : PlainNeutral) →
         AnswersAt tables.now (plain_simple ty.now) (plain_obj side.now) n places.entry (plain_obj other.now) r) }
 {
-    if !lacks_misfits(alloc, &places, other)? {
+    if misfit_occurs(alloc, &places, other)? {
         return Ok(Reach::No);
     }
     match same_head(places.meta, other) {
@@ -128,7 +128,7 @@ fn reach_same<'a>(
     match read_places(alloc, tables.metas, tables.locals, neutral)? {
         None => Ok(Reach::No),
         Some(others) => {
-            if !lacks_misfits(alloc, &others, side)? {
+            if misfit_occurs(alloc, &others, side)? {
                 return Ok(Reach::No);
             }
             match agreeing(alloc, &places, &others)? {

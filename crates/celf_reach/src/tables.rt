@@ -4,7 +4,7 @@ ghost use Rattle.std.specs.Option.{option_map};
 ghost use Rattle.clf_syntax.specs.PlainSimple.{plain_simple};
 ghost use Rattle.clf_simple.specs.Scope.{scope};
 ghost use Rattle.celf_constraints.specs.Equated.{plain_locals};
-ghost use Rattle.celf_reach.specs.Sought.{head_type_in};
+ghost use Rattle.celf_reach.specs.Sought.{head_type_in, function_parts as function_parts_of, pair_parts as pair_parts_of, plain_parts};
 
 use clf_syntax::{Head, Simple, SimpleEntry};
 use std::alloc::{AllocError, Global};
@@ -72,5 +72,40 @@ pub fn depth(sought: &Sought<'_>, types: &[&Simple]) -> u64
         (types.len() - sought.count) as u64
     } else {
         0
+    }
+}
+
+/// Two parts of a simple type.
+#[derive(Clone, Copy)]
+pub struct Parts<'a> {
+    pub first: &'a Simple,
+    pub second: &'a Simple,
+}
+
+/// The types of the argument and of the result of a function.
+#[tactic(auto, using(clf_syntax::specs::PlainSimple::plain_simple_laws))]
+pub fn function_parts<'a>(ty: &'a Simple) -> Option<Parts<'a>>
+    ensures { option_map plain_parts result ≡ function_parts_of (plain_simple ty.now) }
+{
+    match ty {
+        Simple::Fun { mode: _, dom, cod } => Some(Parts {
+            first: dom.get(),
+            second: cod.get(),
+        }),
+        Simple::Atom(_) | Simple::With { .. } | Simple::Top | Simple::Monad { .. } => None,
+    }
+}
+
+/// The types of the parts of a pair.
+#[tactic(auto, using(clf_syntax::specs::PlainSimple::plain_simple_laws))]
+pub fn pair_parts<'a>(ty: &'a Simple) -> Option<Parts<'a>>
+    ensures { option_map plain_parts result ≡ pair_parts_of (plain_simple ty.now) }
+{
+    match ty {
+        Simple::With { left, right } => Some(Parts {
+            first: left.get(),
+            second: right.get(),
+        }),
+        Simple::Atom(_) | Simple::Fun { .. } | Simple::Top | Simple::Monad { .. } => None,
     }
 }
