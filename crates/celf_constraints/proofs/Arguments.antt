@@ -1,5 +1,5 @@
 -- The arguments of a spine, read one by one: what was read is the only reading.
-use Rattle.std.specs.Prelude.{ℕ, ◌≡◌, ◌⊎◌, true, false, List, [], ◌∷◌, ◌++◌, Option, Some, None, refl}
+use Rattle.std.specs.Prelude.{ℕ, ◌≡◌, true, false, List, [], ◌∷◌, ◌++◌, refl}
 use Rattle.std.proofs.Common.{ap, sym, ◌∙◌, subst, inl, inr, ⊎_elim, append_assoc}
 use Rattle.std.proofs.lemmas.List.{append-nil}
 use Rattle.clf_syntax.specs.declared.tree.Mode.{Mode}
@@ -7,7 +7,7 @@ use Rattle.clf_syntax.specs.Tree.{PlainObject, PlainElimination, arg, first, sec
 use Rattle.clf_syntax.specs.TypeTree.{SimpleType, base, arrow, simple_with, simple_top, lax}
 use Rattle.clf_syntax.proofs.OccursLaws.{not_both}
 use Rattle.pattern_laws.specs.Patterns.{blank}
-use Rattle.celf_constraints.specs.Read.{Reading, IsLocal, ReadAs, ReadsArgument, ReadsLocal, Reads, ReadsOne, ReadsSpine}
+use Rattle.celf_constraints.specs.Read.{Reading, IsLocal, ReadAs, Reads}
 use Rattle.celf_constraints.proofs.LongForms.{one_local}
 
 abbrev made : Mode → SimpleType → SimpleType → ℕ → Reading

@@ -1,13 +1,13 @@
 -- Arguments in memory, arranged as places.
-use Rattle.std.specs.Prelude.{ℕ, ◌≡◌, Bool, true, List, [], ◌∷◌, ◌++◌, map, reverse, Option, refl}
+use Rattle.std.specs.Prelude.{ℕ, ◌≡◌, List, [], ◌∷◌, ◌++◌, map, reverse, Option, refl}
 use Rattle.std.proofs.Common.{ap, sym, ◌∙◌, subst}
 use Rattle.std.proofs.lemmas.List.{map-append, reverse-append}
 use Rattle.pattern_laws.specs.Patterns.{Place as PlainPlace, Distinct}
 use Rattle.celf_constraints.specs.declared.places.Place.{Place}
 use Rattle.celf_constraints.specs.declared.places.Places.{Places}
 use Rattle.celf_constraints.specs.Ended.{local_of, Apart}
-use Rattle.celf_constraints.specs.Reading.{plain_place, own_place, plain_places}
-use Rattle.celf_constraints.specs.Read.{Reading, place_of, own_of, plain_reading, IsArranged}
+use Rattle.celf_constraints.specs.Reading.{plain_place, own_place}
+use Rattle.celf_constraints.specs.Read.{place_of, own_of, plain_reading, IsArranged}
 use Rattle.celf_constraints.proofs.Growing.{to_list, from_list, both_maps}
 
 turned : {X Y : Type 0} (f : X → Y) (xs : List X) → map f (reverse xs) ≡ reverse (map f xs)

@@ -1,12 +1,11 @@
 -- The candidate of an eta-long form is its variable.
-use Rattle.std.specs.Prelude.{ℕ, ◌+◌, ◌-◌, ◌≡◌, ◌⊎◌, ◌&&◌, nat_eq, if◌then◌else◌, Bool, true, false, ◌<◌, List, [], ◌∷◌, length, Option, Some, None, map, get_or, refl}
+use Rattle.std.specs.Prelude.{ℕ, ◌+◌, ◌≡◌, ◌⊎◌, ◌&&◌, Bool, true, false, ◌<◌, List, [], ◌∷◌, length, Some, None, map, get_or, refl}
 use Rattle.std.proofs.Common.{ap, sym, ◌∙◌, inl, inr, ⊎_elim, arith}
-use Rattle.clf_syntax.specs.declared.tree.Mode.{Mode}
 use Rattle.clf_syntax.specs.declared.tree.Head.TheVariants.{Var}
 use Rattle.clf_syntax.specs.declared.tree.Neutral.{Neutral}
 use Rattle.clf_syntax.specs.declared.tree.Step.{Step, out-Step}
 use Rattle.clf_syntax.specs.declared.tree.Expr.{Expr, out-Expr}
-use Rattle.clf_syntax.specs.Tree.{PlainObject, PlainNeutral, head_alone, app, fst, snd, PlainExpression, PlainElimination, arg, first, second, spine_on, steps_on, done, tuple_of, head_of}
+use Rattle.clf_syntax.specs.Tree.{PlainNeutral, head_alone, app, fst, snd, PlainExpression, PlainElimination, arg, first, second, spine_on, steps_on, done, tuple_of, head_of}
 use Rattle.clf_syntax.specs.TypeTree.{SimpleType, base, arrow, simple_with, simple_top, lax}
 use Rattle.clf_syntax.specs.Renaming.{ren_neutral, ren_head, up}
 use Rattle.clf_syntax.specs.Plain.{plain_neutral, plain_expr, plain_elim, plain_step, plain_entry, plain-neutral, plain-expr, plain-step-rhs}

@@ -5,7 +5,7 @@ use Rattle.std.proofs.Common.{ap, sym, ◌∙◌, subst, inl, inr, ⊎_elim, ari
 use Rattle.pattern_laws.specs.Patterns.{Place as PlainPlace, blank, local_at, mask_at, Ends, ends_here, ends_later}
 use Rattle.celf_constraints.specs.declared.places.Place.{Place}
 use Rattle.celf_constraints.specs.Reading.{plain_place}
-use Rattle.celf_constraints.specs.Ended.{local_of, StandsAt, LeadsOn, IsOpen, EndsIn, ends_there, ends_beyond}
+use Rattle.celf_constraints.specs.Ended.{local_of, StandsAt, IsOpen, EndsIn, ends_there, ends_beyond}
 
 -- how many places are not held
 abbrev pub unheld : List Bool → ℕ
@@ -112,7 +112,7 @@ pub ends_of : {V E : Type 0} (f : V → List Bool) (r : Result V E) (xs zs : Lis
     → IfOk r (λ v. (j : ℕ) → (mask_at (f v) j ≡ true) ↔ EndsIn xs zs j) → IfOk r (λ v. (j : ℕ) → (mask_at (f v) j ≡ true) ↔ Ends ps qs j)
 ends_of f (Ok v) xs zs ps qs e h k = λ j. (
   (λ m. ends_out ps qs (subst (λ ys. EndsIn (map local_of ps) ys j) h (subst (λ ys. EndsIn ys zs j) e ((k j).0 m)))),
-  (λ n. (k j).1 (subst (λ ys. EndsIn xs ys j) (sym h) (subst (λ ys. EndsIn ys (map local_of qs) j) (sym e) (ends_in ps qs n))))
+  (λ n. (k j).1 (subst (λ ys. EndsIn xs ys j) (sym h) (subst (λ ys. EndsIn ys (map local_of qs) j) (sym e) (ends_in ps qs n)))),
 )
 ends_of f (Err x) xs zs ps qs e h k = tt
 

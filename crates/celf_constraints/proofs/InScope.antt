@@ -1,16 +1,14 @@
 -- What a neutral is read as, by its head.
-use Rattle.std.specs.Prelude.{ℕ, ◌≡◌, List, [], ◌∷◌, map, Option, Some, None, Result, IfOk, IfErr, refl}
+use Rattle.std.specs.Prelude.{ℕ, ◌≡◌, ◌⊎◌, List, [], ◌∷◌, map, Option, Some, None, refl}
 use Rattle.std.specs.List.{slice_get}
-use Rattle.std.specs.Option.{option_map}
-use Rattle.std.specs.Borrow.{Bor}
-use Rattle.std.proofs.Common.{ap, sym, ◌∙◌, subst}
-use Rattle.std.proofs.lemmas.Result.{IfOk-weaker}
+use Rattle.std.proofs.Common.{ap, sym, ◌∙◌, subst, ⊎_elim}
 use Rattle.clf_syntax.specs.declared.tree.Head.{Head}
 use Rattle.clf_syntax.specs.declared.tree.Head.TheVariants.{Const, Var, Meta}
+use Rattle.clf_syntax.specs.declared.tree.Elim.{Elim}
 use Rattle.clf_syntax.specs.declared.tree.Neutral.{Neutral}
 use Rattle.clf_syntax.specs.declared.tree.Simple.{Simple}
 use Rattle.clf_syntax.specs.declared.tree.SimpleEntry.{SimpleEntry}
-use Rattle.clf_syntax.specs.Tree.{PlainNeutral, head_alone, head_of, spine_on}
+use Rattle.clf_syntax.specs.Tree.{head_alone, head_of, spine_on}
 use Rattle.clf_syntax.specs.TypeTree.{SimpleType}
 use Rattle.clf_syntax.specs.Plain.{plain_neutral, plain_elim, plain-neutral}
 use Rattle.clf_syntax.specs.PlainSimple.{plain_simple}
@@ -44,11 +42,9 @@ number e = cc
 nothing : {X : Type 0} {x : X} → None ≡ Some x → ⊥
 nothing e = cc
 
-pub constant_unread : (z : Assignment) (n : Neutral) (t : SimpleType) (c : ℕ) → n.head ≡ Const c → (m : ℕ) (ps qs : List PlainPlace) → OnLocals z (plain_neutral n) m ps qs t → ⊥
-constant_unread z n t c e m ps qs o = const_meta (sym e ∙ head_there z n t m ps qs o)
-
-pub variable_unread : (z : Assignment) (n : Neutral) (t : SimpleType) (i : ℕ) → n.head ≡ Var i → (m : ℕ) (ps qs : List PlainPlace) → OnLocals z (plain_neutral n) m ps qs t → ⊥
-variable_unread z n t i e m ps qs o = var_meta (sym e ∙ head_there z n t m ps qs o)
+-- Under a constant or a variable nothing is read.
+pub other_unread : (z : Assignment) (n : Neutral) (t : SimpleType) → ((c : ℕ) × (n.head ≡ Const c)) ⊎ ((i : ℕ) × (n.head ≡ Var i)) → (m : ℕ) (ps qs : List PlainPlace) → OnLocals z (plain_neutral n) m ps qs t → ⊥
+other_unread z n t h m ps qs o = ⊎_elim (λ c. const_meta (sym c.1 ∙ head_there z n t m ps qs o)) (λ i. var_meta (sym i.1 ∙ head_there z n t m ps qs o)) h
 
 -- A metavariable without a type
 pub unknown_unread : (z : Assignment) (metas : List Simple) (vs : List SimpleType) → HasTypes z metas vs → (n : Neutral) (k : ℕ) → n.head ≡ Meta k → None ≡ slice_get (map plain_simple metas) k
@@ -58,14 +54,14 @@ unknown_unread z metas vs h n k e f t m ps qs o =
     nothing (f ∙ ap (slice_get (map plain_simple metas)) same ∙ sym (h.metavariables m) ∙ o.type)
 
 -- The spine of a neutral under its head
-under_head : (n : Neutral) (m : ℕ) → n.head ≡ Meta m → plain_neutral n ≡ spine_on (map plain_elim n.spine) (head_alone (Meta m))
-under_head n m e = plain-neutral n ∙ ap (λ h. spine_on (map plain_elim n.spine) (head_alone h)) e
+under_head : (n : Neutral) (es : List Elim) (m : ℕ) → n.head ≡ Meta m → es ≡ n.spine → plain_neutral n ≡ spine_on (map plain_elim es) (head_alone (Meta m))
+under_head n es m e f = plain-neutral n ∙ ap (λ h. spine_on (map plain_elim n.spine) (head_alone h)) e ∙ ap (λ xs. spine_on (map plain_elim xs) (head_alone (Meta m))) (sym f)
 
-pub read_so : (metas : List Simple) (vs : List SimpleType) (n : Neutral) (m : ℕ) (ty : SimpleType) → n.head ≡ Meta m → Some ty ≡ slice_get (map plain_simple metas) m → (found : Option Places)
-    → ((z : Assignment) (t : SimpleType) → Scopes z vs → z (Meta m) ≡ Some ty → SimplyTypedNeutral z (spine_on (map plain_elim n.spine) (head_alone (Meta m))) t → ReadsLocals z (spine_on (map plain_elim n.spine) (head_alone (Meta m))) t found)
+pub read_so : (metas : List Simple) (vs : List SimpleType) (n : Neutral) (es : List Elim) (m : ℕ) (ty : SimpleType) → n.head ≡ Meta m → es ≡ n.spine → Some ty ≡ slice_get (map plain_simple metas) m → (found : Option Places)
+    → ((z : Assignment) (t : SimpleType) → Scopes z vs → z (Meta m) ≡ Some ty → SimplyTypedNeutral z (spine_on (map plain_elim es) (head_alone (Meta m))) t → ReadsLocals z (spine_on (map plain_elim es) (head_alone (Meta m))) t found)
     → (z : Assignment) (t : SimpleType) → HasTypes z metas vs → SimplyTypedNeutral z (plain_neutral n) t → ReadsLocals z (plain_neutral n) t found
-read_so metas vs n m ty e k found f z t h q =
-    let same = under_head n m e in
+read_so metas vs n es m ty e i k found f z t h q =
+    let same = under_head n es m e i in
     subst (λ r. ReadsLocals z r t found) (sym same) (f z t h.variables (h.metavariables m ∙ sym k) (subst (λ r. SimplyTypedNeutral z r t) same q))
 
 -- ---- the locals of an equation

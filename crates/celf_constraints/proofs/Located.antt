@@ -1,21 +1,19 @@
 -- What was read of a typed neutral puts its metavariable on locals, and each metavariable on locals is read so.
-use Rattle.std.specs.Prelude.{ℕ, zero, suc, ◌≡◌, ◌⊎◌, ◌&&◌, Bool, true, false, List, [], ◌∷◌, ◌++◌, map, reverse, Option, Some, None, refl}
+use Rattle.std.specs.Prelude.{ℕ, ◌≡◌, ◌&&◌, Bool, true, false, List, [], ◌∷◌, ◌++◌, map, reverse, Some, refl}
 use Rattle.std.specs.List.{slice_get}
 use Rattle.std.proofs.Common.{ap, sym, ◌∙◌, subst, inl, inr, ⊎_elim, append_assoc}
 use Rattle.std.proofs.lemmas.List.{map-append, reverse-append}
 use Rattle.clf_syntax.specs.declared.tree.Mode.{Mode}
-use Rattle.clf_syntax.specs.declared.tree.Head.{Head}
 use Rattle.clf_syntax.specs.declared.tree.Head.TheVariants.{Var, Meta}
-use Rattle.clf_syntax.specs.Tree.{PlainObject, PlainNeutral, head_alone, app, fst, snd, PlainElimination, arg, first, second, eliminated, spine_on}
+use Rattle.clf_syntax.specs.Tree.{PlainObject, PlainNeutral, head_alone, app, fst, snd, PlainElimination, arg, first, second, spine_on}
 use Rattle.clf_syntax.specs.TypeTree.{SimpleType, base, arrow, simple_with, simple_top, lax}
 use Rattle.clf_syntax.specs.Simple.{Assignment, no_holes, SimplyTyped, SimplyTypedNeutral}
-use Rattle.clf_syntax.proofs.OccursLaws.{not_both}
-use Rattle.hered_subst.proofs.SimpleTyping.{Typed, typed_lam, typed_pair, typed_unit, typed_monadic, typed_metavariable, typed_atomic, to_typed, of_typed}
+use Rattle.hered_subst.proofs.SimpleTyping.{Typed, typed_lam, typed_pair, typed_unit, typed_monadic, typed_metavariable, typed_atomic, to_typed}
 use Rattle.subst_laws.proofs.Variables.{neutral_has_one_type}
 use Rattle.eta_laws.specs.Eta.{eta}
-use Rattle.pattern_laws.specs.Patterns.{Place as PlainPlace, blank, is_blank, on, arrows, local_at, OwnPlace, OwnPlaces}
+use Rattle.pattern_laws.specs.Patterns.{Place as PlainPlace, blank, is_blank, on, arrows, OwnPlace, OwnPlaces}
+use Rattle.pattern_laws.proofs.TypeParts.{from_type}
 use Rattle.pattern_laws.proofs.Typings.{blank_is}
-use Rattle.inversion_laws.proofs.Misfits.{blank_eta}
 use Rattle.celf_constraints.specs.Read.{Reading, place_of, own_of, ReadAs, Reads}
 
 -- a list that is turned round, with its first element put behind
@@ -35,12 +33,6 @@ blank_object typed_unit e = refl
 blank_object (typed_monadic p) e = absurd (cc)
 blank_object (typed_metavariable i p k) e = absurd (cc)
 blank_object (typed_atomic p) e = absurd (cc)
-
-result_of : {m k : Mode} {d c e f : SimpleType} → arrow m d c ≡ arrow k e f → c ≡ f
-result_of h = cc
-
-domain_of : {m k : Mode} {d c e f : SimpleType} → arrow m d c ≡ arrow k e f → d ≡ e
-domain_of h = cc
 
 module _ (z : Assignment) (vs : List SimpleType) where
   -- the type of what stands under a spine
@@ -77,7 +69,7 @@ module _ (z : Assignment) (vs : List SimpleType) where
     located m (arg k o ∷ es) n (arrow l d c) (r ∷ rs) u ps qs a at p x q =
         let (y, i) = inner_type es (app k n o) x q in
         let e : arrow l d c ≡ arrow k i.0 y = neutral_has_one_type (no_holes true) z n (arrow l d c) (arrow k i.0 y) p i.1 in
-        let typed : SimplyTyped z o d = subst (SimplyTyped z o) (sym (domain_of e)) i.2 in
+        let typed : SimplyTyped z o d = subst (SimplyTyped z o) (from_type e) i.2 in
         let here : At m (app k n o) (place_of r ∷ ps) (own_of r ∷ qs) c = record {
           neutral = ap (λ h. app h n o) (a.0 ∙ sym a.1.mode) ∙ ap (λ h. app r.mode h o) at.neutral ∙ ap (app r.mode (on qs (head_alone (Meta m)))) (form_of d o l r a.1 typed);
           type = at.type ∙ ap (λ h. Some (arrows ps (arrow h d c))) (sym a.1.mode) ∙ ap (λ h. Some (arrows ps (arrow r.mode h c))) (sym a.1.type);

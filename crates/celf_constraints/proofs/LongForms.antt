@@ -1,5 +1,5 @@
 -- Which local an object is the eta-long form of.
-use Rattle.std.specs.Prelude.{ℕ, ◌≡◌, Bool, true, false, List, Option, Some, None, Result, Ok, Err, refl}
+use Rattle.std.specs.Prelude.{ℕ, ◌≡◌, Bool, true, false, List, Some, None, Result, Ok, Err, refl}
 use Rattle.std.specs.List.{slice_get}
 use Rattle.std.proofs.Common.{ap, sym, ◌∙◌, subst}
 use Rattle.clf_syntax.specs.declared.tree.Head.TheVariants.{Var}
@@ -7,11 +7,10 @@ use Rattle.clf_syntax.specs.declared.tree.Obj.{Obj}
 use Rattle.clf_syntax.specs.declared.fault.Or.{Or}
 use Rattle.clf_syntax.specs.declared.fault.Or.TheVariants.{Fault, NoMemory}
 use Rattle.clf_syntax.specs.declared.fault.TooFar.{TooFar}
-use Rattle.clf_syntax.specs.Tree.{PlainObject, PlainNeutral, head_alone, head_of}
+use Rattle.clf_syntax.specs.Tree.{PlainObject, PlainNeutral, head_alone}
 use Rattle.clf_syntax.specs.TypeTree.{SimpleType}
 use Rattle.clf_syntax.specs.Plain.{plain_obj}
 use Rattle.clf_syntax.specs.Written.{Writes, fits}
-use Rattle.hered_subst.specs.TypedEnvironments.{is_metavariable}
 use Rattle.eta_laws.specs.Eta.{eta, expansion}
 use Rattle.eta_laws.proofs.Expansions.{expansion_laws}
 use Rattle.pattern_laws.specs.Patterns.{blank}

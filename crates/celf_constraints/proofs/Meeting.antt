@@ -1,23 +1,22 @@
 -- The reading of a neutral answers what it has to.
 use Rattle.std.specs.Prelude.{ℕ, zero, suc, ◌≡◌, ◌+◌, ◌<◌, List, [], ◌∷◌, ◌++◌, length, map, drop, get_or, reverse, Option, Some, None, refl}
-use Rattle.std.specs.List.{slice_get}
 use Rattle.std.specs.Option.{option_map}
 use Rattle.std.proofs.Common.{ap, sym, ◌∙◌, subst, arith}
 use Rattle.std.proofs.lemmas.List.{append-nil}
 use Rattle.clf_syntax.specs.declared.tree.Mode.{Mode}
 use Rattle.clf_syntax.specs.declared.tree.SimpleEntry.{SimpleEntry, out-SimpleEntry}
-use Rattle.clf_syntax.specs.declared.tree.Head.TheVariants.{Var, Meta}
-use Rattle.clf_syntax.specs.Tree.{PlainNeutral, head_alone, PlainElimination, spine_on}
+use Rattle.clf_syntax.specs.declared.tree.Head.TheVariants.{Meta}
+use Rattle.clf_syntax.specs.Tree.{head_alone, PlainElimination, spine_on}
 use Rattle.clf_syntax.specs.TypeTree.{SimpleType}
 use Rattle.clf_syntax.specs.PlainSimple.{plain_simple, plain_simple_entry, plain-simple-entry}
 use Rattle.clf_syntax.proofs.Next.{dropped}
 use Rattle.clf_syntax.specs.Simple.{Assignment, SimplyTypedNeutral}
 use Rattle.pattern_laws.specs.Instantiations.{Types, closed}
 use Rattle.pattern_laws.specs.Equations.{Locals, scoped}
-use Rattle.pattern_laws.specs.Patterns.{Place as PlainPlace, on, arrows, local_at, OwnPlaces, OnLocals, Distinct}
+use Rattle.pattern_laws.specs.Patterns.{Place as PlainPlace, on, local_at, OnLocals, Distinct}
 use Rattle.celf_constraints.specs.declared.places.Places.{Places}
 use Rattle.celf_constraints.specs.Equated.{plain_locals}
-use Rattle.celf_constraints.specs.Reading.{plain_places, own_places, ReadsLocals, Scopes, HasTypes}
+use Rattle.celf_constraints.specs.Reading.{plain_places, own_places, ReadsLocals, Scopes}
 use Rattle.celf_constraints.specs.Read.{Reading, place_of, own_of, Reads, ReadsSpine, IsArranged, Arranges}
 use Rattle.celf_constraints.proofs.Arguments.{one_reading}
 use Rattle.celf_constraints.proofs.Located.{At, located, onto}
@@ -40,8 +39,8 @@ module _ (z : Assignment) (vs : List SimpleType) (s : Scopes z vs) (m : ℕ) (ty
   met rs u r p a q =
       let at = located z vs (λ i v e. s i ∙ e) m es (head_alone (Meta m)) ty rs u [] [] r (record { neutral = refl; type = typed; places = tt }) typed t q in
       let here : At z vs m (spine_on es (head_alone (Meta m))) (plain_places p) (own_places p) t =
-          subst (λ l. At z vs m (spine_on es (head_alone (Meta m))) l (own_places p) t) (append-nil (map place_of (reverse rs)) ∙ sym a.places)
-          (subst (λ l. At z vs m (spine_on es (head_alone (Meta m))) (map place_of (reverse rs) ++ []) l t) (append-nil (map own_of (reverse rs)) ∙ sym a.own) at) in
+      subst (λ l. At z vs m (spine_on es (head_alone (Meta m))) l (own_places p) t) (append-nil (map place_of (reverse rs)) ∙ sym a.places)
+      (subst (λ l. At z vs m (spine_on es (head_alone (Meta m))) (map place_of (reverse rs) ++ []) l t) (append-nil (map own_of (reverse rs)) ∙ sym a.own) at) in
       record {
         neutral = here.neutral ∙ ap (λ k. on (own_places p) (head_alone (Meta k))) (sym a.meta);
         type = ap (λ k. z (Meta k)) a.meta ∙ here.type;

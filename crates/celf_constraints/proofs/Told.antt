@@ -1,5 +1,5 @@
 -- Each metavariable on locals is read, with the same locals at the same places.
-use Rattle.std.specs.Prelude.{ℕ, zero, suc, ◌≡◌, ◌⊎◌, Bool, true, false, if◌then◌else◌, List, [], ◌∷◌, ◌++◌, map, reverse, Option, Some, None, refl}
+use Rattle.std.specs.Prelude.{ℕ, zero, suc, ◌≡◌, ◌⊎◌, Bool, true, false, if◌then◌else◌, List, [], ◌∷◌, ◌++◌, map, reverse, Some, None, refl}
 use Rattle.std.specs.List.{slice_get}
 use Rattle.std.proofs.Common.{ap, sym, ◌∙◌, subst, inl, inr, ⊎_elim}
 use Rattle.std.proofs.lemmas.List.{reverse-append}
@@ -97,9 +97,14 @@ module _ (z : Assignment) (vs : List SimpleType) (listed : (i : ℕ) (u : Simple
   read_back m (x ∷ es) h (p ∷ ps) (q ∷ qs) t e o =
       let (fs, a, b) = last_of x es (head_alone h) q.0 (on qs (head_alone (Meta m))) (eta q.1 (head_alone (Var q.2))) e in
       let (f, (rs, g, l)) = read_back m fs h ps qs (arrow p.0 p.1 t) b o.1 in
-      let (r, c, k) = one_back p q o.0 in
-      (f, (rs ++ r ∷ [], subst (λ y. Reads vs y (arrows ps (arrow p.0 p.1 t)) (rs ++ r ∷ []) t) (sym a) (snoc vs fs (arrows ps (arrow p.0 p.1 t)) rs q.0 p.0 p.1 t (eta q.1 (head_alone (Var q.2))) r g (sym o.0.mode) c),
-      λ i. ap (λ y. local_at (map place_of y) i) (reverse-append rs (r ∷ [])) ∙ at i r k rs l))
+      let (r, c, k) = one_back p q o.0 in (
+        f,
+        (
+          rs ++ r ∷ [],
+          subst (λ y. Reads vs y (arrows ps (arrow p.0 p.1 t)) (rs ++ r ∷ []) t) (sym a) (snoc vs fs (arrows ps (arrow p.0 p.1 t)) rs q.0 p.0 p.1 t (eta q.1 (head_alone (Var q.2))) r g (sym o.0.mode) c),
+          λ i. ap (λ y. local_at (map place_of y) i) (reverse-append rs (r ∷ [])) ∙ at i r k rs l,
+        ),
+      )
     where
       at : (i : ℕ) (r : Reading) → (if blank r.type then None else Some r.local) ≡ (if blank p.1 then None else Some p.2) → (rs : List Reading) → ((i : ℕ) → local_at (map place_of (reverse rs)) i ≡ local_at ps i)
           → local_at (map place_of (r ∷ reverse rs)) i ≡ local_at (p ∷ ps) i

@@ -1,5 +1,5 @@
 -- Inner: the locals of places as numbers, and the places from which the way is known to come to an end.
-use Rattle.std.specs.Prelude.{ℕ, ◌≡◌, ◌⊎◌, Bool, true, false, List, Option, Some, None, if◌then◌else◌, map}
+use Rattle.std.specs.Prelude.{ℕ, ◌≡◌, ◌⊎◌, Bool, true, false, List, Option, Some, None, if◌then◌else◌}
 use Rattle.std.specs.List.{slice_get}
 use Rattle.pattern_laws.specs.Patterns.{Place as PlainPlace, blank, mask_at}
 

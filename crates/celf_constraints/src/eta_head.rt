@@ -20,13 +20,7 @@ fn lowered(found: Option<u32>) -> Option<u32>
 {
     match found {
         None => None,
-        Some(index) => {
-            if index == 0 {
-                None
-            } else {
-                Some(index - 1)
-            }
-        }
+        Some(index) => { if index == 0 { None } else { Some(index - 1) } }
     }
 }
 

@@ -89,7 +89,7 @@ fn meta_type<'a>(metas: &'a [Simple], meta: u32) -> Option<&'a Simple>
     }
 }
 
-/// The simple types of the locals.
+/// The simple types of the locals, the oldest first. It fails only where memory runs out.
 pub fn scope_of<'a>(alloc: Global, locals: &'a [SimpleEntry]) -> Result<Vec<&'a Simple>, AllocError>
     ensures { IfOk result (λ types. scope types.items ≡ map (λ l. l.1) (plain_locals locals.now)) }
 {
@@ -101,10 +101,7 @@ pub fn scope_of<'a>(alloc: Global, locals: &'a [SimpleEntry]) -> Result<Vec<&'a 
 }
 
 #[tactic(auto, using(clf_simple::proofs::Scopes::scope_laws))]
-fn with_type<'a>(
-    types: Vec<&'a Simple>,
-    ty: &'a Simple,
-) -> Result<Vec<&'a Simple>, AllocError>
+fn with_type<'a>(types: Vec<&'a Simple>, ty: &'a Simple) -> Result<Vec<&'a Simple>, AllocError>
     ensures { IfOk result (λ more. scope more.items ≡ plain_simple ty.now ∷ scope types.entry.items) }
 {
     let mut more = types;

@@ -10,7 +10,11 @@ use std::alloc::{AllocError, Global};
 
 /// Of two lists of places, for each place of the first whether the way from it comes to an end. It fails only where
 /// memory runs out.
-pub fn ends(alloc: Global, places: &Places<'_>, others: &Places<'_>) -> Result<Vec<bool>, AllocError>
+pub fn ends(
+    alloc: Global,
+    places: &Places<'_>,
+    others: &Places<'_>,
+) -> Result<Vec<bool>, AllocError>
     ensures lengths { IfOk result (λ held. length held.items ≡ length places.now.places.items) }
     ensures ends { IfOk result (λ held. (j : ℕ)
         → (mask_at held.items j ≡ true) ↔ Ends (plain_places places.now) (plain_places others.now) j) }

@@ -31,5 +31,5 @@ loop-place-preserved c = record {
 pub returns-clause-ends : goal.returns-clause-ends
 returns-clause-ends c j = (
   c.loop-place.invariant.ended j,
-  λ e. all_held c.args.from.now c.args.to.now c.loop-place.held.items (subst (λ bs. (i : ℕ) → IsOpen c.args.from.now c.args.to.now bs i → ⊥) c.as_slice.ensures.value c.in_default.ensures) e
+  λ e. all_held c.args.from.now c.args.to.now c.loop-place.held.items (subst (λ bs. (i : ℕ) → IsOpen c.args.from.now c.args.to.now bs i → ⊥) c.as_slice.ensures.value c.in_default.ensures) e,
 )

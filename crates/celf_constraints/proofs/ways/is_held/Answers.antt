@@ -1,4 +1,4 @@
-use Rattle.std.proofs.Common.{arith, sym, ◌<◌, length}
+use Rattle.std.proofs.Common.{arith, sym}
 use Rattle.celf_constraints.proofs.Growing.{mask_get, mask_beyond}
 use Rattle.celf_constraints.proofs.ways.is_held.Goals as goal
 
