@@ -1,4 +1,0 @@
-pub mod Spines
-pub mod Masking
-pub mod Pruned
-pub mod Situations
