@@ -6,7 +6,7 @@ use Rattle.clf_syntax.specs.declared.tree.Elim.{Elim}
 use Rattle.clf_syntax.specs.declared.tree.Neutral.{Neutral}
 use Rattle.clf_syntax.specs.declared.tree.Step.{Step}
 use Rattle.clf_syntax.specs.Tree.{PlainNeutral, head_alone, PlainExpression, step, steps_on, eliminated, spine_on}
-use Rattle.hered_put.proofs.Pieces.{spine-more}
+use Rattle.hered_put.proofs.SpinePieces.{spine-more}
 use Rattle.clf_syntax.specs.Plain.{plain_neutral, plain_elim, plain_step, plain-neutral}
 use Rattle.std.proofs.Common.{map}
 

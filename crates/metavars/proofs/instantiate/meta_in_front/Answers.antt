@@ -1,6 +1,6 @@
 use Rattle.std.proofs.Common.{◌∙◌, ⊎_elim}
 use Rattle.clf_syntax.specs.Plain.{plain_neutral}
-use Rattle.hered_put.proofs.Pieces.{head-plain}
+use Rattle.hered_put.proofs.StepPieces.{head-plain}
 use Rattle.metavars.proofs.Values.{const-no_meta, var-no_meta}
 use Rattle.metavars.proofs.instantiate.meta_in_front.Goals as goal
 
