@@ -1,0 +1,10 @@
+pub mod Parts
+pub mod Unders
+pub mod Heads
+pub mod Formed
+pub mod Inverted
+pub mod Solving
+pub mod OneGathering
+pub mod Judged
+pub mod Spending
+pub mod Conforming
