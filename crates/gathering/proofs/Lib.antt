@@ -2,9 +2,16 @@ pub mod Parts
 pub mod Unders
 pub mod Heads
 pub mod Formed
+pub mod Puts
 pub mod Inverted
 pub mod Solving
 pub mod OneGathering
 pub mod Judged
 pub mod Spending
 pub mod Conforming
+pub mod Becoming
+pub mod TypedObjects
+pub mod Stays
+pub mod FormedInstances
+pub mod SignatureSetting
+pub mod Whole

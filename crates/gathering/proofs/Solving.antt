@@ -1,8 +1,8 @@
 -- Where the instance of an object has a type, the equations that are gathered of it are solved.
-use Rattle.std.proofs.Common.{ap, arith, inl, subst, sym, ⊎_elim, ◌∙◌}
+use Rattle.std.proofs.Common.{ap, inl, subst, sym, ⊎_elim, ◌∙◌}
 use Rattle.std.specs.Prelude.{Bool, List, [], false, length, refl, true, ℕ, ◌∷◌, ◌≡◌, ◌⊎◌}
 use Rattle.clf_syntax.specs.Renaming.{ren_telescope, up}
-use Rattle.clf_syntax.specs.Simple.{Assignment, SimplyFormed, SimplyFormedContext, SimplyFormedTelescope, SimplyTyped, SimplyTypedExpression, SimplyTypedNeutral, SimplyTypedTuple, erase, erase_telescope, extended, extended_by, extended_over}
+use Rattle.clf_syntax.specs.Simple.{Assignment, SimplyFormed, SimplyFormedContext, SimplyFormedTelescope, SimplyTyped, SimplyTypedExpression, SimplyTypedNeutral, SimplyTypedTuple, erase, erase_telescope, extended_by, extended_over}
 use Rattle.clf_syntax.specs.Tree.{PlainExpression, PlainNeutral, PlainObject, PlainTuple, app, atomic, done, empty, entry, fst, head_alone, hole, lam, monadic, pair, snd, step, unit}
 use Rattle.clf_syntax.specs.TypeTree.{PlainTelescope, PlainType, SimpleTelescope, SimpleType, arrow, both, family, function, monad}
 use Rattle.clf_syntax.specs.declared.tree.Head.{Head}
@@ -11,24 +11,18 @@ use Rattle.clf_syntax.specs.declared.tree.Mode.{Mode}
 use Rattle.use_contexts.specs.Context.{Context, with_entries}
 use Rattle.use_contexts.specs.Holding.{Holding, all_held}
 use Rattle.clf_sig.specs.Entry.{PlainSignature}
-use Rattle.hered_subst.proofs.SimpleTyping.{under_zero}
-use Rattle.hered_subst.proofs.TypedEnvironments.{put_is_typed}
-use Rattle.hered_subst.proofs.TypedResults.{result_is_typed}
-use Rattle.hered_subst.specs.Laws.{inserted}
-use Rattle.hered_subst.specs.Substitution.{Environment, HasValue, Image, KeepsHead, Substituted, SubstitutedEach, SubstitutedExpression, SubstitutedTelescope, SubstitutedTuple, SubstitutedType, keep, kept_app, kept_bare, kept_fst, kept_snd, put, single, step_kept, step_meta, step_value, through_done, through_empty, through_entry, through_hole, through_kept, through_lam, through_monadic, through_pair, through_unit, through_value, under, value_app, value_bare, value_fst, value_snd}
+use Rattle.hered_subst.specs.Substitution.{Environment, HasValue, Image, KeepsHead, Substituted, SubstitutedEach, SubstitutedExpression, SubstitutedTelescope, SubstitutedTuple, SubstitutedType, keep, kept_app, kept_bare, kept_fst, kept_snd, put, step_kept, step_meta, step_value, through_done, through_empty, through_entry, through_hole, through_kept, through_lam, through_monadic, through_pair, through_unit, through_value, under, value_app, value_bare, value_fst, value_snd}
 use Rattle.hered_subst.specs.TypedEnvironments.{TypedEnvironment}
-use Rattle.subst_laws.proofs.Environs.{under_context, under_goes_over, under_sum}
+use Rattle.subst_laws.proofs.Environs.{under_sum}
 use Rattle.subst_laws.proofs.Renamed.{erase_renamed_telescope}
-use Rattle.subst_laws.proofs.Results.{put_commutes}
-use Rattle.subst_laws.specs.Environments.{GoesOver}
 use Rattle.pattern_laws.specs.Equations.{Equation, SolvesEach}
 use Rattle.clf_rules.specs.Typing.{ExpressionHasType, HasType, HeadHasType, Synthesizes, TupleHasType}
 use Rattle.typing_laws.proofs.Erased.{entered, erased_modes}
-use Rattle.typing_laws.proofs.FormedTypes.{as_inserted}
 use Rattle.gathering.proofs.Formed.{formed_entries, formed_past, head_formed, instance_entries, under_entries}
 use Rattle.gathering.proofs.Heads.{carries, filled}
 use Rattle.gathering.proofs.Inverted.{bindings_between, boths_between, families_between, functions_between, monads_between, pairs_solved, same_length, solves_both}
 use Rattle.gathering.proofs.Parts.{application_gathers_parts, application_rule_parts, atomic_rule_parts, entry_gathers_parts, lambda_gathers_parts, lambda_rule_parts, leaf_gathers_parts, monadic_gathers_parts, pair_gathers_parts, pair_rule_parts, step_gathers_parts, step_rule_parts, tuple_entry_rule_parts}
+use Rattle.gathering.proofs.Puts.{formed_put, formed_put_telescope, put_after, put_after_telescope}
 use Rattle.gathering.proofs.Unders.{past_telescope}
 use Rattle.gathering.specs.Gather.{ExpressionGathers, Gathers, HeadGathers, NeutralGathers, TupleGathers}
 use Rattle.gathering.specs.Instances.{ConstantsAreClosed, FixedHeads, FormedSetting, HeadType, InstanceContext}
@@ -65,35 +59,6 @@ module _ (sig : PlainSignature) (z : Setting) (front : Context) (zf : Assignment
   no_value (app m r n) g h w a o q i p (value_app v u t) = let (b, c, d, x, p1, p2, y, l, e, f) = application_gathers_parts p in no_value r g h w (function m b c) (at_function d x o) p1 i y v
   no_value (fst r) g h w a o q i p (value_fst v) = no_value r g h w (both a p.0) (at_both o p.1) q i p.2 v
   no_value (snd r) g h w a o q i p (value_snd v) = no_value r g h w (both p.0 a) (at_both p.1 o) q i p.2 v
-
-  keeps_at : (g : Context) → TypedEnvironment true (Z g) (extended_over g zf) (S g)
-  keeps_at g = (under_context g).0 z.simple zf s keeps
-
-  goes_at : (g : Context) → GoesOver 0 (S g) (under 1 (S g))
-  goes_at g = subst (λ (u : Environment). GoesOver 0 u (under 1 (S g))) (under_zero (S g)) (under_goes_over (S g) 0 0 (omega arith))
-
-  -- an argument put before, and after
-  put_after : (g : Context) (n i : PlainObject) (a : SimpleType) → SimplyTyped (Z g) n a → Substituted (S g) n i → (c t d u : PlainType) → SimplyFormed z.arguments (extended a (Z g)) c
-      → SubstitutedType (single n 0) c t → SubstitutedType (under 1 (S g)) c d → SubstitutedType (single i 0) d u → SubstitutedType (S g) t u
-  put_after g n i a p q c t d u f x y v =
-      ((put_commutes z.arguments (Z g) (extended_over g zf) 0 a (S g) (under 1 (S g)) (keeps_at g) (goes_at g) n i p q).type c t d u
-      (subst (λ (b : Assignment). SimplyFormed z.arguments b c) (sym (as_inserted a (Z g))) f) x y).1 v
-
-  put_after_telescope : (g : Context) (n i : PlainObject) (a : SimpleType) → SimplyTyped (Z g) n a → Substituted (S g) n i → (c t d u : PlainTelescope) → SimplyFormedTelescope z.arguments (extended a (Z g)) c
-      → SubstitutedTelescope (single n 0) c t → SubstitutedTelescope (under 1 (S g)) c d → SubstitutedTelescope (single i 0) d u → SubstitutedTelescope (S g) t u
-  put_after_telescope g n i a p q c t d u f x y v =
-      ((put_commutes z.arguments (Z g) (extended_over g zf) 0 a (S g) (under 1 (S g)) (keeps_at g) (goes_at g) n i p q).telescope c t d u
-      (subst (λ (b : Assignment). SimplyFormedTelescope z.arguments b c) (sym (as_inserted a (Z g))) f) x y).1 v
-
-  formed_put : (g : Context) (n : PlainObject) (a : SimpleType) → SimplyTyped (Z g) n a → (c t : PlainType) → SimplyFormed z.arguments (extended a (Z g)) c → SubstitutedType (single n 0) c t
-      → SimplyFormed z.arguments (Z g) t × (erase t ≡ erase c)
-  formed_put g n a p c t f x = (result_is_typed true z.arguments (inserted 0 a (Z g)) (Z g) (single n 0) ((put_is_typed true (Z g)).0 0 n a p)).type c t
-      (subst (λ (b : Assignment). SimplyFormed z.arguments b c) (sym (as_inserted a (Z g))) f) x
-
-  formed_put_after_telescope : (g : Context) (n : PlainObject) (a : SimpleType) → SimplyTyped (Z g) n a → (c t : PlainTelescope) → SimplyFormedTelescope z.arguments (extended a (Z g)) c → SubstitutedTelescope (single n 0) c t
-      → SimplyFormedTelescope z.arguments (Z g) t × (erase_telescope t ≡ erase_telescope c)
-  formed_put_after_telescope g n a p c t f x = (result_is_typed true z.arguments (inserted 0 a (Z g)) (Z g) (single n 0) ((put_is_typed true (Z g)).0 0 n a p)).telescope c t
-      (subst (λ (b : Assignment). SimplyFormedTelescope z.arguments b c) (sym (as_inserted a (Z g))) f) x
 
   abbrev Argument : Context → List Shape → Bool → PlainObject → PlainType → Shape → List Equation → Type 0
   Argument g w d n a u y = ((d ≡ true) × SimplyTyped (Z g) n (erase a) × (y ≡ [])) ⊎ ((d ≡ false) × Gathers z g w n a u y)
@@ -144,8 +109,8 @@ module _ (sig : PlainSignature) (z : Setting) (front : Context) (zf : Assignment
         let (r1, r2, r3, r4) = solves_neutral r g h w (function m d c) (at_function l u o) q1 h1 (function m d' c') i f p1 e t1 in
         let (x1, x2) = functions_between r1 refl refl in
         let (r5, r6) = argument n g w d l u q2 (λ p'. solves_object n g h w d d' u q2 h2 i f p' e' t3 x1 r4.0) p2 in
-        let (f1, f2) = formed_put g n (erase d) r6 c a r4.1 p3 in
-        (put_after g n y (erase d) r6 e' c a c' b r4.1 p3 x2 t4, subst (SolvesEach s) (sym p4) (solves_both s q1 q2 r2 r5),
+        let (f1, f2) = formed_put z zf s keeps g n (erase d) r6 c a r4.1 p3 in
+        (put_after z zf s keeps g n y (erase d) r6 e' c a c' b r4.1 p3 x2 t4, subst (SolvesEach s) (sym p4) (solves_both s q1 q2 r2 r5),
         (erase d, subst (λ (v : SimpleType). SimplyTypedNeutral (Z g) r (arrow m (erase d) v)) (sym f2) r3, r6), f1)
     solves_neutral (fst r) g h w a o q k b i f p (kept_fst e) t =
         let (r1, r2, r3, r4) = solves_neutral r g h w (both a p.0) (at_both o p.1) q k (both b t.0) i f p.2 e t.1 in ((boths_between r1 refl refl).0, r2, (erase p.0, r3), r4.0)
@@ -182,7 +147,7 @@ module _ (sig : PlainSignature) (z : Setting) (front : Context) (zf : Assignment
         let (a, b, b', l, o, n', q1, q2, j, j', p1, p2, p3, p4) = entry_gathers_parts p in let (a', c', d', h1, h2, y0, y1, y2, y3, y4, y5) = tuple_entry_rule_parts y in
         let (x1, x2) = bindings_between c j y0 in let d1 = subst (λ (y : PlainTelescope). SimplyFormedTelescope z.arguments (Z g) y) j d in
         let (r1, r2) = argument n g w a l o q1 (λ p'. solves_object n g h w a a' o q1 h1 i f p' r y3 x1 d1.0) p1 in
-        let (f1, f2) = formed_put_after_telescope g n (erase a) r2 b b' d1.1 p2 in
-        let (r3, r4) = solves_tuple e g h w b' d' n' q2 h2 i f p3 r' y5 (put_after_telescope g n x (erase a) r2 r b b' c' d' d1.1 p2 x2 y4) f1 in
+        let (f1, f2) = formed_put_telescope z zf s keeps g n (erase a) r2 b b' d1.1 p2 in
+        let (r3, r4) = solves_tuple e g h w b' d' n' q2 h2 i f p3 r' y5 (put_after_telescope z zf s keeps g n x (erase a) r2 r b b' c' d' d1.1 p2 x2 y4) f1 in
         (subst (SolvesEach s) (sym p4) (solves_both s q1 q2 r1 r3),
         (erase a, erase_telescope b, ap erase_telescope j, r2, subst (λ (l : SimpleTelescope). SimplyTypedTuple (Z g) e l) f2 r4))
