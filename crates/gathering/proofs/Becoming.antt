@@ -50,7 +50,6 @@ kept_modes : {s : Environment} {t u : PlainTelescope} → SubstitutedTelescope s
 kept_modes in_end = refl
 kept_modes (in_binding {m = m} p q) = ap (λ l. m ∷ l) (kept_modes q)
 
-
 of_function : {s : Environment} {m : Mode} {a c y : PlainType} → SubstitutedType s (function m a c) y → (b d : PlainType) × (y ≡ function m b d) × SubstitutedType s a b × SubstitutedType (under 1 s) c d
 of_function (in_function {x = x} {y = y} p q) = (x, y, refl, p, q)
 
@@ -89,10 +88,11 @@ pairs_become : (s : Environment) (l k : Locals) → l ≡ k → (ts : List Simpl
     → (p : List Equation) × Pairs k ts xs ys p × BecomeEach s q p
 pairs_become s l k e [] [] [] xs ys q p a b = ([], subst (λ v. Pairs k [] v ys []) (sym (none_of a)) (subst (λ v. Pairs k [] [] v []) (sym (none_of b)) refl), subst (λ v. BecomeEach s v []) (sym p) tt)
 pairs_become s l k e (t ∷ ts) (o ∷ os) (n ∷ ns) xs ys q p a b =
-    let (x, xs', i, c, c') = heads_of a in let (y, ys', j, d, d') = heads_of b in let (q', r, f) = pairs_become s l k e ts os ns xs' ys' p.0 p.2 c' d' in
-    (record { locals = k; left = x; right = y; type = t } ∷ q',
-    subst (λ v. Pairs k (t ∷ ts) v ys (record { locals = k; left = x; right = y; type = t } ∷ q')) (sym i) (subst (λ v. Pairs k (t ∷ ts) (x ∷ xs') v (record { locals = k; left = x; right = y; type = t } ∷ q')) (sym j) (q', refl, r)),
-    subst (λ v. BecomeEach s v (record { locals = k; left = x; right = y; type = t } ∷ q')) (sym p.1) (record { locals = e; type = refl; left = c; right = d }, f))
+    let (x, xs', i, c, c') = heads_of a in let (y, ys', j, d, d') = heads_of b in let (q', r, f) = pairs_become s l k e ts os ns xs' ys' p.0 p.2 c' d' in (
+      record { locals = k; left = x; right = y; type = t } ∷ q',
+      subst (λ v. Pairs k (t ∷ ts) v ys (record { locals = k; left = x; right = y; type = t } ∷ q')) (sym i) (subst (λ v. Pairs k (t ∷ ts) (x ∷ xs') v (record { locals = k; left = x; right = y; type = t } ∷ q')) (sym j) (q', refl, r)),
+      subst (λ v. BecomeEach s v (record { locals = k; left = x; right = y; type = t } ∷ q')) (sym p.1) (record { locals = e; type = refl; left = c; right = d }, f),
+    )
 pairs_become s l k e [] (o ∷ os) ns xs ys q p a b = absurd p
 pairs_become s l k e [] [] (n ∷ ns) xs ys q p a b = absurd p
 pairs_become s l k e (t ∷ ts) [] ns xs ys q p a b = absurd p
@@ -123,14 +123,19 @@ nothing_there i k = absurd (none i k)
 variable_becomes : (s : Environment) (g h : Context) → InstanceContext s [] g h → (i : ℕ) (a : PlainType) → HasVariable g i a → (b : PlainType) × HasVariable h i b × SubstitutedType (under (length g) s) a b
 variable_becomes s [] h p i a q = nothing_there i q.2
 variable_becomes s (e ∷ g) [] p i a q = absurd p
-variable_becomes s (e ∷ g) (d ∷ h) p zero a q = (ren_type (up 1) d.1, (d.0, d.1, refl, refl),
-    subst (λ (u : Environment). SubstitutedType u a (ren_type (up 1) d.1)) (under_sum (length g) s)
-    (subst (λ (x : PlainType). SubstitutedType (under 1 (under (length g) s)) x (ren_type (up 1) d.1)) (sym (variable_first e g a q)) (past_type 1 (under (length g) s) p.1)))
-variable_becomes s (e ∷ g) (d ∷ h) p (suc i) a q = let (a', k, l) = variable_next e g i a q in let (b, (m, c, x, j), f) = variable_becomes s g h p.2 i a' k in
-    (ren_type (up (suc i + 1)) c, (m, c, x, refl),
-    subst (λ (u : Environment). SubstitutedType u a (ren_type (up (suc i + 1)) c)) (under_sum (length g) s)
-    (subst (λ (x : PlainType). SubstitutedType (under 1 (under (length g) s)) x (ren_type (up (suc i + 1)) c)) (sym l)
-    (subst (λ (y : PlainType). SubstitutedType (under 1 (under (length g) s)) (ren_type (up 1) a') y) (sym (next_number i c ∙ ap (ren_type (up 1)) (sym j))) (past_type 1 (under (length g) s) f))))
+variable_becomes s (e ∷ g) (d ∷ h) p zero a q = (
+  ren_type (up 1) d.1,
+  (d.0, d.1, refl, refl),
+  subst (λ (u : Environment). SubstitutedType u a (ren_type (up 1) d.1)) (under_sum (length g) s)
+      (subst (λ (x : PlainType). SubstitutedType (under 1 (under (length g) s)) x (ren_type (up 1) d.1)) (sym (variable_first e g a q)) (past_type 1 (under (length g) s) p.1)),
+)
+variable_becomes s (e ∷ g) (d ∷ h) p (suc i) a q = let (a', k, l) = variable_next e g i a q in let (b, (m, c, x, j), f) = variable_becomes s g h p.2 i a' k in (
+  ren_type (up (suc i + 1)) c,
+  (m, c, x, refl),
+  subst (λ (u : Environment). SubstitutedType u a (ren_type (up (suc i + 1)) c)) (under_sum (length g) s)
+      (subst (λ (x : PlainType). SubstitutedType (under 1 (under (length g) s)) x (ren_type (up (suc i + 1)) c)) (sym l)
+      (subst (λ (y : PlainType). SubstitutedType (under 1 (under (length g) s)) (ren_type (up 1) a') y) (sym (next_number i c ∙ ap (ren_type (up 1)) (sym j))) (past_type 1 (under (length g) s) f))),
+)
 
 closed_past : (s : Environment) (n : ℕ) (a : PlainType) → ((r : ℕ → ℕ) → ren_type r a ≡ a) → SubstitutedType s a a → SubstitutedType (under n s) a a
 closed_past s n a c p = subst (λ (x : PlainType). SubstitutedType (under n s) x a) (c (up n)) (subst (λ (x : PlainType). SubstitutedType (under n s) (ren_type (up n) a) x) (c (up n)) (past_type n s p))
@@ -181,7 +186,7 @@ module _ (z y : Setting) (s : Environment) (same : SameHeads z y s) (formed : Fo
         let (a, e, n, a', e', j, l, p') = lambda_gathers_parts p in let d' = subst (λ (y : PlainType). SimplyFormed z.arguments (Z g) y) j d in
         let (b1, b2, j', c1, c2) = of_function (subst (λ (y : PlainType). SubstitutedType (S g) y u) j c) in
         let (q', r1, r2, r3) = becomes_object b ((m, a) ∷ g) ((m, b1) ∷ h) (a' ∷ w) e b2 e' q (refl, c1, i) (d'.0, f) k p' (subst (λ (u : Environment). Substituted u b x) (under_sum (length g) s) r)
-            (subst (λ (u : Environment). SubstitutedType u e b2) (under_sum (length g) s) c2) d'.1 in
+        (subst (λ (u : Environment). SubstitutedType u e b2) (under_sum (length g) s) c2) d'.1 in
         (q', to_lambda_gathers (b1, b2, n, a', e', j', l, r1), r2, (erase a, erase e, ap erase j, r3))
     becomes_object (pair l r) g h w t u v q i f k p (through_pair {x = x} {y = x'} a b) c d =
         let (e, e', n, n', q1, q2, j, j', p1, p2, m) = pair_gathers_parts p in let d' = subst (λ (y : PlainType). SimplyFormed z.arguments (Z g) y) j d in
@@ -196,9 +201,12 @@ module _ (z y : Setting) (s : Environment) (same : SameHeads z y s) (formed : Fo
         (λ p. let (a, ns, os, ts, o, q1, q2, j, p1, e, p2, m) = leaf_gathers_parts p in let (ns', j', c') = of_family (subst (λ (y : PlainType). SubstitutedType (S g) y u) j c) in
         let (b, q3, r1, r2, r3, r4, r5) = becomes_neutral n g h w (family a os) o q1 i f k p1 r in let (os', j1, c1) = of_family r2 in
         let (q4, r6, r7) = pairs_become s (simple_locals g) (simple_locals h) (same_locals s g h i) ts os ns os' ns' q2 p2
-            (subst (λ (l : ℕ). SubstitutedEach (under l s) os os') (sym (same_length g)) c1) (subst (λ (l : ℕ). SubstitutedEach (under l s) ns ns') (sym (same_length g)) c') in
-        (q3 ++ q4, inl (to_leaf_gathers (a, ns', os', ts, o, q3, q4, j', subst (λ (l : PlainType). NeutralGathers y h w x l o q3) j1 r1, ap (λ f. f a) (sym same.arguments) ∙ e, r6, refl)),
-        subst (λ l. BecomeEach s l (q3 ++ q4)) (sym m) (become_both s q1 q2 q3 q4 r3 r7), subst (λ (b : SimpleType). SimplyTyped (Z g) (atomic n) b) (sym (ap erase j)) (inl (a, refl), r4)))
+        (subst (λ (l : ℕ). SubstitutedEach (under l s) os os') (sym (same_length g)) c1) (subst (λ (l : ℕ). SubstitutedEach (under l s) ns ns') (sym (same_length g)) c') in (
+          q3 ++ q4,
+          inl (to_leaf_gathers (a, ns', os', ts, o, q3, q4, j', subst (λ (l : PlainType). NeutralGathers y h w x l o q3) j1 r1, ap (λ f. f a) (sym same.arguments) ∙ e, r6, refl)),
+          subst (λ l. BecomeEach s l (q3 ++ q4)) (sym m) (become_both s q1 q2 q3 q4 r3 r7),
+          subst (λ (b : SimpleType). SimplyTyped (Z g) (atomic n) b) (sym (ap erase j)) (inl (a, refl), r4),
+        ))
         (λ p. absurd (no_fill same.fills (filled z none p).fills)) p
     becomes_object (atomic n) g h w t u v q i f k p (through_value r) c d = ⊎_elim
         (λ p. let (a, ns, os, ts, o, q1, q2, j, p1, e, p2, m) = leaf_gathers_parts p in absurd (none_put n g w (family a os) o q1 p1 r))
@@ -218,10 +226,15 @@ module _ (z y : Setting) (s : Environment) (same : SameHeads z y s) (formed : Fo
         let (d', c', j, x1, x2) = of_function r2 in
         let (q4, r6, r7, r8) = argument n x' g h w d d' l u q2 i e' x1 (λ p'. becomes_object n g h w d d' u q2 i f k.1 p' e' x1 r5.0) p2 in
         let (f1, f2) = formed_put z zf s keeps g n (erase d) r8 c a r5.1 p3 in
-        let (t, y1, y2) = put_there z zf s keeps g n x' (erase d) r8 e' c a c' r5.1 p3 x2 in
-        (t, q3 ++ q4, to_application_gathers (d', c', l, u, q3, q4, subst (λ (l' : PlainType). NeutralGathers y h w x l' (at_function l u o) q3) j r1, r6, y1, refl), y2,
-        subst (λ l. BecomeEach s l (q3 ++ q4)) (sym p4) (become_both s q1 q2 q3 q4 r3 r7),
-        (erase d, subst (λ (v : SimpleType). SimplyTypedNeutral (Z g) r (arrow m (erase d) v)) (sym f2) r4, r8), f1)
+        let (t, y1, y2) = put_there z zf s keeps g n x' (erase d) r8 e' c a c' r5.1 p3 x2 in (
+          t,
+          q3 ++ q4,
+          to_application_gathers (d', c', l, u, q3, q4, subst (λ (l' : PlainType). NeutralGathers y h w x l' (at_function l u o) q3) j r1, r6, y1, refl),
+          y2,
+          subst (λ l. BecomeEach s l (q3 ++ q4)) (sym p4) (become_both s q1 q2 q3 q4 r3 r7),
+          (erase d, subst (λ (v : SimpleType). SimplyTypedNeutral (Z g) r (arrow m (erase d) v)) (sym f2) r4, r8),
+          f1,
+        )
     becomes_neutral (fst r) g h w a o q i f k p (kept_fst {x = x} e) =
         let (b, q', r1, r2, r3, r4, r5) = becomes_neutral r g h w (both a p.0) (at_both o p.1) q i f k p.2 e in let (b1, b2, j, x1, x2) = of_both r2 in
         (b1, q', (b2, p.1, subst (λ (l : PlainType). NeutralGathers y h w x l (at_both o p.1) q') j r1), x1, r3, (erase p.0, r4), r5.0)
@@ -238,14 +251,21 @@ module _ (z y : Setting) (s : Environment) (same : SameHeads z y s) (formed : Fo
         let (b', j, m) = of_monad r2 in
         let deeper = ap (λ (l : List Mode). under (length l) (S g)) (sym p2) ∙ under_entries a' g s in
         let (q4, r6, r7, r8) = becomes_result e (with_entries a' g) (with_entries b' h) (with_shapes n w) (ren_telescope (up (length ms)) t) (ren_telescope (up (length ms)) u) v q2
-            (instance_entries s [] m g h refl i) (formed_entries z.arguments z.simple a' g r5 f) k.1 p3
-            (subst (λ (l : Environment). SubstitutedExpression l e x') deeper b)
-            (subst (λ (l : Environment). SubstitutedTelescope l (ren_telescope (up (length ms)) t) (ren_telescope (up (length ms)) u)) deeper (past_telescope (length ms) (S g) c))
-            (formed_past z g a' t ms p2 d) in
-        (q3 ++ q4, to_step_gathers (b', n, q3, q4, subst (λ (l : PlainType). NeutralGathers y h w x l (at_monad n) q3) j r1, kept_modes m ∙ p2, r6, refl),
-        subst (λ l. BecomeEach s l (q3 ++ q4)) (sym p4) (become_both s q1 q2 q3 q4 r3 r7),
-        (erase_telescope a', r4, erased_modes a' ∙ p2, subst (λ (l : SimpleTelescope). SimplyTypedExpression (extended_by (erase_telescope a') (Z g)) e l) (erase_renamed_telescope (up (length ms)) t)
-        (subst (λ (l : Assignment). SimplyTypedExpression l e (erase_telescope (ren_telescope (up (length ms)) t))) (entered z.simple a' g) r8)))
+        (instance_entries s [] m g h refl i) (formed_entries z.arguments z.simple a' g r5 f) k.1 p3
+        (subst (λ (l : Environment). SubstitutedExpression l e x') deeper b)
+        (subst (λ (l : Environment). SubstitutedTelescope l (ren_telescope (up (length ms)) t) (ren_telescope (up (length ms)) u)) deeper (past_telescope (length ms) (S g) c))
+        (formed_past z g a' t ms p2 d) in (
+          q3 ++ q4,
+          to_step_gathers (b', n, q3, q4, subst (λ (l : PlainType). NeutralGathers y h w x l (at_monad n) q3) j r1, kept_modes m ∙ p2, r6, refl),
+          subst (λ l. BecomeEach s l (q3 ++ q4)) (sym p4) (become_both s q1 q2 q3 q4 r3 r7),
+          (
+            erase_telescope a',
+            r4,
+            erased_modes a' ∙ p2,
+            subst (λ (l : SimpleTelescope). SimplyTypedExpression (extended_by (erase_telescope a') (Z g)) e l) (erase_renamed_telescope (up (length ms)) t)
+                (subst (λ (l : Assignment). SimplyTypedExpression l e (erase_telescope (ren_telescope (up (length ms)) t))) (entered z.simple a' g) r8),
+          ),
+        )
     becomes_result (step ms r e) g h w t u v q i f k p (step_value a b l) c d =
         let (a', n, q1, q2, p1, p2, p3, p4) = step_gathers_parts p in absurd (none_put r g w (monad a') (at_monad n) q1 p1 a)
     becomes_result (step ms r e) g h w t u v q i f k p (step_meta a b l) c d =
@@ -262,9 +282,12 @@ module _ (z y : Setting) (s : Environment) (same : SameHeads z y s) (formed : Fo
         let (q3, r1, r2, r3) = argument n x g h w a a' l o q1 i r x1 (λ p'. becomes_object n g h w a a' o q1 i f k.0 p' r x1 d1.0) p1 in
         let (f1, f2) = formed_put_telescope z zf s keeps g n (erase a) r3 b b' d1.1 p2 in
         let (d', y1, y2) = put_there_telescope z zf s keeps g n x (erase a) r3 r b b' c' d1.1 p2 x2 in
-        let (q4, r4, r5, r6) = becomes_tuple e g h w b' d' n' q2 i f k.1 p3 r' y2 f1 in
-        (q3 ++ q4, to_entry_gathers (a', c', d', l, o, n', q3, q4, j1, j', r1, y1, r4, refl), subst (λ l. BecomeEach s l (q3 ++ q4)) (sym p4) (become_both s q1 q2 q3 q4 r2 r5),
-        (erase a, erase_telescope b, ap erase_telescope j, r3, subst (λ (l : SimpleTelescope). SimplyTypedTuple (Z g) e l) f2 r6))
+        let (q4, r4, r5, r6) = becomes_tuple e g h w b' d' n' q2 i f k.1 p3 r' y2 f1 in (
+          q3 ++ q4,
+          to_entry_gathers (a', c', d', l, o, n', q3, q4, j1, j', r1, y1, r4, refl),
+          subst (λ l. BecomeEach s l (q3 ++ q4)) (sym p4) (become_both s q1 q2 q3 q4 r2 r5),
+          (erase a, erase_telescope b, ap erase_telescope j, r3, subst (λ (l : SimpleTelescope). SimplyTypedTuple (Z g) e l) f2 r6),
+        )
 
 pub gathering_is_kept : GatheringIsKept
 gathering_is_kept z y s same formed none g h a b i w n x o q r k p =

@@ -195,8 +195,8 @@ module _ (z : Setting) (formed : FormedSetting z) (none : NoImplicit z) (no_vari
         let (s', j, ks) = is_monad s a ka in let fa' = subst (λ (y : PlainType). SimplyFormed z.arguments (Z g) y) j fa in
         let ms' = sym (erased_modes s') ∙ ap simple_modes ks ∙ m in
         let (q2, r2) = conforms_gathers_result e (with_entries s' g) (with_shapes x w) (ren_telescope (up (length ms)) t) u o (formed_entries z.arguments z.simple s' g fa' f) (formed_past z g s' t ms ms' d)
-            (erase_renamed_telescope (up (length ms)) t ∙ k)
-            (subst (λ (b : Assignment). ExpressionConforms z (with_shapes x w) b e u o) (sym (entered z.simple s' g ∙ ap (λ l. extended_by l (Z g)) ks)) p2) in
+        (erase_renamed_telescope (up (length ms)) t ∙ k)
+        (subst (λ (b : Assignment). ExpressionConforms z (with_shapes x w) b e u o) (sym (entered z.simple s' g ∙ ap (λ l. extended_by l (Z g)) ks)) p2) in
         (q1 ++ q2, to_step_gathers (s', x, q1, q2, subst (λ (y : PlainType). NeutralGathers z g w r y (at_monad x) q1) j r1, ms', r2, refl))
     conforms_gathers_result (done x) g w t u o f d k p = conforms_gathers_tuple x g w t u o f d k p
 

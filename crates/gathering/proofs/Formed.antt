@@ -54,12 +54,14 @@ head_formed z f none [] q (Var i) a p = absurd (nowhere p.2)
   where
     nowhere : {x : Mode × PlainType} → slice_get [] i ≡ Some x → ⊥
     nowhere k = cc
-head_formed z f none (e ∷ g) q (Var zero) a p = let k = variable_first e g a p in
-    (subst (λ (y : PlainType). SimplyFormed z.arguments (extended (erase e.1) (extended_over g z.simple)) y) (sym k) (formed_up z.arguments (erase e.1) (extended_over g z.simple) e.1 q.0),
-    ap (λ t. Some t) (sym (ap erase k ∙ erase_renamed (up 1) e.1)))
-head_formed z f none (e ∷ g) q (Var (suc i)) a p = let (b, k, l) = variable_next e g i a p in let (m, n) = head_formed z f none g q.1 (Var i) b k in
-    (subst (λ (y : PlainType). SimplyFormed z.arguments (extended (erase e.1) (extended_over g z.simple)) y) (sym l) (formed_up z.arguments (erase e.1) (extended_over g z.simple) b m),
-    n ∙ ap (λ t. Some t) (sym (ap erase l ∙ erase_renamed (up 1) b)))
+head_formed z f none (e ∷ g) q (Var zero) a p = let k = variable_first e g a p in (
+  subst (λ (y : PlainType). SimplyFormed z.arguments (extended (erase e.1) (extended_over g z.simple)) y) (sym k) (formed_up z.arguments (erase e.1) (extended_over g z.simple) e.1 q.0),
+  ap (λ t. Some t) (sym (ap erase k ∙ erase_renamed (up 1) e.1)),
+)
+head_formed z f none (e ∷ g) q (Var (suc i)) a p = let (b, k, l) = variable_next e g i a p in let (m, n) = head_formed z f none g q.1 (Var i) b k in (
+  subst (λ (y : PlainType). SimplyFormed z.arguments (extended (erase e.1) (extended_over g z.simple)) y) (sym l) (formed_up z.arguments (erase e.1) (extended_over g z.simple) b m),
+  n ∙ ap (λ t. Some t) (sym (ap erase l ∙ erase_renamed (up 1) b)),
+)
 head_formed z f none g q (Meta m) a p = absurd (not_implicit z none m a p)
 
 -- a telescope past the entries of another

@@ -126,5 +126,5 @@ pub well_formed_solves : WellFormedSolves
 well_formed_solves sig z front y s takes keeps kinds g h w q i f = record {
   types = λ a b c r p. solves_type sig z front y s takes keeps kinds a g h w b q refl i f c r p;
   telescopes = λ a b c r p. solves_telescope sig z front y s takes keeps kinds a g h w b q refl i f c r p;
-  kinds = λ k l c r p. solves_kind sig z front y s takes keeps kinds k g h w l q refl i f c r p
+  kinds = λ k l c r p. solves_kind sig z front y s takes keeps kinds k g h w l q refl i f c r p;
 }

@@ -54,9 +54,11 @@ module _ (sig : PlainSignature) (z : Setting) (front : Context) (s : Environment
   -- a constant under the binders of a context
   carries_constant : (g h : Context) → InstanceContext s front g h → (c : ℕ) (a : PlainType) → z.given c ≡ Some a
       → (j : Head) × (under (length g) s (Const c) ≡ keep j) × ((b : PlainType) → HeadType sig h j b → SubstitutedType (under (length g) s) a b)
-  carries_constant [] h p c a e = let f = fixed c a e in
-      (f.head, ap (λ (u : Environment). u (Const c)) (under_zero s) ∙ f.kept,
-      (λ b q. subst (λ (u : Environment). SubstitutedType u a b) (sym (under_zero s)) (f.carried b (subst (λ (x : Context). HeadType sig x f.head b) p q))))
+  carries_constant [] h p c a e = let f = fixed c a e in (
+    f.head,
+    ap (λ (u : Environment). u (Const c)) (under_zero s) ∙ f.kept,
+    (λ b q. subst (λ (u : Environment). SubstitutedType u a b) (sym (under_zero s)) (f.carried b (subst (λ (x : Context). HeadType sig x f.head b) p q))),
+  )
   carries_constant (e ∷ g) [] p c a i = absurd p
   carries_constant (e ∷ g) (d ∷ h) p c a i = let (j, k, f) = carries_constant g h p.2 c a i in
       (ren_head (up 1) j, ap (λ (u : Environment). u (Const c)) (sym (under_sum (length g) s)) ∙ ap (ren_image (up 1)) k, (λ b q. higher j f b q))
@@ -77,15 +79,19 @@ module _ (sig : PlainSignature) (z : Setting) (front : Context) (s : Environment
       nowhere : {x : Mode × PlainType} → slice_get [] i ≡ Some x → ⊥
       nowhere k = cc
   carries_variable (e ∷ g) [] p i a q = absurd p
-  carries_variable (e ∷ g) (d ∷ h) p zero a q = (ap (λ (u : Environment). u (Var 0)) (sym (under_sum (length g) s)) ∙ under_in 1 (under (length g) s) 0 (omega arith),
-      (λ b r. subst (λ (u : Environment). SubstitutedType u a b) (under_sum (length g) s)
-      (subst (λ (x : PlainType). SubstitutedType (under 1 (under (length g) s)) x b) (sym (variable_first e g a q))
-      (subst (λ (y : PlainType). SubstitutedType (under 1 (under (length g) s)) (ren_type (up 1) e.1) y) (sym (variable_first d h b r)) (past_type 1 (under (length g) s) p.1)))))
-  carries_variable (e ∷ g) (d ∷ h) p (suc i) a q = let (a', k, l) = variable_next e g i a q in let (m, f) = carries_variable g h p.2 i a' k in
-      (under_in (suc (length g)) s (suc i) (below g i a' k), (λ b r. let (b', o, n) = variable_next d h i b r in
-      subst (λ (u : Environment). SubstitutedType u a b) (under_sum (length g) s)
-      (subst (λ (x : PlainType). SubstitutedType (under 1 (under (length g) s)) x b) (sym l)
-      (subst (λ (y : PlainType). SubstitutedType (under 1 (under (length g) s)) (ren_type (up 1) a') y) (sym n) (past_type 1 (under (length g) s) (f b' o))))))
+  carries_variable (e ∷ g) (d ∷ h) p zero a q = (
+    ap (λ (u : Environment). u (Var 0)) (sym (under_sum (length g) s)) ∙ under_in 1 (under (length g) s) 0 (omega arith),
+    (λ b r. subst (λ (u : Environment). SubstitutedType u a b) (under_sum (length g) s)
+        (subst (λ (x : PlainType). SubstitutedType (under 1 (under (length g) s)) x b) (sym (variable_first e g a q))
+        (subst (λ (y : PlainType). SubstitutedType (under 1 (under (length g) s)) (ren_type (up 1) e.1) y) (sym (variable_first d h b r)) (past_type 1 (under (length g) s) p.1)))),
+  )
+  carries_variable (e ∷ g) (d ∷ h) p (suc i) a q = let (a', k, l) = variable_next e g i a q in let (m, f) = carries_variable g h p.2 i a' k in (
+    under_in (suc (length g)) s (suc i) (below g i a' k),
+    (λ b r. let (b', o, n) = variable_next d h i b r in
+        subst (λ (u : Environment). SubstitutedType u a b) (under_sum (length g) s)
+        (subst (λ (x : PlainType). SubstitutedType (under 1 (under (length g) s)) x b) (sym l)
+        (subst (λ (y : PlainType). SubstitutedType (under 1 (under (length g) s)) (ren_type (up 1) a') y) (sym n) (past_type 1 (under (length g) s) (f b' o))))),
+  )
     where
       below : (g : Context) (i : ℕ) (a : PlainType) → HasVariable g i a → suc i < suc (length g)
       below [] i a e = absurd (nowhere e.2)

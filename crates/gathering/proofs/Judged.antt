@@ -116,8 +116,13 @@ module _ (sig : PlainSignature) (z : Setting) (over : OverSignature sig z) (no_i
         → Gathers z g w n t o q → HoldEach q → Spends z w (modes g) k n o → HasType sig g k n t
     typed_object (lam m b) g w k t o q e n f p h s = let (a, c, d, x, y, i, j, p') = lambda_gathers_parts p in let (d', x', y', j', s') = lambda_spends_parts s in
         let no = there j n in let (l1, l2, l3) = function_shapes (sym j' ∙ j) in
-        to_lambda_rule (a, c, i, typed_object b ((m, a) ∷ g) (x ∷ w) (true ∷ k) c y q (no.1, e) no.2 f p' h
-        (subst (λ l. Spends z (x ∷ w) (m ∷ modes g) (true ∷ k) b l) l3 (subst (λ l. Spends z (l ∷ w) (m ∷ modes g) (true ∷ k) b y') l2 s')))
+        to_lambda_rule (
+          a,
+          c,
+          i,
+          typed_object b ((m, a) ∷ g) (x ∷ w) (true ∷ k) c y q (no.1, e) no.2 f p' h
+              (subst (λ l. Spends z (x ∷ w) (m ∷ modes g) (true ∷ k) b l) l3 (subst (λ l. Spends z (l ∷ w) (m ∷ modes g) (true ∷ k) b y') l2 s')),
+        )
     typed_object (pair l r) g w k t o q e n f p h s = let (a, c, x, y, q1, q2, i, j, p1, p2, j2) = pair_gathers_parts p in let (x', y', j', s1, s2) = pair_spends_parts s in
         let no = there j n in let (l1, l2) = pair_shapes (sym j' ∙ j) in let (h1, h2) = hold_parts q q1 q2 j2 h in
         to_pair_rule (a, c, i, typed_object l g w k a x q1 e no.0 f.0 p1 h1 (subst (λ v. Spends z w (modes g) k l v) l1 s1), typed_object r g w k c y q2 e no.1 f.1 p2 h2 (subst (λ v. Spends z w (modes g) k r v) l2 s2))
@@ -138,9 +143,18 @@ module _ (sig : PlainSignature) (z : Setting) (over : OverSignature sig z) (no_i
     typed_neutral (app m r n) g w k a o v q e f p h s = let (b, c, d, u, q1, q2, x1, x2, x3, x4) = application_gathers_parts p in let (d', u', h1, h2, y1, y2, y3, y4) = application_spends_parts s in
         let (k1, k2) = hold_parts q q1 q2 x4 h in let (l1, l2, l3) = function_shapes (one_shape r g w (modes g) h1 (function m b c) (at_function d u o) (at_function d' u' v) q1 x1 y2) in
         let (n1, n2, n3) = none_neutral r g w (function m b c) (at_function d u o) q1 e x1 in
-        to_application_rule (b, c, h1, h2, y1, typed_neutral r g w h1 (function m b c) (at_function d u o) (at_function d' u' v) q1 e f.0 x1 k1 y2, y3,
-        ⊎_elim (λ x. absurd (not_both x.0 n1)) (λ x. ⊎_elim (λ y. absurd (not_both (l1 ∙ y) n1))
-        (λ y. typed_object n g w h2 b u q2 e n2 f.1 x.1 k2 (subst (λ l. Spends z w (modes g) h2 n l) (sym l2) y.1)) y4) x2, x3)
+        to_application_rule (
+          b,
+          c,
+          h1,
+          h2,
+          y1,
+          typed_neutral r g w h1 (function m b c) (at_function d u o) (at_function d' u' v) q1 e f.0 x1 k1 y2,
+          y3,
+          ⊎_elim (λ x. absurd (not_both x.0 n1)) (λ x. ⊎_elim (λ y. absurd (not_both (l1 ∙ y) n1))
+              (λ y. typed_object n g w h2 b u q2 e n2 f.1 x.1 k2 (subst (λ l. Spends z w (modes g) h2 n l) (sym l2) y.1)) y4) x2,
+          x3,
+        )
     typed_neutral (fst r) g w k a o v q e f p h s = (p.0, typed_neutral r g w k (both a p.0) (at_both o p.1) (at_both v s.0) q e f p.2 h s.1)
     typed_neutral (snd r) g w k a o v q e f p h s = (p.0, typed_neutral r g w k (both p.0 a) (at_both p.1 o) (at_both s.0 v) q e f p.2 h s.1)
 
@@ -149,10 +163,17 @@ module _ (sig : PlainSignature) (z : Setting) (over : OverSignature sig z) (no_i
     typed_result (step ms r x) g w k t o q e n f p h s = let (a, v, q1, q2, p1, m, p2, j) = step_gathers_parts p in let (v', h1, h2, y1, y2, y3) = step_spends_parts s in
         let (k1, k2) = hold_parts q q1 q2 j h in let l = monad_shape (one_shape r g w (modes g) h1 (monad a) (at_monad v) (at_monad v') q1 p1 y2) in
         let nv = none_neutral r g w (monad a) (at_monad v) q1 e p1 in
-        to_step_rule (a, h1, h2, y1, typed_neutral r g w h1 (monad a) (at_monad v) (at_monad v') q1 e f.0 p1 k1 y2, m,
-        typed_result x (with_entries a g) (with_shapes v w) (all_held ms h2) (ren_telescope (up (length ms)) t) o q2 (none_entries v w nv e) n f.1 p2 k2
-        (subst (λ y. ExpressionSpends z (with_shapes v w) y (all_held ms h2) x o) (ap (λ y. with_modes y (modes g)) (sym m) ∙ sym (entry_modes a g))
-        (subst (λ y. ExpressionSpends z (with_shapes y w) (with_modes ms (modes g)) (all_held ms h2) x o) (sym l) y3)))
+        to_step_rule (
+          a,
+          h1,
+          h2,
+          y1,
+          typed_neutral r g w h1 (monad a) (at_monad v) (at_monad v') q1 e f.0 p1 k1 y2,
+          m,
+          typed_result x (with_entries a g) (with_shapes v w) (all_held ms h2) (ren_telescope (up (length ms)) t) o q2 (none_entries v w nv e) n f.1 p2 k2
+              (subst (λ y. ExpressionSpends z (with_shapes v w) y (all_held ms h2) x o) (ap (λ y. with_modes y (modes g)) (sym m) ∙ sym (entry_modes a g))
+              (subst (λ y. ExpressionSpends z (with_shapes y w) (with_modes ms (modes g)) (all_held ms h2) x o) (sym l) y3)),
+        )
     typed_result (done x) g w k t o q e n f p h s = typed_tuple x g w k t o q e n f p h s
 
     pub typed_tuple : (n : PlainTuple) (g : Context) (w : List Shape) (k : Holding) (t : PlainTelescope) (o : EntryShapes) (q : List Equation) → EachPassesNone w → PassesNoEntry o → TupleHasNoHole n
@@ -160,7 +181,17 @@ module _ (sig : PlainSignature) (z : Setting) (over : OverSignature sig z) (no_i
     typed_tuple empty g w k t o q e n f p h s = (p.0, s)
     typed_tuple (entry m n x) g w k t o q e n' f p h s = let (a, b, c, d, u, y, q1, q2, i, j, p1, p2, p3, p4) = entry_gathers_parts p in let (d', u', y', h1, h2, j', y1, y2, y3, y4) = entry_spends_parts s in
         let (k1, k2) = hold_parts q q1 q2 p4 h in let no = subst PassesNoEntry j n' in let (l1, l2, l3) = entry_shapes (sym j' ∙ j) in
-        to_tuple_entry_rule (a, b, c, h1, h2, i, y1, y2,
-        ⊎_elim (λ x. absurd (not_both x.0 no.0)) (λ x. ⊎_elim (λ y. absurd (not_both (sym l1 ∙ y) no.0))
-        (λ y. typed_object n g w h1 a u q1 e no.1 f.0 x.1 k1 (subst (λ l. Spends z w (modes g) h1 n l) l2 y.1)) y3) p1,
-        p2, typed_tuple x g w h2 c y q2 e no.2 f.1 p3 k2 (subst (λ l. TupleSpends z w (modes g) h2 x l) l3 y4))
+        to_tuple_entry_rule (
+          a,
+          b,
+          c,
+          h1,
+          h2,
+          i,
+          y1,
+          y2,
+          ⊎_elim (λ x. absurd (not_both x.0 no.0)) (λ x. ⊎_elim (λ y. absurd (not_both (sym l1 ∙ y) no.0))
+              (λ y. typed_object n g w h1 a u q1 e no.1 f.0 x.1 k1 (subst (λ l. Spends z w (modes g) h1 n l) l2 y.1)) y3) p1,
+          p2,
+          typed_tuple x g w h2 c y q2 e no.2 f.1 p3 k2 (subst (λ l. TupleSpends z w (modes g) h2 x l) l3 y4),
+        )

@@ -134,10 +134,13 @@ module _ (z : Setting) (none : NoImplicit z) where
     one_neutral (head_alone x) g w a b o v q y p r = let (e, f) = one_head g w x a b o v p.0 r.0 in (e, f, p.1 ∙ sym r.1)
     one_neutral (app m r n) g w a b o v q y p x = let (d, c, l, u, p1, p2, x1, x2, x3, x4) = application_gathers_parts p in let (d', c', l', u', q1, q2, y1, y2, y3, y4) = application_gathers_parts x in
         let (e, f, j) = one_neutral r g w (function m d c) (function m d' c') (at_function l u o) (at_function l' u' v) p1 q1 x1 y1 in
-        let (i, k) = function_parts e in let (i', k', k2) = shape_parts f in
-        (determined_type x3 (there_type n y3 (sym k)), k2, x4 ∙ appended j (⊎_elim
-        (λ p. ⊎_elim (λ r. p.2 ∙ sym r.2) (λ r. absurd (not_both p.0 (i' ∙ r.0))) y2)
-        (λ p. ⊎_elim (λ r. absurd (not_both r.0 (sym i' ∙ p.0))) (λ r. one_object n g w d u p2 q2 p.1 (moved n q2 r.1 refl refl (sym i) (sym k'))) y2) x2) ∙ sym y4)
+        let (i, k) = function_parts e in let (i', k', k2) = shape_parts f in (
+          determined_type x3 (there_type n y3 (sym k)),
+          k2,
+          x4 ∙ appended j (⊎_elim
+              (λ p. ⊎_elim (λ r. p.2 ∙ sym r.2) (λ r. absurd (not_both p.0 (i' ∙ r.0))) y2)
+              (λ p. ⊎_elim (λ r. absurd (not_both r.0 (sym i' ∙ p.0))) (λ r. one_object n g w d u p2 q2 p.1 (moved n q2 r.1 refl refl (sym i) (sym k'))) y2) x2) ∙ sym y4,
+        )
     one_neutral (fst r) g w a b o v q y p x = let (e, f, j) = one_neutral r g w (both a p.0) (both b x.0) (at_both o p.1) (at_both v x.1) q y p.2 x.2 in ((both_parts e).0, (pair_shapes f).0, j)
     one_neutral (snd r) g w a b o v q y p x = let (e, f, j) = one_neutral r g w (both p.0 a) (both x.0 b) (at_both p.1 o) (at_both x.1 v) q y p.2 x.2 in ((both_parts e).1, (pair_shapes f).1, j)
 

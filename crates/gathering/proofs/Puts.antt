@@ -58,15 +58,20 @@ module _ (z : Setting) (zf : Assignment) (s : Environment) (keeps : TypedEnviron
       → SubstitutedType (single n 0) c t → SubstitutedType (under 1 (S g)) c d → (u : PlainType) × SubstitutedType (single i 0) d u × SubstitutedType (S g) t u
   put_there g n i a p q c t d f x v =
       let (ft, et) = formed_put g n a p c t f x in
-      let (u, e1, e2, e3) = (typed_has_result true z.arguments (Z g) (extended_over g zf) (S g) (keeps_at g)).type t ft in
-      (u, ((put_commutes z.arguments (Z g) (extended_over g zf) 0 a (S g) (under 1 (S g)) (keeps_at g) (goes_at g) n i p q).type c t d u
-      (subst (λ (b : Assignment). SimplyFormed z.arguments b c) (sym (as_inserted a (Z g))) f) x v).0 e1, e1)
+      let (u, e1, e2, e3) = (typed_has_result true z.arguments (Z g) (extended_over g zf) (S g) (keeps_at g)).type t ft in (
+        u,
+        ((put_commutes z.arguments (Z g) (extended_over g zf) 0 a (S g) (under 1 (S g)) (keeps_at g) (goes_at g) n i p q).type c t d u
+            (subst (λ (b : Assignment). SimplyFormed z.arguments b c) (sym (as_inserted a (Z g))) f) x v).0 e1,
+        e1,
+      )
 
   pub put_there_telescope : (g : Context) (n i : PlainObject) (a : SimpleType) → SimplyTyped (Z g) n a → Substituted (S g) n i → (c t d : PlainTelescope) → SimplyFormedTelescope z.arguments (extended a (Z g)) c
       → SubstitutedTelescope (single n 0) c t → SubstitutedTelescope (under 1 (S g)) c d → (u : PlainTelescope) × SubstitutedTelescope (single i 0) d u × SubstitutedTelescope (S g) t u
   put_there_telescope g n i a p q c t d f x v =
       let (ft, et) = formed_put_telescope g n a p c t f x in
-      let (u, e1, e2, e3) = (typed_has_result true z.arguments (Z g) (extended_over g zf) (S g) (keeps_at g)).telescope t ft in
-      (u, ((put_commutes z.arguments (Z g) (extended_over g zf) 0 a (S g) (under 1 (S g)) (keeps_at g) (goes_at g) n i p q).telescope c t d u
-      (subst (λ (b : Assignment). SimplyFormedTelescope z.arguments b c) (sym (as_inserted a (Z g))) f) x v).0 e1, e1)
-
+      let (u, e1, e2, e3) = (typed_has_result true z.arguments (Z g) (extended_over g zf) (S g) (keeps_at g)).telescope t ft in (
+        u,
+        ((put_commutes z.arguments (Z g) (extended_over g zf) 0 a (S g) (under 1 (S g)) (keeps_at g) (goes_at g) n i p q).telescope c t d u
+            (subst (λ (b : Assignment). SimplyFormedTelescope z.arguments b c) (sym (as_inserted a (Z g))) f) x v).0 e1,
+        e1,
+      )

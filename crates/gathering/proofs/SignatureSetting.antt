@@ -83,12 +83,16 @@ setting_of_signature sig metas formed = record {
   no_variables = λ i. refl;
   takes = λ y s keeps types. record {
     constants = λ c a e. well_formed_closed sig a (constants c a e);
-    fixed = λ c a e. record { head = Const c; kept = keeps c; carried = λ b q. subst (λ (x : PlainType). SubstitutedType s a x) (the_type (sym e ∙ q)) (closed_stays sig s (λ d b' p. keeps d) a (constants c a e));
-        closed = well_formed_closed sig a (constants c a e) };
+    fixed = λ c a e. record {
+      head = Const c;
+      kept = keeps c;
+      carried = λ b q. subst (λ (x : PlainType). SubstitutedType s a x) (the_type (sym e ∙ q)) (closed_stays sig s (λ d b' p. keeps d) a (constants c a e));
+      closed = well_formed_closed sig a (constants c a e);
+    };
     formed = λ c a e. record { formed = type_formed sig (setting_of sig metas) has refl a [] (constants c a e); simple = ap (option_map erase) e; closed = well_formed_closed sig a (constants c a e) };
     no_implicit = λ k. refl;
-    typed = types
-  }
+    typed = types;
+  };
 }
   where
     families : (f : ℕ) (k : PlainKind) → family_kind sig f ≡ Some k → WellFormedKind sig [] k

@@ -47,7 +47,6 @@ typed_head sig g h (Meta k) a p = p
 
 module _ (sig : PlainSignature) (z : Setting) (front : Context) (zf : Assignment) (s : Environment)
     (closed : ConstantsAreClosed sig) (fixed : FixedHeads sig z front s) (formed : FormedSetting z) (none : NoImplicit z) (keeps : TypedEnvironment true z.simple zf s) where
-
   abbrev Z : Context → Assignment
   Z g = extended_over g z.simple
 
@@ -74,7 +73,7 @@ module _ (sig : PlainSignature) (z : Setting) (front : Context) (zf : Assignment
     solves_object (lam m b) g h w t u v q k i f p (through_lam {x = x} r) y c d =
         let (a, e, n, a', e', j, l, p') = lambda_gathers_parts p in let (b1, b2, j', y') = lambda_rule_parts y in let (c1, c2) = functions_between c j j' in let d' = subst (λ (y : PlainType). SimplyFormed z.arguments (Z g) y) j d in
         let (r1, r2) = solves_object b ((m, a) ∷ g) ((m, b1) ∷ h) (a' ∷ w) e b2 e' q (true ∷ k) (refl, c1, i) (d'.0, f) p' (subst (λ (u : Environment). Substituted u b x) (under_sum (length g) s) r) y'
-            (subst (λ (u : Environment). SubstitutedType u e b2) (under_sum (length g) s) c2) d'.1 in
+        (subst (λ (u : Environment). SubstitutedType u e b2) (under_sum (length g) s) c2) d'.1 in
         (r1, (erase a, erase e, ap erase j, r2))
     solves_object (pair l r) g h w t u v q k i f p (through_pair {x = x} {y = x'} a b) y c d =
         let (e, e', n, n', q1, q2, j, j', p1, p2, m) = pair_gathers_parts p in let (b1, b2, y0, y1, y2) = pair_rule_parts y in let (c1, c2) = boths_between c j y0 in let d' = subst (λ (y : PlainType). SimplyFormed z.arguments (Z g) y) j d in
@@ -87,10 +86,11 @@ module _ (sig : PlainSignature) (z : Setting) (front : Context) (zf : Assignment
     solves_object (atomic n) g h w t u v q k i f p (through_kept {x = x} r) y c d = ⊎_elim
         (λ p. let (a, ns, os, ts, o, q1, q2, j, p1, e, p2, m) = leaf_gathers_parts p in let (a', ns', os', j', y1, y2) = atomic_rule_parts y in
         let (r1, r2, r3, r4) = solves_neutral n g h w (family a os) o q1 k (family a' os') i f p1 r y1 in
-        let (x1, x2) = families_between r1 refl refl in let (x3, x4) = families_between c j j' in
-        (subst (SolvesEach s) (sym m) (solves_both s q1 q2 r2 (pairs_solved s (simple_locals g) ts os ns os' ns' q2 p2
-        (subst (λ (l : ℕ). SubstitutedEach (under l s) os os') (sym (same_length g)) x1) (subst (λ (l : ℕ). SubstitutedEach (under l s) ns ns') (sym (same_length g)) x3) y2)),
-        subst (λ (b : SimpleType). SimplyTyped (Z g) (atomic n) b) (sym (ap erase j)) (inl (a, refl), r3)))
+        let (x1, x2) = families_between r1 refl refl in let (x3, x4) = families_between c j j' in (
+          subst (SolvesEach s) (sym m) (solves_both s q1 q2 r2 (pairs_solved s (simple_locals g) ts os ns os' ns' q2 p2
+              (subst (λ (l : ℕ). SubstitutedEach (under l s) os os') (sym (same_length g)) x1) (subst (λ (l : ℕ). SubstitutedEach (under l s) ns ns') (sym (same_length g)) x3) y2)),
+          subst (λ (b : SimpleType). SimplyTyped (Z g) (atomic n) b) (sym (ap erase j)) (inl (a, refl), r3),
+        ))
         (λ p. let p = filled z none p in (subst (SolvesEach s) (sym p.equations) tt, p.typed)) p
     solves_object (atomic n) g h w t u v q k i f p (through_value r) y c d = ⊎_elim
         (λ p. let (a, ns, os, ts, o, q1, q2, j, p1, e, p2, m) = leaf_gathers_parts p in absurd (no_value n g h w (family a os) o q1 i p1 r))
@@ -109,9 +109,12 @@ module _ (sig : PlainSignature) (z : Setting) (front : Context) (zf : Assignment
         let (r1, r2, r3, r4) = solves_neutral r g h w (function m d c) (at_function l u o) q1 h1 (function m d' c') i f p1 e t1 in
         let (x1, x2) = functions_between r1 refl refl in
         let (r5, r6) = argument n g w d l u q2 (λ p'. solves_object n g h w d d' u q2 h2 i f p' e' t3 x1 r4.0) p2 in
-        let (f1, f2) = formed_put z zf s keeps g n (erase d) r6 c a r4.1 p3 in
-        (put_after z zf s keeps g n y (erase d) r6 e' c a c' b r4.1 p3 x2 t4, subst (SolvesEach s) (sym p4) (solves_both s q1 q2 r2 r5),
-        (erase d, subst (λ (v : SimpleType). SimplyTypedNeutral (Z g) r (arrow m (erase d) v)) (sym f2) r3, r6), f1)
+        let (f1, f2) = formed_put z zf s keeps g n (erase d) r6 c a r4.1 p3 in (
+          put_after z zf s keeps g n y (erase d) r6 e' c a c' b r4.1 p3 x2 t4,
+          subst (SolvesEach s) (sym p4) (solves_both s q1 q2 r2 r5),
+          (erase d, subst (λ (v : SimpleType). SimplyTypedNeutral (Z g) r (arrow m (erase d) v)) (sym f2) r3, r6),
+          f1,
+        )
     solves_neutral (fst r) g h w a o q k b i f p (kept_fst e) t =
         let (r1, r2, r3, r4) = solves_neutral r g h w (both a p.0) (at_both o p.1) q k (both b t.0) i f p.2 e t.1 in ((boths_between r1 refl refl).0, r2, (erase p.0, r3), r4.0)
     solves_neutral (snd r) g h w a o q k b i f p (kept_snd e) t =
@@ -126,13 +129,19 @@ module _ (sig : PlainSignature) (z : Setting) (front : Context) (zf : Assignment
         let m = monads_between r1 refl refl in
         let deeper = ap (λ (l : List Mode). under (length l) (S g)) (sym p2) ∙ under_entries a' g s in
         let (r5, r6) = solves_result e (with_entries a' g) (with_entries b' h) (with_shapes n w) (ren_telescope (up (length ms)) t) (ren_telescope (up (length ms)) u) v q2 (all_held ms h2)
-            (instance_entries s front m g h refl i) (formed_entries z.arguments z.simple a' g r4 f) p3
-            (subst (λ (l : Environment). SubstitutedExpression l e x') deeper b) y3
-            (subst (λ (l : Environment). SubstitutedTelescope l (ren_telescope (up (length ms)) t) (ren_telescope (up (length ms)) u)) deeper (past_telescope (length ms) (S g) c))
-            (formed_past z g a' t ms p2 d) in
-        (subst (SolvesEach s) (sym p4) (solves_both s q1 q2 r2 r5),
-        (erase_telescope a', r3, erased_modes a' ∙ p2, subst (λ (l : SimpleTelescope). SimplyTypedExpression (extended_by (erase_telescope a') (Z g)) e l) (erase_renamed_telescope (up (length ms)) t)
-        (subst (λ (l : Assignment). SimplyTypedExpression l e (erase_telescope (ren_telescope (up (length ms)) t))) (entered z.simple a' g) r6)))
+        (instance_entries s front m g h refl i) (formed_entries z.arguments z.simple a' g r4 f) p3
+        (subst (λ (l : Environment). SubstitutedExpression l e x') deeper b) y3
+        (subst (λ (l : Environment). SubstitutedTelescope l (ren_telescope (up (length ms)) t) (ren_telescope (up (length ms)) u)) deeper (past_telescope (length ms) (S g) c))
+        (formed_past z g a' t ms p2 d) in (
+          subst (SolvesEach s) (sym p4) (solves_both s q1 q2 r2 r5),
+          (
+            erase_telescope a',
+            r3,
+            erased_modes a' ∙ p2,
+            subst (λ (l : SimpleTelescope). SimplyTypedExpression (extended_by (erase_telescope a') (Z g)) e l) (erase_renamed_telescope (up (length ms)) t)
+                (subst (λ (l : Assignment). SimplyTypedExpression l e (erase_telescope (ren_telescope (up (length ms)) t))) (entered z.simple a' g) r6),
+          ),
+        )
     solves_result (step ms r e) g h w t u v q k i f p (step_value a b l) y c d =
         let (a', n, q1, q2, p1, p2, p3, p4) = step_gathers_parts p in absurd (no_value r g h w (monad a') (at_monad n) q1 i p1 a)
     solves_result (step ms r e) g h w t u v q k i f p (step_meta a b l) y c d =
@@ -148,6 +157,7 @@ module _ (sig : PlainSignature) (z : Setting) (front : Context) (zf : Assignment
         let (x1, x2) = bindings_between c j y0 in let d1 = subst (λ (y : PlainTelescope). SimplyFormedTelescope z.arguments (Z g) y) j d in
         let (r1, r2) = argument n g w a l o q1 (λ p'. solves_object n g h w a a' o q1 h1 i f p' r y3 x1 d1.0) p1 in
         let (f1, f2) = formed_put_telescope z zf s keeps g n (erase a) r2 b b' d1.1 p2 in
-        let (r3, r4) = solves_tuple e g h w b' d' n' q2 h2 i f p3 r' y5 (put_after_telescope z zf s keeps g n x (erase a) r2 r b b' c' d' d1.1 p2 x2 y4) f1 in
-        (subst (SolvesEach s) (sym p4) (solves_both s q1 q2 r1 r3),
-        (erase a, erase_telescope b, ap erase_telescope j, r2, subst (λ (l : SimpleTelescope). SimplyTypedTuple (Z g) e l) f2 r4))
+        let (r3, r4) = solves_tuple e g h w b' d' n' q2 h2 i f p3 r' y5 (put_after_telescope z zf s keeps g n x (erase a) r2 r b b' c' d' d1.1 p2 x2 y4) f1 in (
+          subst (SolvesEach s) (sym p4) (solves_both s q1 q2 r1 r3),
+          (erase a, erase_telescope b, ap erase_telescope j, r2, subst (λ (l : SimpleTelescope). SimplyTypedTuple (Z g) e l) f2 r4),
+        )

@@ -71,17 +71,31 @@ module _ (sig : PlainSignature) (z : Setting) (none : NoImplicit z) where
       pub spends_neutral : (n : PlainNeutral) (g h : Context) (w : List Shape) (k : Holding) (a b : PlainType) (o : Shape) (q : List Equation) {v : Environment} {x : PlainNeutral} → v ≡ under (length g) s → NeutralGathers z g w n a o q → KeepsHead v n x → Synthesizes sig h k x b → NeutralSpends z w (modes h) k n o
       spends_neutral (head_alone x) g h w k a b o q e p (kept_bare {j = j} f) y = head_spends g h w k x a b o p.0 (subst (λ (l : Head). HeadHasType sig h k l b) (kept_head (ap (λ (v : Environment). v x) e ∙ within g w x a o p.0) f) y)
       spends_neutral (app m r n) g h w k a b o q e p (kept_app r1 r2) y = let (c, d, l, i, q1, q2, p1, p2, p3, p4) = application_gathers_parts p in let (c', d', h1, h2, y0, y1, y2, y3, y4) = application_rule_parts y in
-          to_application_spends (l, i, h1, h2, y0, spends_neutral r g h w h1 (function m c d) (function m c' d') (at_function l i o) q1 e p1 r1 y1, y2,
-          ⊎_elim (λ x. inl x.0) (λ x. inr (x.0, spends_object n g h w h2 c c' i q2 e x.1 r2 y3)) p2)
+          to_application_spends (
+            l,
+            i,
+            h1,
+            h2,
+            y0,
+            spends_neutral r g h w h1 (function m c d) (function m c' d') (at_function l i o) q1 e p1 r1 y1,
+            y2,
+            ⊎_elim (λ x. inl x.0) (λ x. inr (x.0, spends_object n g h w h2 c c' i q2 e x.1 r2 y3)) p2,
+          )
       spends_neutral (fst r) g h w k a b o q e p (kept_fst r1) y = (p.1, spends_neutral r g h w k (both a p.0) (both b y.0) (at_both o p.1) q e p.2 r1 y.1)
       spends_neutral (snd r) g h w k a b o q e p (kept_snd r1) y = (p.1, spends_neutral r g h w k (both p.0 a) (both y.0 b) (at_both p.1 o) q e p.2 r1 y.1)
 
       pub spends_result : (n : PlainExpression) (g h : Context) (w : List Shape) (k : Holding) (t u : PlainTelescope) (o : EntryShapes) (q : List Equation) {v : Environment} {x : PlainExpression} → v ≡ under (length g) s → ExpressionGathers z g w n t o q → SubstitutedExpression v n x → ExpressionHasType sig h k x u → ExpressionSpends z w (modes h) k n o
       spends_result (step ms r x) g h w k t u o q {v = v} e p (step_kept r1 r2) y = let (a, i, q1, q2, p1, m, p2, j) = step_gathers_parts p in let (b, h1, h2, y0, y1, y2, y3) = step_rule_parts y in
-          to_step_spends (i, h1, h2, y0, spends_neutral r g h w h1 (monad a) (monad b) (at_monad i) q1 e p1 r1 y1,
-          subst (λ l. ExpressionSpends z (with_shapes i w) l (all_held ms h2) x o) (entry_modes b h ∙ ap (λ l. with_modes l (modes h)) y2)
-          (spends_result x (with_entries a g) (with_entries b h) (with_shapes i w) (all_held ms h2) (ren_telescope (up (length ms)) t) (ren_telescope (up (length ms)) u) o q2
-          (ap (under (length ms)) e ∙ ap (λ (l : List Mode). under (length l) (under (length g) s)) (sym m) ∙ under_entries a g s) p2 r2 y3))
+          to_step_spends (
+            i,
+            h1,
+            h2,
+            y0,
+            spends_neutral r g h w h1 (monad a) (monad b) (at_monad i) q1 e p1 r1 y1,
+            subst (λ l. ExpressionSpends z (with_shapes i w) l (all_held ms h2) x o) (entry_modes b h ∙ ap (λ l. with_modes l (modes h)) y2)
+                (spends_result x (with_entries a g) (with_entries b h) (with_shapes i w) (all_held ms h2) (ren_telescope (up (length ms)) t) (ren_telescope (up (length ms)) u) o q2
+                (ap (under (length ms)) e ∙ ap (λ (l : List Mode). under (length l) (under (length g) s)) (sym m) ∙ under_entries a g s) p2 r2 y3),
+          )
       spends_result (step ms r x) g h w k t u o q e p (step_value r1 r2 r3) y = let (a, i, q1, q2, p1, m, p2, j) = step_gathers_parts p in absurd (no_value r g w (monad a) (at_monad i) q1 e p1 r1)
       spends_result (step ms r x) g h w k t u o q e p (step_meta r1 r2 r3) y = let (a, i, q1, q2, p1, m, p2, j) = step_gathers_parts p in absurd (no_value r g w (monad a) (at_monad i) q1 e p1 r1)
       spends_result (done x) g h w k t u o q e p (through_done r) y = spends_tuple x g h w k t u o q e p r y

@@ -70,4 +70,3 @@ module _ (sig : PlainSignature) (s : Environment) (keeps : KeepsSignature sig s)
 
   pub closed_stays : (a : PlainType) → WellFormedType sig [] a → SubstitutedType s a a
   closed_stays a p = stays_type a [] (sym (under_zero s)) p
-

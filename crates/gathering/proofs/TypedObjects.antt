@@ -145,9 +145,17 @@ module _ (sig : PlainSignature) (z : Setting) (has : HasSignature sig z) where
     pub neutral_conforms : (n : PlainNeutral) (g : Context) (w : List Shape) (h : Holding) (t : PlainType) → AreShapesOf w g → Synthesizes sig g h n t → (o : Shape) × NeutralConforms z w (Z g) n (erase t) o × IsShapeOf o (erase t)
     neutral_conforms (head_alone x) g w h t p r = let (o, i, j, k) = head_conforms g w h p x t r in (o, (i, j), k)
     neutral_conforms (app m r n) g w h t p y = let (a, c, h1, h2, y0, y1, y2, y3, y4) = application_rule_parts y in let (o, x, k) = neutral_conforms r g w h1 (function m a c) p y1 in
-        let (d, u, v, l, k1, k2, k3) = shape_of_function o m (erase a) (erase c) k in let e = put_type y4 in
-        (v, to_application_conforms (erase a, d, u, subst (λ b. NeutralConforms z w (Z g) r (arrow m (erase a) b) (at_function d u v)) (sym e) (subst (λ b. NeutralConforms z w (Z g) r (arrow m (erase a) (erase c)) b) l x),
-        argument_conforms g w n (erase a) d u (object_conforms n g w h2 a (erase a) u p refl k1 y3)), subst (IsShapeOf v) (sym e) k2)
+        let (d, u, v, l, k1, k2, k3) = shape_of_function o m (erase a) (erase c) k in let e = put_type y4 in (
+          v,
+          to_application_conforms (
+            erase a,
+            d,
+            u,
+            subst (λ b. NeutralConforms z w (Z g) r (arrow m (erase a) b) (at_function d u v)) (sym e) (subst (λ b. NeutralConforms z w (Z g) r (arrow m (erase a) (erase c)) b) l x),
+            argument_conforms g w n (erase a) d u (object_conforms n g w h2 a (erase a) u p refl k1 y3),
+          ),
+          subst (IsShapeOf v) (sym e) k2,
+        )
     neutral_conforms (fst r) g w h t p y = let (c, y') = y in let (o, x, k) = neutral_conforms r g w h (both t c) p y' in let (u, v, l, k1, k2) = shape_of_both o (erase t) (erase c) k in
         (u, (erase c, v, subst (λ b. NeutralConforms z w (Z g) r (simple_with (erase t) (erase c)) b) l x), k1)
     neutral_conforms (snd r) g w h t p y = let (c, y') = y in let (o, x, k) = neutral_conforms r g w h (both c t) p y' in let (u, v, l, k1, k2) = shape_of_both o (erase c) (erase t) k in
@@ -155,17 +163,31 @@ module _ (sig : PlainSignature) (z : Setting) (has : HasSignature sig z) where
 
     pub result_conforms : (n : PlainExpression) (g : Context) (w : List Shape) (h : Holding) (t : PlainTelescope) (s : SimpleTelescope) (o : EntryShapes) → AreShapesOf w g → erase_telescope t ≡ s → AreEntriesOf o s → ExpressionHasType sig g h n t → ExpressionConforms z w (Z g) n s o
     result_conforms (step ms r n) g w h t s o p e q y = let (a, h1, h2, y0, y1, m, y2) = step_rule_parts y in let (u, x, k) = neutral_conforms r g w h1 (monad a) p y1 in let (v, l, k') = shape_of_monad u (erase_telescope a) k in
-        to_step_conforms (erase_telescope a, v, subst (λ b. NeutralConforms z w (Z g) r (lax (erase_telescope a)) b) l x, erased_modes a ∙ m,
-        subst (λ (b : Assignment). ExpressionConforms z (with_shapes v w) b n s o) (entered z.simple a g)
-        (result_conforms n (with_entries a g) (with_shapes v w) (all_held ms h2) (ren_telescope (up (length ms)) t) s o (over_shapes v a w g k' p) (erase_renamed_telescope (up (length ms)) t ∙ e) q y2))
+        to_step_conforms (
+          erase_telescope a,
+          v,
+          subst (λ b. NeutralConforms z w (Z g) r (lax (erase_telescope a)) b) l x,
+          erased_modes a ∙ m,
+          subst (λ (b : Assignment). ExpressionConforms z (with_shapes v w) b n s o) (entered z.simple a g)
+              (result_conforms n (with_entries a g) (with_shapes v w) (all_held ms h2) (ren_telescope (up (length ms)) t) s o (over_shapes v a w g k' p) (erase_renamed_telescope (up (length ms)) t ∙ e) q y2),
+        )
     result_conforms (done n) g w h t s o p e q y = tuple_conforms n g w h t s o p e q y
 
     pub tuple_conforms : (n : PlainTuple) (g : Context) (w : List Shape) (h : Holding) (t : PlainTelescope) (s : SimpleTelescope) (o : EntryShapes) → AreShapesOf w g → erase_telescope t ≡ s → AreEntriesOf o s → TupleHasType sig g h n t → TupleConforms z w (Z g) n s o
     tuple_conforms empty g w h t s o p e q y = sym e ∙ ap erase_telescope y.0
     tuple_conforms (entry m n x) g w h t s o p e q y = let (a, b, c, h1, h2, j, y0, y1, y2, y3, y4) = tuple_entry_rule_parts y in let k = sym e ∙ ap erase_telescope j in
         let (d, u, v, l, k1, k2, k3) = shape_of_entry o m (erase a) (erase_telescope b) (subst (AreEntriesOf o) k q) in
-        to_entry_conforms (erase a, erase_telescope b, d, u, v, k, l, argument_conforms g w n (erase a) d u (object_conforms n g w h1 a (erase a) u p refl k1 y2),
-        tuple_conforms x g w h2 c (erase_telescope b) v p (put_telescope y3) k2 y4)
+        to_entry_conforms (
+          erase a,
+          erase_telescope b,
+          d,
+          u,
+          v,
+          k,
+          l,
+          argument_conforms g w n (erase a) d u (object_conforms n g w h1 a (erase a) u p refl k1 y2),
+          tuple_conforms x g w h2 c (erase_telescope b) v p (put_telescope y3) k2 y4,
+        )
 
 pub typed_conforms : TypedConforms
 typed_conforms sig z has g w h n a o p q r = object_conforms sig z has n g w h a (erase a) o p refl q r

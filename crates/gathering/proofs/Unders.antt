@@ -5,6 +5,7 @@ use Rattle.clf_syntax.specs.TypeTree.{PlainTelescope, PlainType}
 use Rattle.hered_subst.proofs.Types.{renamed_telescope, renamed_type}
 use Rattle.hered_subst.specs.Substitution.{Environment, SubstitutedTelescope, SubstitutedType, under}
 use Rattle.subst_laws.proofs.Before.{fits_up}
+
 pub past_type : (n : ℕ) (s : Environment) {a b : PlainType} → SubstitutedType s a b → SubstitutedType (under n s) (ren_type (up n) a) (ren_type (up n) b)
 past_type n s p = renamed_type (up n) (up n) (under n s) (fits_up n s) p
 

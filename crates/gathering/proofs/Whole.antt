@@ -35,9 +35,11 @@ same_modes s (e ∷ g) (d ∷ h) p = conses p.0 (same_modes s g h p.2)
 
 pub typed_instance_gathers : TypedInstanceGathers
 typed_instance_gathers sig z y s t keeps free g h a b i w k n x o p c e =
-    let (q, v) = conforming_gathers z t.formed t.no_implicit free g w n a o i.formed_context i.formed p in
-    (q, (v, subst (λ m. Spends z w m k n o) (same_modes s g h i.context) (spends_object sig z t.no_implicit s [] (keeps_heads sig z s t.no_implicit keeps) n g h w k a b o q refl v c e)),
-    (instance_solves sig z [] y s t g h a b i w k n x o q c e v).0)
+    let (q, v) = conforming_gathers z t.formed t.no_implicit free g w n a o i.formed_context i.formed p in (
+      q,
+      (v, subst (λ m. Spends z w m k n o) (same_modes s g h i.context) (spends_object sig z t.no_implicit s [] (keeps_heads sig z s t.no_implicit keeps) n g h w k a b o q refl v c e)),
+      (instance_solves sig z [] y s t g h a b i w k n x o q c e v).0,
+    )
 
 pub gathering_types : GatheringTypes
 gathering_types sig z over no_implicit fills none g w k n a o q e f l p h = typed_object sig z over no_implicit fills none n g w k a o q e f l p.0 h p.1
