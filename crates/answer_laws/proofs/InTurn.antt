@@ -1,12 +1,12 @@
 -- Rests in turn, and where metavariables came from in turn: several calls of unification one after the other.
-use Rattle.std.specs.Prelude.{ℕ, true, false, ◌≡◌, ◌⊎◌, List, [], ◌∷◌, ◌++◌, length, Some, None, refl}
-use Rattle.std.proofs.Common.{ap, sym, subst, ◌∙◌, inl, inr, ⊎_elim}
+use Rattle.std.specs.Prelude.{ℕ, true, ◌≡◌, ◌⊎◌, List, [], ◌∷◌, ◌++◌, length, refl}
+use Rattle.std.proofs.Common.{sym, subst, ◌∙◌, inl, inr, ⊎_elim}
 use Rattle.clf_syntax.specs.declared.tree.Mode.{Mode}
-use Rattle.clf_syntax.specs.Tree.{PlainObject, lam, pair, atomic, PlainNeutral, head_alone, app, fst, snd}
+use Rattle.clf_syntax.specs.Tree.{PlainObject, lam, pair, atomic, PlainNeutral, app, fst, snd}
 use Rattle.clf_syntax.specs.TypeTree.{SimpleType, base, arrow, simple_with}
 use Rattle.clf_syntax.specs.Simple.{Assignment, no_holes, SimplyTyped, SimplyTypedNeutral}
-use Rattle.hered_subst.specs.Substitution.{Image, keep, put, Environment, under, Substituted, KeepsHead, kept_bare, kept_app, kept_fst, kept_snd}
-use Rattle.hered_subst.specs.TypedEnvironments.{is_metavariable, TypedEnvironment}
+use Rattle.hered_subst.specs.Substitution.{Image, keep, put, Environment, under, Substituted, KeepsHead, kept_app, kept_fst, kept_snd}
+use Rattle.hered_subst.specs.TypedEnvironments.{TypedEnvironment}
 use Rattle.hered_subst.proofs.Bounded.{Kept}
 use Rattle.hered_subst.proofs.Determined.{determined}
 use Rattle.hered_subst.proofs.SimpleTyping.{to_neutral, of_neutral}
@@ -19,18 +19,18 @@ use Rattle.joined_laws.specs.Environments.{JoinedImage}
 use Rattle.joined_laws.proofs.Results.{respects_all}
 use Rattle.store_laws.proofs.Closing.{no_families}
 use Rattle.pattern_laws.specs.Instantiations.{Types, closed, Instantiated}
-use Rattle.pattern_laws.specs.Equations.{Locals, scoped, Equation, TypedEquation, TypedEquations, Listed, listed_here, listed_later}
+use Rattle.pattern_laws.specs.Equations.{Locals, scoped, Equation, TypedEquation, Listed, listed_here, listed_later}
 use Rattle.pattern_laws.specs.Patterns.{arrows, masked}
+use Rattle.pattern_laws.proofs.TypeParts.{from_type}
 use Rattle.pattern_laws.proofs.Spines.{under_instant, body}
 use Rattle.pattern_laws.proofs.Instances.{typed_scoped}
-use Rattle.unify_laws.specs.Parts.{SameShape, PartAt, part_here, part_function, part_fst, part_snd}
-use Rattle.unify_laws.specs.Problems.{Grows, Stays}
-use Rattle.unify_laws.specs.Progress.{CameFrom, Traced}
+use Rattle.unify_laws.specs.Parts.{PartAt, part_here, part_function, part_fst, part_snd}
+use Rattle.unify_laws.specs.Progress.{CameFrom}
 use Rattle.unify_laws.proofs.RigidPlaces.{parts, keeps_head, keeps_others}
 use Rattle.unify_laws.proofs.Steps.{shape_heads}
 use Rattle.answer_laws.specs.Laws.{RestsInTurn, TracedInTurn}
-use Rattle.reach_laws.specs.Rest.{IsAssignment, ComesDown, down_joined, down_listed, down_lam, down_pair, down_neutral, PartOf, part_itself, part_body, part_left, part_right, part_argument, EquationUnder, EachUnder, Rest}
-use Rattle.reach_laws.proofs.PartsUnder.{part_typed, parts_stay, kept_neutral, shape_under, one_shape}
+use Rattle.reach_laws.specs.Rest.{IsAssignment, ComesDown, down_joined, down_listed, down_lam, down_pair, down_neutral, PartOf, part_itself, part_body, part_left, part_right, part_argument, EquationUnder, EachUnder}
+use Rattle.reach_laws.proofs.PartsUnder.{part_typed, parts_stay, kept_neutral, shape_under}
 use Rattle.reach_laws.proofs.Rests.{typed_listed}
 
 -- A part of a part is a part.
@@ -85,9 +85,6 @@ of_kept_fst (kept_fst {r = q} k) = (q, refl, k)
 
 of_kept_snd : {s : Environment} {r x : PlainNeutral} → KeepsHead s r (snd x) → (q : PlainNeutral) × (r ≡ snd q) × KeepsHead s q x
 of_kept_snd (kept_snd {r = q} k) = (q, refl, k)
-
-from_type : {m k : Mode} {d c e f : SimpleType} → arrow m d c ≡ arrow k e f → e ≡ d
-from_type h = cc
 
 both_ends : (g : Assignment) (a b : PlainObject) (c : SimpleType) {r n q k : PlainNeutral} → r ≡ q → n ≡ k → PartAt g a b c q k → PartAt g a b c r n
 both_ends g a b c {r = r} {k = k} e h p = subst (λ z. PartAt g a b c r z) (sym h) (subst (λ z. PartAt g a b c z k) (sym e) p)

@@ -19,6 +19,7 @@ use Rattle.hered_subst.proofs.SimpleTyping.{Typed, rank, typed_lam, renamed_type
 use Rattle.subst_laws.specs.Environments.{Instantiation, instant, image_or}
 use Rattle.eta_laws.specs.Eta.{eta, becoming}
 use Rattle.eta_laws.proofs.EtaLaws.{eta_kept, eta_near, all_same}
+use Rattle.pattern_laws.proofs.TypeParts.{from_type, to_type}
 use Rattle.pattern_laws.proofs.Occurrences.{target}
 use Rattle.pattern_laws.proofs.Typings.{typed_where, blank_absent}
 use Rattle.pattern_laws.specs.Instantiations.{Instantiated}
@@ -111,12 +112,6 @@ of_lams t (q ∷ ps) {b = b} p = let (x, e, d) = of_lams t ps p in let (w, f, c)
 -- a typed lambda's body
 lam_typed : {w : Bool} {g : Assignment} {m : Mode} {b : PlainObject} {t : SimpleType} → Typed w g (lam m b) t → (d c : SimpleType) × (t ≡ arrow m d c) × Typed w (extended d g) b c
 lam_typed (typed_lam {d = d} {c = c} p) = (d, c, refl, p)
-
-from_type : {m k : Mode} {d c e f : SimpleType} → arrow m d c ≡ arrow k e f → e ≡ d
-from_type h = cc
-
-to_type : {m k : Mode} {d c e f : SimpleType} → arrow m d c ≡ arrow k e f → f ≡ c
-to_type h = cc
 
 pub body_typed : {w : Bool} {g : Assignment} {m k : Mode} {b : PlainObject} {d c : SimpleType} → Typed w g (lam m b) (arrow k d c) → Typed w (extended d g) b c
 body_typed {w = w} {g = g} {b = b} {d = d} {c = c} p = let (e, f, h, q) = lam_typed p in subst (λ t. Typed w (extended t g) b c) (from_type h) (subst (λ t. Typed w (extended e g) b t) (to_type h) q)

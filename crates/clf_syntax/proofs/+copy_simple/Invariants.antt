@@ -2,5 +2,5 @@
 use Rattle.std.proofs.Common.{◌≡◌, take}
 use Rattle.clf_syntax.proofs.+copy_simple.Given as goal
 
-abbrev pub invariant-copy_simple_entries-loop-entry : goal.invariant-copy_simple_entries-loop-entry
-invariant-copy_simple_entries-loop-entry l = l.copied ≡ take l.entry-index l.entries
+abbrev pub invariant-simple::copy_simple_entries-loop-entry : goal.invariant-simple::copy_simple_entries-loop-entry
+invariant-simple::copy_simple_entries-loop-entry l = l.copied ≡ take l.entry-index l.entries

@@ -4,7 +4,7 @@ use Rattle.clf_decision.specs.Outcome.{refused}
 use Rattle.clf_kernel.specs.Stops.{Stops}
 use Rattle.clf_kernel.proofs.Stops.{refusal_stops}
 use Rattle.clf_kernel.proofs.Patterns.{pattern_agrees, pattern_differs, pattern_passes, pattern_of_other_width}
-use Rattle.clf_kernel.proofs.trail.same_pattern.Goals as goal
+use Rattle.clf_kernel.proofs.pattern.same_pattern.Goals as goal
 
 pub loop-at-preserved : goal.loop-at-preserved
 loop-at-preserved c = (

@@ -3,7 +3,7 @@ use Rattle.std.proofs.Common.{◌≡◌, ◌≤◌, ◌-◌, drop, length}
 use Rattle.clf_syntax.specs.declared.tree.Tele.{out-Tele}
 use Rattle.clf_decision.specs.Checking.{first_other_mode}
 use Rattle.clf_kernel.proofs.Patterns.{wanted_modes}
-use Rattle.clf_kernel.proofs.trail.same_pattern.Given as goal
+use Rattle.clf_kernel.proofs.pattern.same_pattern.Given as goal
 
 abbrev pub invariant-loop-at : goal.invariant-loop-at
 invariant-loop-at l = (l.at ≤ length l.fn.modes)
