@@ -22,6 +22,7 @@ use Rattle.gathering.proofs.Heads.{filled, next_number, not_implicit, variable_f
 use Rattle.gathering.proofs.Inverted.{same_length}
 use Rattle.gathering.proofs.Parts.{application_gathers_parts, entry_gathers_parts, lambda_gathers_parts, leaf_gathers_parts, monadic_gathers_parts, pair_gathers_parts, step_gathers_parts, to_application_gathers, to_entry_gathers, to_lambda_gathers, to_leaf_gathers, to_monadic_gathers, to_pair_gathers, to_step_gathers}
 use Rattle.gathering.proofs.Puts.{formed_put, formed_put_telescope, keeps_at, put_there, put_there_telescope}
+use Rattle.gathering.proofs.Solving.{head_type}
 use Rattle.gathering.proofs.Spending.{KeepsHeads, keeps_heads, no_value}
 use Rattle.gathering.proofs.Unders.{past_telescope, past_type}
 use Rattle.gathering.specs.Becoming.{BecomeEach, SameHeads}
@@ -29,7 +30,7 @@ use Rattle.gathering.specs.Complete.{ExpressionHasNoHole, HasNoHole, NeutralHasN
 use Rattle.gathering.specs.Gather.{ExpressionGathers, Gathers, HeadGathers, NeutralGathers, TupleGathers}
 use Rattle.gathering.specs.Instances.{FormedSetting, InstanceContext}
 use Rattle.gathering.specs.Laws.{GatheringIsKept}
-use Rattle.gathering.specs.Setting.{NoImplicit, Pairs, Setting, SettingType, simple_locals}
+use Rattle.gathering.specs.Setting.{NoImplicit, Pairs, Setting, simple_locals}
 use Rattle.gathering.specs.Shape.{EntryShapes, Shape, at_both, at_function, at_monad, with_shapes}
 
 keep_not_put : {i : Image} {j : Head} {n : PlainObject} → i ≡ keep j → i ≡ put n → ⊥
@@ -37,11 +38,6 @@ keep_not_put e f = cc
 
 kept_head : {i : Image} {j k : Head} → i ≡ keep j → i ≡ keep k → k ≡ j
 kept_head e f = cc
-
-head_type : (z : Setting) (g : Context) (w : List Shape) (x : Head) (a : PlainType) (o : Shape) → HeadGathers z g w x a o → SettingType z g x a
-head_type z g w (Const c) a o p = p.0
-head_type z g w (Var i) a o p = p.0
-head_type z g w (Meta k) a o p = p.0
 
 no_fill : {d : Bool} → d ≡ false → d ≡ true → ⊥
 no_fill e f = cc
@@ -225,7 +221,7 @@ module _ (z y : Setting) (s : Environment) (same : SameHeads z y s) (formed : Fo
         let (b, q3, r1, r2, r3, r4, r5) = becomes_neutral r g h w (function m d c) (at_function l u o) q1 i f k.0 p1 e in
         let (d', c', j, x1, x2) = of_function r2 in
         let (q4, r6, r7, r8) = argument n x' g h w d d' l u q2 i e' x1 (λ p'. becomes_object n g h w d d' u q2 i f k.1 p' e' x1 r5.0) p2 in
-        let (f1, f2) = formed_put z zf s keeps g n (erase d) r8 c a r5.1 p3 in
+        let (f1, f2) = formed_put z g n (erase d) r8 c a r5.1 p3 in
         let (t, y1, y2) = put_there z zf s keeps g n x' (erase d) r8 e' c a c' r5.1 p3 x2 in (
           t,
           q3 ++ q4,
@@ -280,7 +276,7 @@ module _ (z y : Setting) (s : Environment) (same : SameHeads z y s) (formed : Fo
         let (a, b, b', l, o, n', q1, q2, j, j', p1, p2, p3, p4) = entry_gathers_parts p in let d1 = subst (λ (y : PlainTelescope). SimplyFormedTelescope z.arguments (Z g) y) j d in
         let (a', c', j1, x1, x2) = of_binding (subst (λ (y : PlainTelescope). SubstitutedTelescope (S g) y u) j c) in
         let (q3, r1, r2, r3) = argument n x g h w a a' l o q1 i r x1 (λ p'. becomes_object n g h w a a' o q1 i f k.0 p' r x1 d1.0) p1 in
-        let (f1, f2) = formed_put_telescope z zf s keeps g n (erase a) r3 b b' d1.1 p2 in
+        let (f1, f2) = formed_put_telescope z g n (erase a) r3 b b' d1.1 p2 in
         let (d', y1, y2) = put_there_telescope z zf s keeps g n x (erase a) r3 r b b' c' d1.1 p2 x2 in
         let (q4, r4, r5, r6) = becomes_tuple e g h w b' d' n' q2 i f k.1 p3 r' y2 f1 in (
           q3 ++ q4,

@@ -9,6 +9,7 @@ pub mod OneGathering
 pub mod Judged
 pub mod Spending
 pub mod Conforming
+pub mod GatheredTyped
 pub mod Becoming
 pub mod TypedObjects
 pub mod Stays

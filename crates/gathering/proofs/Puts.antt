@@ -17,6 +17,17 @@ use Rattle.subst_laws.specs.Environments.{GoesOver}
 use Rattle.typing_laws.proofs.FormedTypes.{as_inserted}
 use Rattle.gathering.specs.Setting.{Setting}
 
+module _ (z : Setting) where
+  pub formed_put : (g : Context) (n : PlainObject) (a : SimpleType) → SimplyTyped (extended_over g z.simple) n a → (c t : PlainType) → SimplyFormed z.arguments (extended a (extended_over g z.simple)) c → SubstitutedType (single n 0) c t
+      → SimplyFormed z.arguments (extended_over g z.simple) t × (erase t ≡ erase c)
+  formed_put g n a p c t f x = (result_is_typed true z.arguments (inserted 0 a (extended_over g z.simple)) (extended_over g z.simple) (single n 0) ((put_is_typed true (extended_over g z.simple)).0 0 n a p)).type c t
+      (subst (λ (b : Assignment). SimplyFormed z.arguments b c) (sym (as_inserted a (extended_over g z.simple))) f) x
+
+  pub formed_put_telescope : (g : Context) (n : PlainObject) (a : SimpleType) → SimplyTyped (extended_over g z.simple) n a → (c t : PlainTelescope) → SimplyFormedTelescope z.arguments (extended a (extended_over g z.simple)) c → SubstitutedTelescope (single n 0) c t
+      → SimplyFormedTelescope z.arguments (extended_over g z.simple) t × (erase_telescope t ≡ erase_telescope c)
+  formed_put_telescope g n a p c t f x = (result_is_typed true z.arguments (inserted 0 a (extended_over g z.simple)) (extended_over g z.simple) (single n 0) ((put_is_typed true (extended_over g z.simple)).0 0 n a p)).telescope c t
+      (subst (λ (b : Assignment). SimplyFormedTelescope z.arguments b c) (sym (as_inserted a (extended_over g z.simple))) f) x
+
 module _ (z : Setting) (zf : Assignment) (s : Environment) (keeps : TypedEnvironment true z.simple zf s) where
   abbrev Z : Context → Assignment
   Z g = extended_over g z.simple
@@ -43,21 +54,11 @@ module _ (z : Setting) (zf : Assignment) (s : Environment) (keeps : TypedEnviron
       ((put_commutes z.arguments (Z g) (extended_over g zf) 0 a (S g) (under 1 (S g)) (keeps_at g) (goes_at g) n i p q).telescope c t d u
       (subst (λ (b : Assignment). SimplyFormedTelescope z.arguments b c) (sym (as_inserted a (Z g))) f) x y).1 v
 
-  pub formed_put : (g : Context) (n : PlainObject) (a : SimpleType) → SimplyTyped (Z g) n a → (c t : PlainType) → SimplyFormed z.arguments (extended a (Z g)) c → SubstitutedType (single n 0) c t
-      → SimplyFormed z.arguments (Z g) t × (erase t ≡ erase c)
-  formed_put g n a p c t f x = (result_is_typed true z.arguments (inserted 0 a (Z g)) (Z g) (single n 0) ((put_is_typed true (Z g)).0 0 n a p)).type c t
-      (subst (λ (b : Assignment). SimplyFormed z.arguments b c) (sym (as_inserted a (Z g))) f) x
-
-  pub formed_put_telescope : (g : Context) (n : PlainObject) (a : SimpleType) → SimplyTyped (Z g) n a → (c t : PlainTelescope) → SimplyFormedTelescope z.arguments (extended a (Z g)) c → SubstitutedTelescope (single n 0) c t
-      → SimplyFormedTelescope z.arguments (Z g) t × (erase_telescope t ≡ erase_telescope c)
-  formed_put_telescope g n a p c t f x = (result_is_typed true z.arguments (inserted 0 a (Z g)) (Z g) (single n 0) ((put_is_typed true (Z g)).0 0 n a p)).telescope c t
-      (subst (λ (b : Assignment). SimplyFormedTelescope z.arguments b c) (sym (as_inserted a (Z g))) f) x
-
   -- an argument put, and then the environment
   pub put_there : (g : Context) (n i : PlainObject) (a : SimpleType) → SimplyTyped (Z g) n a → Substituted (S g) n i → (c t d : PlainType) → SimplyFormed z.arguments (extended a (Z g)) c
       → SubstitutedType (single n 0) c t → SubstitutedType (under 1 (S g)) c d → (u : PlainType) × SubstitutedType (single i 0) d u × SubstitutedType (S g) t u
   put_there g n i a p q c t d f x v =
-      let (ft, et) = formed_put g n a p c t f x in
+      let (ft, et) = formed_put z g n a p c t f x in
       let (u, e1, e2, e3) = (typed_has_result true z.arguments (Z g) (extended_over g zf) (S g) (keeps_at g)).type t ft in (
         u,
         ((put_commutes z.arguments (Z g) (extended_over g zf) 0 a (S g) (under 1 (S g)) (keeps_at g) (goes_at g) n i p q).type c t d u
@@ -68,7 +69,7 @@ module _ (z : Setting) (zf : Assignment) (s : Environment) (keeps : TypedEnviron
   pub put_there_telescope : (g : Context) (n i : PlainObject) (a : SimpleType) → SimplyTyped (Z g) n a → Substituted (S g) n i → (c t d : PlainTelescope) → SimplyFormedTelescope z.arguments (extended a (Z g)) c
       → SubstitutedTelescope (single n 0) c t → SubstitutedTelescope (under 1 (S g)) c d → (u : PlainTelescope) × SubstitutedTelescope (single i 0) d u × SubstitutedTelescope (S g) t u
   put_there_telescope g n i a p q c t d f x v =
-      let (ft, et) = formed_put_telescope g n a p c t f x in
+      let (ft, et) = formed_put_telescope z g n a p c t f x in
       let (u, e1, e2, e3) = (typed_has_result true z.arguments (Z g) (extended_over g zf) (S g) (keeps_at g)).telescope t ft in (
         u,
         ((put_commutes z.arguments (Z g) (extended_over g zf) 0 a (S g) (under 1 (S g)) (keeps_at g) (goes_at g) n i p q).telescope c t d u

@@ -35,7 +35,7 @@ keep_not_put e f = cc
 kept_head : {i : Image} {j k : Head} → i ≡ keep j → i ≡ keep k → k ≡ j
 kept_head e f = cc
 
-head_type : (z : Setting) (g : Context) (w : List Shape) (x : Head) (a : PlainType) (o : Shape) → HeadGathers z g w x a o → SettingType z g x a
+pub head_type : (z : Setting) (g : Context) (w : List Shape) (x : Head) (a : PlainType) (o : Shape) → HeadGathers z g w x a o → SettingType z g x a
 head_type z g w (Const c) a o p = p.0
 head_type z g w (Var i) a o p = p.0
 head_type z g w (Meta k) a o p = p.0
@@ -109,7 +109,7 @@ module _ (sig : PlainSignature) (z : Setting) (front : Context) (zf : Assignment
         let (r1, r2, r3, r4) = solves_neutral r g h w (function m d c) (at_function l u o) q1 h1 (function m d' c') i f p1 e t1 in
         let (x1, x2) = functions_between r1 refl refl in
         let (r5, r6) = argument n g w d l u q2 (λ p'. solves_object n g h w d d' u q2 h2 i f p' e' t3 x1 r4.0) p2 in
-        let (f1, f2) = formed_put z zf s keeps g n (erase d) r6 c a r4.1 p3 in (
+        let (f1, f2) = formed_put z g n (erase d) r6 c a r4.1 p3 in (
           put_after z zf s keeps g n y (erase d) r6 e' c a c' b r4.1 p3 x2 t4,
           subst (SolvesEach s) (sym p4) (solves_both s q1 q2 r2 r5),
           (erase d, subst (λ (v : SimpleType). SimplyTypedNeutral (Z g) r (arrow m (erase d) v)) (sym f2) r3, r6),
@@ -156,7 +156,7 @@ module _ (sig : PlainSignature) (z : Setting) (front : Context) (zf : Assignment
         let (a, b, b', l, o, n', q1, q2, j, j', p1, p2, p3, p4) = entry_gathers_parts p in let (a', c', d', h1, h2, y0, y1, y2, y3, y4, y5) = tuple_entry_rule_parts y in
         let (x1, x2) = bindings_between c j y0 in let d1 = subst (λ (y : PlainTelescope). SimplyFormedTelescope z.arguments (Z g) y) j d in
         let (r1, r2) = argument n g w a l o q1 (λ p'. solves_object n g h w a a' o q1 h1 i f p' r y3 x1 d1.0) p1 in
-        let (f1, f2) = formed_put_telescope z zf s keeps g n (erase a) r2 b b' d1.1 p2 in
+        let (f1, f2) = formed_put_telescope z g n (erase a) r2 b b' d1.1 p2 in
         let (r3, r4) = solves_tuple e g h w b' d' n' q2 h2 i f p3 r' y5 (put_after_telescope z zf s keeps g n x (erase a) r2 r b b' c' d' d1.1 p2 x2 y4) f1 in (
           subst (SolvesEach s) (sym p4) (solves_both s q1 q2 r1 r3),
           (erase a, erase_telescope b, ap erase_telescope j, r2, subst (λ (l : SimpleTelescope). SimplyTypedTuple (Z g) e l) f2 r4),

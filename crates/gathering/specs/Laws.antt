@@ -1,5 +1,5 @@
 -- Laws of gathering, as statements; the functions of the crate's `laws` state them.
-use Rattle.std.specs.Prelude.{ℕ, ◌≡◌, Bool, true, false, List, [], ◌∷◌, length, Some, None}
+use Rattle.std.specs.Prelude.{ℕ, ◌≡◌, Bool, true, false, Option, List, [], ◌∷◌, length, Some, None}
 use Rattle.clf_syntax.specs.declared.tree.Head.TheVariants.{Const}
 use Rattle.clf_syntax.specs.Tree.{PlainObject, PlainNeutral}
 use Rattle.clf_syntax.specs.TypeTree.{PlainType, PlainTelescope, PlainKind, SimpleType}
@@ -13,7 +13,7 @@ use Rattle.clf_rules.specs.Typing.{HasType}
 use Rattle.clf_rules.specs.WellFormed.{WellFormedType, WellFormedTelescope, WellFormedKind, WellFormedSignature}
 use Rattle.pattern_laws.specs.Equations.{Equation, SolvesEach}
 use Rattle.gathering.specs.Shape.{Shape, IsShapeOf, AreShapesOf, PassesNone, EachPassesNone}
-use Rattle.gathering.specs.Setting.{Setting, NoImplicit, NoVariables}
+use Rattle.gathering.specs.Setting.{Setting, NoImplicit, NoVariables, EquationsTyped}
 use Rattle.gathering.specs.Gather.{Gathers, NeutralGathers}
 use Rattle.gathering.specs.Spend.{GathersUnder}
 use Rattle.gathering.specs.Conform.{Conforms}
@@ -36,6 +36,12 @@ abbrev pub ConformingGathers : Type 0
 ConformingGathers = (z : Setting) → FormedSetting z → NoImplicit z → NoVariables z → (g : Context) (w : List Shape) (n : PlainObject) (a : PlainType) (o : Shape)
     → SimplyFormedContext z.arguments z.simple g → SimplyFormed z.arguments (extended_over g z.simple) a → Conforms z w (extended_over g z.simple) n (erase a) o
     → (q : List Equation) × Gathers z g w n a o q
+
+-- What is gathered of an object without holes is simply typed, and so is the object: so a unifier may take the equations.
+abbrev pub GatheredIsTyped : Type 0
+GatheredIsTyped = (z : Setting) → FormedSetting z → NoImplicit z → NoVariables z → (g : Context) (w : List Shape) (n : PlainObject) (a : PlainType) (o : Shape) (q : List Equation)
+    → SimplyFormedContext z.arguments z.simple g → SimplyFormed z.arguments (extended_over g z.simple) a → HasNoHole n → Gathers z g w n a o q
+    → EquationsTyped z q × SimplyTyped (extended_over g z.simple) n (erase a)
 
 -- What has a type over a signature conforms to its erasure, whatever is passed over.
 abbrev pub TypedConforms : Type 0
@@ -91,7 +97,7 @@ WellFormedSolves = (sig : PlainSignature) (z : Setting) (front : Context) (y : A
     → (g h : Context) (w : List Shape) (q : List Equation) → InstanceContext s front g h → SimplyFormedContext z.arguments z.simple g → FormedInstanceSolves sig z s g h w q
 
 -- What the setting of a signature is.
-pub record IsSettingOf (sig : PlainSignature) (metas : ℕ → Rattle.std.specs.Prelude.Option SimpleType) : Type 0 where
+pub record IsSettingOf (sig : PlainSignature) (metas : ℕ → Option SimpleType) : Type 0 where
   pub has : HasSignature sig (setting_of sig metas)
   pub formed : FormedSetting (setting_of sig metas)
   pub kinds : FormedKinds sig (setting_of sig metas)
@@ -101,4 +107,4 @@ pub record IsSettingOf (sig : PlainSignature) (metas : ℕ → Rattle.std.specs.
 -- The setting of a well-formed signature meets what the laws of gathering ask, and so does each environment that keeps constants and gives the metavariables
 -- objects of their simple types.
 abbrev pub SettingOfSignature : Type 0
-SettingOfSignature = (sig : PlainSignature) (metas : ℕ → Rattle.std.specs.Prelude.Option SimpleType) → WellFormedSignature sig → IsSettingOf sig metas
+SettingOfSignature = (sig : PlainSignature) (metas : ℕ → Option SimpleType) → WellFormedSignature sig → IsSettingOf sig metas

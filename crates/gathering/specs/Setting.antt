@@ -6,8 +6,8 @@ use Rattle.clf_syntax.specs.declared.tree.Head.TheVariants.{Const, Var, Meta}
 use Rattle.clf_syntax.specs.Tree.{PlainObject}
 use Rattle.clf_syntax.specs.TypeTree.{PlainType, SimpleType}
 use Rattle.clf_syntax.specs.Simple.{erase, Assignment, Families}
-use Rattle.use_contexts.specs.Context.{Context}
-use Rattle.pattern_laws.specs.Equations.{Locals, Equation}
+use Rattle.use_contexts.specs.Context.{Context, HasVariable}
+use Rattle.pattern_laws.specs.Equations.{Locals, Equation, TypedEquations}
 use Rattle.gathering.specs.Shape.{Shape}
 
 pub record Setting : Type 0 where
@@ -45,5 +45,9 @@ NoVariables z = (i : ℕ) → z.simple (Var i) ≡ None
 -- the type of a head, over a setting and a context
 abbrev pub SettingType : Setting → Context → Head → PlainType → Type 0
 SettingType z g (Const c) a = z.given c ≡ Some a
-SettingType z g (Var i) a = Rattle.use_contexts.specs.Context.HasVariable g i a
+SettingType z g (Var i) a = HasVariable g i a
 SettingType z g (Meta k) a = z.implicit k ≡ Some a
+
+-- Both sides of each equation have its simple type, over the heads of the setting.
+abbrev pub EquationsTyped : Setting → List Equation → Type 0
+EquationsTyped z q = TypedEquations (λ c. z.simple (Const c)) (λ m. z.simple (Meta m)) q

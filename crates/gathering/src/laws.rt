@@ -1,11 +1,13 @@
 //! Laws of gathering, stated by functions that do nothing.
-ghost use Rattle.gathering.specs.Laws.{ConformingGathers, GatheringIsKept, GatheringIsOne, GatheringTypes, InstanceSolves, SettingOfSignature, TypedConforms, TypedInstanceGathers, WellFormedSolves};
+ghost use Rattle.gathering.specs.Laws.{ConformingGathers, GatheredIsTyped, GatheringIsKept, GatheringIsOne, GatheringTypes, InstanceSolves, SettingOfSignature, TypedConforms, TypedInstanceGathers, WellFormedSolves};
 
-/// What is gathered is determined, and there is something to gather of what conforms, as all does that has a type.
+/// What is gathered is determined, and there is something to gather of what conforms, as all does that has a
+/// type. The equations are simply typed.
 pub fn gathered()
     ensures one { GatheringIsOne }
     ensures conforming { ConformingGathers }
     ensures typed { TypedConforms }
+    ensures equations { GatheredIsTyped }
 {}
 
 /// An instance with a type gathers, under its holding, and solves what is gathered.
