@@ -1,10 +1,11 @@
 -- What the name of an object means, with how many implicit arguments.
-use Rattle.std.specs.Prelude.{ℕ, ◌+◌, Bool, if◌then◌else◌, List, [], ◌∷◌, map, Option, None, Some, option_map, option_and_then, slice_get}
+use Rattle.std.specs.Prelude.{ℕ, ◌+◌, Bool, true, false, if◌then◌else◌, List, [], ◌∷◌, map, Option, None, Some, option_map, option_and_then, slice_get}
 use Rattle.std.specs.Option.{option_or}
 use Rattle.clf_syntax.specs.declared.tree.Head.{Head}
 use Rattle.clf_syntax.specs.declared.tree.Head.TheVariants.{Const}
 use Rattle.clf_syntax.specs.Word.{same_bytes}
-use Rattle.clf_syntax.specs.TypeTree.{SimpleType}
+use Rattle.clf_syntax.specs.TypeTree.{PlainType, SimpleType}
+use Rattle.clf_syntax.specs.Simple.{erase}
 use Rattle.clf_sig.specs.Entry.{PlainEntry, PlainSignature, entry_at, simple_types}
 use Rattle.celf_sugar.specs.declared.plain.PName.{PName}
 use Rattle.celf_names.specs.Names.{constant_named}
@@ -16,6 +17,17 @@ use Rattle.celf_elaboration.specs.Fillings.{Scoped}
 pub record ImplicitVariable : Type 0 where
   pub name : List ℕ
   pub type : SimpleType
+
+-- an implicit variable with the type that is read for it, in which the indices of its result are new metavariables
+pub record TypedVariable : Type 0 where
+  pub name : List ℕ
+  pub type : PlainType
+
+abbrev pub with_simple_type : TypedVariable → ImplicitVariable
+with_simple_type v = record { name = v.name; type = erase v.type }
+
+abbrev pub types_read : List TypedVariable → List PlainType
+types_read vs = map (λ (v : TypedVariable). v.type) vs
 
 -- a head, its simple type, if that is known, and how many arguments are implicit
 pub record Meaning : Type 0 where

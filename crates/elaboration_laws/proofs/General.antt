@@ -10,7 +10,7 @@ use Rattle.clf_syntax.specs.declared.tree.Head.TheVariants.{Const, Meta, Var}
 use Rattle.hered_subst.proofs.TypedResults.{result_is_typed, typed_has_result}
 use Rattle.hered_subst.proofs.Types.{is_determined}
 use Rattle.hered_subst.specs.Laws.{ResultsAreTyped, keeping}
-use Rattle.hered_subst.specs.Substitution.{keep, objects}
+use Rattle.hered_subst.specs.Substitution.{keep}
 use Rattle.hered_subst.specs.TypedEnvironments.{TypedEnvironment}
 use Rattle.trace_equal.specs.Exchange.{Joined, stop}
 use Rattle.subst_laws.proofs.Environs.{instant_is_environment}
@@ -114,12 +114,12 @@ module _ (arguments : Families) (constants metas : Types) (now : Problem) (s : I
           (y, e, (respects_all arguments g z (instant t) (instant w) (keeps constants metas parameters t inst_t) env_w joined_env).telescope n n x y p (joined_types_laws.telescope.0 n) d ((composition arguments g' g' z (instant s) (instant v) (instant w) env_s env_v composed).telescope n m y p' c e));
       kinds = λ n m x p c d. let p' = larger_trees.kind n n p (unchanged.kind n p) in
           let (y, e, f) = (typed_has_result true arguments g' z (instant v) env_v).kind m ((result_is_typed true arguments g' g' (instant s) env_s).kind n m p' c) in
-          (y, e, (respects_all arguments g z (instant t) (instant w) (keeps constants metas parameters t inst_t) env_w joined_env).kind n n x y p (joined_types_laws.kind.0 n) d ((composition arguments g' g' z (instant s) (instant v) (instant w) env_s env_v composed).kind n m y p' c e))
+          (y, e, (respects_all arguments g z (instant t) (instant w) (keeps constants metas parameters t inst_t) env_w joined_env).kind n n x y p (joined_types_laws.kind.0 n) d ((composition arguments g' g' z (instant s) (instant v) (instant w) env_s env_v composed).kind n m y p' c e));
     }
 
 pub solutions_are_instances : SolutionsAreInstances
 solutions_are_instances arguments constants metas q now s keeps_solutions grows put_in parameters t inst solves =
     let (v, extends, (inst_v, agrees_v, solved)) = keeps_solutions.0 parameters t (inst, (λ m o e. absurd (none_given e)), solves) in
     let (w, turns, typed_w) = instances_of_instances (closed constants now.metas) (closed constants now.metas) (over constants parameters) s v put_in.assigns
-        (typed_v constants now.metas parameters v inst_v) in
+    (typed_v constants now.metas parameters v inst_v) in
     (v, inst_v, same arguments constants metas now s grows put_in parameters t v inst extends inst_v (put_in.instances parameters v inst_v agrees_v) w turns typed_w)

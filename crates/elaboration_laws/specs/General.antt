@@ -1,5 +1,5 @@
 -- What unification finds is most general: each solution is an instance of it.
-use Rattle.std.specs.Prelude.{ℕ, ◌≡◌, true, List, None}
+use Rattle.std.specs.Prelude.{List, None}
 use Rattle.clf_syntax.specs.Tree.{PlainObject}
 use Rattle.clf_syntax.specs.TypeTree.{PlainType, PlainTelescope, PlainKind, SimpleType}
 use Rattle.clf_syntax.specs.Simple.{Families, SimplyTyped, SimplyFormed, SimplyFormedTelescope, SimplyFormedKind}

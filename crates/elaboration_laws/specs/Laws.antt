@@ -1,5 +1,5 @@
 -- Laws of elaborations, as statements; the functions of the crate's `laws` state them.
-use Rattle.std.specs.Prelude.{ℕ, ◌≡◌, List, []}
+use Rattle.std.specs.Prelude.{List, []}
 use Rattle.clf_syntax.specs.TypeTree.{PlainType}
 use Rattle.clf_syntax.specs.Simple.{SimplyFormed}
 use Rattle.use_contexts.specs.Context.{Context}
@@ -10,7 +10,7 @@ use Rattle.clf_sig.specs.Entry.{PlainSignature}
 use Rattle.clf_rules.specs.WellFormed.{WellFormedType, WellFormedSignature}
 use Rattle.typing_laws.specs.SimpleTyping.{families_of}
 use Rattle.pattern_laws.specs.Instantiations.{Types, closed, Instantiates}
-use Rattle.pattern_laws.specs.Equations.{Equation, SolvesEach}
+use Rattle.pattern_laws.specs.Equations.{Equation, SolvesEach, TypedEquations}
 use Rattle.unify_laws.specs.Problems.{Problem, KeepsSolutions, Grows}
 use Rattle.reach_laws.specs.Unified.{IsPutIn}
 use Rattle.gathering.specs.Items.{TypeGathers}
@@ -18,12 +18,17 @@ use Rattle.elaboration_laws.specs.ItemSetting.{item_constants, item_setting, Rea
 use Rattle.elaboration_laws.specs.InFront.{ElaboratesType}
 use Rattle.elaboration_laws.specs.General.{fresh_problem}
 
--- A well-formed elaboration solves what is gathered of the tree, and the tree is simply formed.
+-- The tree of a declared type with what is gathered of it: it conforms to simple types, and so the equations have them. (What does not conform is refused before.)
+pub record IsGathered (sig : PlainSignature) (xs : List PlainType) (metas : Types) (tree : PlainType) (q : List Equation) : Type 0 where
+  pub read : ReadTypes sig xs metas
+  pub formed : SimplyFormed (families_of sig) (closed (item_constants sig xs) metas) tree
+  pub typed : TypedEquations (item_constants sig xs) metas q
+  pub gathers : TypeGathers sig (item_setting sig xs metas) [] [] tree q
+
+-- A well-formed elaboration solves what is gathered of the tree.
 abbrev pub WellFormedElaborationSolves : Type 0
-WellFormedElaborationSolves = (sig : PlainSignature) (xs : List PlainType) (metas : Types) → WellFormedSignature sig → ReadTypes sig xs metas
-    → (tree : PlainType) (q : List Equation) → TypeGathers sig (item_setting sig xs metas) [] [] tree q
-    → (front : Context) (b : PlainType) (elaboration : ElaboratesType sig xs metas tree front b) → WellFormedType sig front b
-    → SolvesEach (instant elaboration.fills) q × SimplyFormed (families_of sig) (closed (item_constants sig xs) metas) tree
+WellFormedElaborationSolves = (sig : PlainSignature) (xs : List PlainType) (metas : Types) (tree : PlainType) (q : List Equation) → WellFormedSignature sig → IsGathered sig xs metas tree q
+    → (front : Context) (b : PlainType) (elaboration : ElaboratesType sig xs metas tree front b) → WellFormedType sig front b → SolvesEach (instant elaboration.fills) q
 
 -- An elaboration is an instance of a core: other objects, filled in for the core's metavariables over the same parameters, give a type that is joined with it when
 -- the same variables are put in front.
@@ -38,8 +43,7 @@ pub record IsInstanceOf (sig : PlainSignature) (xs : List PlainType) (metas para
 
 -- Each well-formed elaboration of a declared type is an instance of the core, which is the tree with all solutions put in that unification found for its equations.
 abbrev pub ElaborationsAreInstances : Type 0
-ElaborationsAreInstances = (sig : PlainSignature) (xs : List PlainType) (metas : Types) → WellFormedSignature sig → ReadTypes sig xs metas
-    → (tree core : PlainType) (q : List Equation) → TypeGathers sig (item_setting sig xs metas) [] [] tree q
+ElaborationsAreInstances = (sig : PlainSignature) (xs : List PlainType) (metas : Types) (tree core : PlainType) (q : List Equation) → WellFormedSignature sig → IsGathered sig xs metas tree q
     → (now : Problem) (s : Instantiation) → KeepsSolutions (item_constants sig xs) (fresh_problem metas q) now → Grows metas now.metas
     → IsPutIn (item_constants sig xs) now.metas now.given s → SubstitutedType (instant s) tree core
     → (front : Context) (b : PlainType) (elaboration : ElaboratesType sig xs metas tree front b) → WellFormedType sig front b

@@ -113,7 +113,7 @@ module _ (z : Setting) where
     conforms_typed_tuple (entry m n e) w b t o p = let (a, c, d, u, x, i, j, y, v) = entry_conforms_parts p in (a, c, i, ⊎_elim (λ p. p.1) (λ p. conforms_typed n w b a u p.1) y, conforms_typed_tuple e w b c x v)
 
 -- a variable with a simple type stands in the context
-variable_there : (z : Setting) → NoVariables z → (g : Context) (i : ℕ) (t : SimpleType) → extended_over g z.simple (Var i) ≡ Some t → (a : PlainType) × HasVariable g i a × (erase a ≡ t)
+pub variable_there : (z : Setting) → NoVariables z → (g : Context) (i : ℕ) (t : SimpleType) → extended_over g z.simple (Var i) ≡ Some t → (a : PlainType) × HasVariable g i a × (erase a ≡ t)
 variable_there z n [] i t e = absurd (no_value (z.simple (Var i)) (n i) e)
 variable_there z n (e ∷ g) zero t p = (ren_type (up 1) e.1, (e.0, e.1, refl, refl), erase_renamed (up 1) e.1 ∙ the_value p)
 variable_there z n (e ∷ g) (suc i) t p = let (a, (m, b, k, j), l) = variable_there z n g i t p in (ren_type (up (suc i + 1)) b, (m, b, k, refl), erase_renamed (up (suc i + 1)) b ∙ sym (ap erase j ∙ erase_renamed (up (i + 1)) b) ∙ l)

@@ -14,8 +14,6 @@ use Rattle.clf_sig.specs.Entry.{PlainSignature, constant_type, family_kind}
 use Rattle.hered_subst.proofs.SimpleTyping.{under_zero}
 use Rattle.hered_subst.specs.Substitution.{Environment, SubstitutedKind, SubstitutedType, in_argument, in_no_argument, under}
 use Rattle.subst_laws.proofs.Environs.{under_sum}
-use Rattle.pattern_laws.proofs.Occurrences.{fixed}
-use Rattle.pattern_laws.specs.Instantiations.{closed}
 use Rattle.clf_rules.proofs.Signatures.{entries_well_formed}
 use Rattle.clf_rules.specs.WellFormed.{WellFormedKind, WellFormedType}
 use Rattle.typing_laws.proofs.Erased.{of_constant}
@@ -43,7 +41,7 @@ larger sig z has (x ∷ g) (Var (suc i)) t e = larger sig z has g (Var i) t e
 larger sig z has (x ∷ g) (Meta m) t e = larger sig z has g (Meta m) t e
 
 module _ (sig : PlainSignature) (z : Setting) (has : HasSignature sig z) (families : z.arguments ≡ families_of sig) where
-  type_formed : (a : PlainType) (g : Context) → WellFormedType sig g a → SimplyFormed z.arguments (extended_over g z.simple) a
+  pub type_formed : (a : PlainType) (g : Context) → WellFormedType sig g a → SimplyFormed z.arguments (extended_over g z.simple) a
   type_formed a g p = subst (λ x. SimplyFormed x (extended_over g z.simple) a) (sym families) (subst (λ x. SimplyFormed (families_of sig) (extended_over g z.simple) x) (identity_type a)
       (renamed (families_of sig) (simple_of sig g) (extended_over g z.simple) (λ i. i) (larger sig z has g) a ((well_formed_is_simply_formed sig g).types true a p)))
 
@@ -51,7 +49,7 @@ module _ (sig : PlainSignature) (z : Setting) (has : HasSignature sig z) (famili
   kind_formed [] g p = tt
   kind_formed (a ∷ k) g p = (type_formed a g p.0, kind_formed k ((Persistent, a) ∷ g) p.1)
 
-kind_stays : (sig : PlainSignature) (s : Environment) → KeepsSignature sig s → (k : PlainKind) (g : Context) {v : Environment} → v ≡ under (length g) s → WellFormedKind sig g k → SubstitutedKind v k k
+pub kind_stays : (sig : PlainSignature) (s : Environment) → KeepsSignature sig s → (k : PlainKind) (g : Context) {v : Environment} → v ≡ under (length g) s → WellFormedKind sig g k → SubstitutedKind v k k
 kind_stays sig s keeps [] g e p = in_no_argument
 kind_stays sig s keeps (a ∷ k) g e p = in_argument (stays_type sig s keeps a g e p.0) (kind_stays sig s keeps k ((Persistent, a) ∷ g) (ap (under 1) e ∙ under_sum (length g) s) p.1)
 
@@ -63,7 +61,7 @@ over_has : (sig : PlainSignature) (z : Setting) (g : Context) → HasSignature s
 unfolding over_context
 over_has sig z g has = record { given = has.given; simple = λ c a e. of_constant z.simple g c ∙ has.simple c a e; shapes = has.shapes }
 
-formed_over : (sig : PlainSignature) (z : Setting) → HasSignature sig z → z.arguments ≡ families_of sig → (k : PlainKind) → WellFormedKind sig [] k → (g : Context)
+pub formed_over : (sig : PlainSignature) (z : Setting) → HasSignature sig z → z.arguments ≡ families_of sig → (k : PlainKind) → WellFormedKind sig [] k → (g : Context)
     → SimplyFormedKind z.arguments (extended_over g z.simple) k
 unfolding over_context
 formed_over sig z has families k p g = kind_formed sig (over_context z g) (over_has sig z g has) families k [] p

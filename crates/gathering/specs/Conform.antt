@@ -1,6 +1,6 @@
 -- What conforms to a simple type and a shape: gathering without indices. The first place that does not conform is what is wrong with an item
 -- before any equation is looked at.
-use Rattle.std.specs.Prelude.{ℕ, ◌≡◌, ◌⊎◌, Bool, true, false, List, [], ◌∷◌, Some, None}
+use Rattle.std.specs.Prelude.{ℕ, ◌≡◌, ◌⊎◌, Bool, true, false, List, ◌∷◌, Some, None}
 use Rattle.std.specs.List.{slice_get}
 use Rattle.clf_syntax.specs.declared.tree.Mode.{Mode}
 use Rattle.clf_syntax.specs.declared.tree.Head.{Head}

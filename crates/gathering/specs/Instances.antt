@@ -1,6 +1,5 @@
 -- Instances: contexts under an environment, and heads that an environment keeps.
-use Rattle.std.specs.Prelude.{ℕ, ◌≡◌, Bool, true, false, List, [], ◌∷◌, length, map, Option, Some, None, option_map}
-use Rattle.clf_syntax.specs.declared.tree.Mode.{Mode}
+use Rattle.std.specs.Prelude.{ℕ, ◌≡◌, true, false, [], ◌∷◌, length, map, Option, Some, None, option_map}
 use Rattle.clf_syntax.specs.declared.tree.Head.{Head}
 use Rattle.clf_syntax.specs.declared.tree.Head.TheVariants.{Const, Var, Meta}
 use Rattle.clf_syntax.specs.TypeTree.{PlainType, PlainKind, SimpleType}

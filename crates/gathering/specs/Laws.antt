@@ -1,5 +1,5 @@
 -- Laws of gathering, as statements; the functions of the crate's `laws` state them.
-use Rattle.std.specs.Prelude.{ℕ, ◌≡◌, Bool, true, false, Option, List, [], ◌∷◌, length, Some, None}
+use Rattle.std.specs.Prelude.{ℕ, ◌≡◌, true, false, Option, List, [], length}
 use Rattle.clf_syntax.specs.declared.tree.Head.TheVariants.{Const}
 use Rattle.clf_syntax.specs.Tree.{PlainObject, PlainNeutral}
 use Rattle.clf_syntax.specs.TypeTree.{PlainType, PlainTelescope, PlainKind, SimpleType}
