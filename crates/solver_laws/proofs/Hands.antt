@@ -23,7 +23,7 @@ use Rattle.reach_laws.proofs.Rests.{typed_listed, typed_under, part_solved, each
 use Rattle.answer_laws.proofs.InTurn.{part_of_part}
 use Rattle.solver_laws.specs.Solving.{Solving, InHand, unsolved_types}
 use Rattle.solver_laws.proofs.Grown.{part_grown}
-use Rattle.solver_laws.proofs.Open.{open_typed, open_silent, put_is_open}
+use Rattle.solver_laws.proofs.Open.{open_typed, open_silent, equation_open}
 
 first_false : (a b : Bool) → a || b ≡ false → a ≡ false
 first_false true b e = absurd (cc)
@@ -55,16 +55,6 @@ module _ (constants : Types) (start now : Problem) (s : Instantiation) (solving 
   pub given_typed : TypedEquations constants now.metas start.equations
   given_typed = subst (TypedEquations constants now.metas) solving.progress.same solving.progress.typed.0
 
-  -- an equation with all solutions put in
-  pub put_equation_is_open : (e d : Equation) → TypedEquation constants now.metas e → EquationUnder s e d → TypedEquation constants (unsolved_types now.metas now.given) d
-  put_equation_is_open e d p u = (at d.left (side e.left d.left p.0 u.left), at d.right (side e.right d.right p.1 u.right))
-    where
-      side : (x y : PlainObject) → SimplyTyped (scoped e.locals (closed constants now.metas)) x e.type → Instantiated (length e.locals) s x y → SimplyTyped (scoped e.locals (closed constants (unsolved_types now.metas now.given))) y e.type
-      side x y p i = put_is_open constants now.metas now.given s solving.put_in.put_in solving_gives e.locals x y e.type p i
-
-      at : (y : PlainObject) → SimplyTyped (scoped e.locals (closed constants (unsolved_types now.metas now.given))) y e.type → SimplyTyped (scoped d.locals (closed constants (unsolved_types now.metas now.given))) y d.type
-      at y q = subst (λ ls. SimplyTyped (scoped ls (closed constants (unsolved_types now.metas now.given))) y d.type) (sym u.locals) (subst (λ a. SimplyTyped (scoped e.locals (closed constants (unsolved_types now.metas now.given))) y a) (sym u.type) q)
-
   after_typed : (e : Equation) (h : InHand constants start now s e) → TypedEquation constants now.metas h.after
   after_typed e h = (typed_under constants now.metas s solving.put_in.assigns (h.equation ∷ []) (h.after ∷ []) (typed_listed constants now.metas h.equation start.equations h.listed given_typed, tt) (h.is_under, tt)).0
 
@@ -75,7 +65,7 @@ module _ (constants : Types) (start now : Problem) (s : Instantiation) (solving 
   hand_silent e h k o f = part_silent h.is_part k (open_silent constants now.metas now.given h.after.locals h.after.left h.after.type after_open.0 k o f) (open_silent constants now.metas now.given h.after.locals h.after.right h.after.type after_open.1 k o f)
     where
       after_open : TypedEquation constants (unsolved_types now.metas now.given) h.after
-      after_open = put_equation_is_open h.equation h.after (typed_listed constants now.metas h.equation start.equations h.listed given_typed) h.is_under
+      after_open = equation_open constants now.metas now.given s solving.put_in.put_in solving_gives h.equation h.after (typed_listed constants now.metas h.equation start.equations h.listed given_typed) h.is_under
 
   pub hand_open : (e : Equation) → InHand constants start now s e → TypedEquation constants (unsolved_types now.metas now.given) e
   hand_open e h = (open_typed constants now.metas now.given e.locals e.left e.type (hand_typed e h).0 (λ k o f. (hand_silent e h k o f).0), open_typed constants now.metas now.given e.locals e.right e.type (hand_typed e h).1 (λ k o f. (hand_silent e h k o f).1))

@@ -6,3 +6,4 @@ pub mod Mentioning
 pub mod StepFacts
 pub mod Taking
 pub mod Stores
+pub mod Allowed

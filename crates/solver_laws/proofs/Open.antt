@@ -19,9 +19,10 @@ use Rattle.store_laws.specs.PutIn.{PutIn}
 use Rattle.store_laws.proofs.Mentioned.{mentioned, typed_where, Ordinary, Where}
 use Rattle.store_laws.proofs.Closing.{no_families, Gives}
 use Rattle.pattern_laws.specs.Instantiations.{Types, closed, Instantiated}
-use Rattle.pattern_laws.specs.Equations.{Locals, scoped}
+use Rattle.pattern_laws.specs.Equations.{Locals, scoped, Equation, TypedEquation}
 use Rattle.pattern_laws.proofs.Instances.{typed_scoped, scoped_meta}
 use Rattle.unify_laws.specs.Problems.{Grows}
+use Rattle.reach_laws.specs.Rest.{EquationUnder}
 use Rattle.solver_laws.specs.Solving.{unsolved_types, without_solution}
 use Rattle.solver_laws.proofs.Grown.{cases_of, some_none, simply_more, more_scoped}
 
@@ -96,6 +97,13 @@ module _ (constants metas : Types) (given : Instantiation) where
     pub put_is_open : (ls : Locals) (x y : PlainObject) (a : SimpleType) → SimplyTyped (scoped ls (closed constants metas)) x a → Instantiated (length ls) s x y → SimplyTyped (scoped ls (closed constants (unsolved_types metas given))) y a
     put_is_open ls x y a p i = (result_is_typed true no_families (scoped ls (closed constants metas)) (scoped ls (closed constants (unsolved_types metas given))) (under (length ls) (instant s))
         (typed_scoped (closed constants metas) (closed constants (unsolved_types metas given)) s ((instant_is_environment (closed constants metas)).0 (closed constants (unsolved_types metas given)) s puts_open) ls)).object x y a p i
+
+    -- an equation with all solutions put in
+    pub equation_open : (e d : Equation) → TypedEquation constants metas e → EquationUnder s e d → TypedEquation constants (unsolved_types metas given) d
+    equation_open e d p u = (at d.left (put_is_open e.locals e.left d.left e.type p.0 u.left), at d.right (put_is_open e.locals e.right d.right e.type p.1 u.right))
+      where
+        at : (y : PlainObject) → SimplyTyped (scoped e.locals (closed constants (unsolved_types metas given))) y e.type → SimplyTyped (scoped d.locals (closed constants (unsolved_types metas given))) y d.type
+        at y q = subst (λ ls. SimplyTyped (scoped ls (closed constants (unsolved_types metas given))) y d.type) (sym u.locals) (subst (λ a. SimplyTyped (scoped e.locals (closed constants (unsolved_types metas given))) y a) (sym u.type) q)
 
     -- To put all solutions in twice is to do it once.
     pub put_in_twice : ComposedInstantiation (closed constants metas) s s s

@@ -7,21 +7,24 @@ use Rattle.clf_syntax.specs.TypeTree.{SimpleType}
 use Rattle.clf_syntax.specs.Simple.{SimplyTyped}
 use Rattle.subst_laws.specs.Environments.{Instantiation}
 use Rattle.store_laws.specs.Mentions.{mentions, mentions_neutral}
+use Rattle.store_laws.proofs.Numbers.{number_cases, set_there}
+use Rattle.store_laws.proofs.Closing.{Gives}
 use Rattle.pattern_laws.specs.Instantiations.{Types, closed, set}
 use Rattle.pattern_laws.specs.Equations.{scoped, Equation, TypedEquation}
-use Rattle.pattern_laws.specs.Patterns.{Place, on, lams, arrows, masked, inverted, LacksMisfits}
+use Rattle.pattern_laws.specs.Patterns.{IsFinal, Place, on, lams, arrows, masked, inverted, LacksMisfits}
 use Rattle.pattern_laws.proofs.Instances.{scoped_meta}
 use Rattle.inversion_laws.proofs.Cores.{inverted_typed, within}
 use Rattle.unify_laws.specs.Problems.{Problem, KeepsSolutions, WellTyped, Consequence}
 use Rattle.unify_laws.specs.Narrowing.{narrowed_by}
 use Rattle.unify_laws.proofs.Assign.{assign_step}
 use Rattle.unify_laws.proofs.Consequences.{of_flipped}
+use Rattle.unify_laws.proofs.Preserved.{narrowed_typed}
 use Rattle.unify_laws.proofs.PruneStep.{prune_step, same_step}
 use Rattle.solver_laws.specs.Solving.{unsolved_types}
 use Rattle.solver_laws.specs.Steps.{flipped, Assigns, Prunes, Aligns, Narrows, AssignsEither, NarrowsEither}
-use Rattle.solver_laws.proofs.Grown.{simply_more, more_scoped}
+use Rattle.solver_laws.proofs.Grown.{some_none, simply_more, more_scoped}
 use Rattle.solver_laws.proofs.Open.{open_typed, open_silent, open_unsolved, unsolved_grows}
-use Rattle.solver_laws.proofs.Mentioning.{mentions_on, mentions_inverted, stands_mentions}
+use Rattle.solver_laws.proofs.Mentioning.{narrowed_silent, mentions_on, mentions_inverted, stands_mentions}
 
 module _ (constants metas : Types) (given : Instantiation) where
   -- typed by all metavariables
@@ -79,3 +82,10 @@ module _ (constants metas : Types) (given : Instantiation) where
             (subst (λ x. Consequence constants (record { metas = metas; given = given; equations = es }) (record { locals = e.locals; left = x; right = atomic p.other; type = e.type })) p.is_left
             (subst (λ x. Consequence constants (record { metas = metas; given = given; equations = es }) (record { locals = e.locals; left = e.left; right = x; type = e.type })) p.is_right con))
             w p.on_left p.on_right (subst (LacksMisfits zs p.own) p.is_right p.lacks_left) (subst (LacksMisfits p.other_places p.other_own) p.is_left p.lacks_right) p.same n mask (narrowed_unsolved k mask zs c h) new p.ended
+
+-- The solution by a new metavariable is typed, and mentions nothing solved.
+pub narrowed_open : (constants metas : Types) (given : Instantiation) → Gives (closed constants metas) given → (n : ℕ) → metas n ≡ None → (mask : List Bool) (zs : List Place) (c : SimpleType) → IsFinal c
+    → SimplyTyped (closed constants (unsolved_types (set n (arrows (masked 0 mask zs) c) metas) given)) (lams zs (atomic (on (masked 0 mask zs) (head_alone (Meta n))))) (arrows zs c)
+narrowed_open constants metas given typed n new mask zs c final = open_typed constants (set n (arrows (masked 0 mask zs) c) metas) given [] (lams zs (atomic (on (masked 0 mask zs) (head_alone (Meta n))))) (arrows zs c)
+    (narrowed_typed constants (set n (arrows (masked 0 mask zs) c) metas) n mask zs c final (set_there n (arrows (masked 0 mask zs) c) metas))
+    (λ j u e. ⊎_elim (λ q. absurd (some_none (ap metas (sym q) ∙ new) (typed j u e).1)) (λ q. narrowed_silent j n zs (masked 0 mask zs) q) (number_cases n j))

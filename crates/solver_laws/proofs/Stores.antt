@@ -116,7 +116,7 @@ moved constants zs metas solutions s e f p g = record {
   given_types = subst (λ m. Gives (closed (slice_get constants) m) (given zs)) (sym e) (subst (Gives (closed (slice_get constants) metas)) (sym f) g);
 }
 
-whole_gives : (constants : List SimpleType) (zs : List Addition) (w : Whole constants zs) → Gives (closed (slice_get constants) (types_in zs)) w.all_in
+pub whole_gives : (constants : List SimpleType) (zs : List Addition) (w : Whole constants zs) → Gives (closed (slice_get constants) (types_in zs)) w.all_in
 whole_gives constants zs w = put_in_types (slice_get constants) (types_in zs) (given zs) w.all_in w.put_in w.given_types
 
 whole_new : (constants : List SimpleType) (zs : List Addition) (t : SimpleType) → Whole constants zs → Whole constants (zs ++ new t ∷ [])

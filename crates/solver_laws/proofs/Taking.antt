@@ -16,18 +16,18 @@ use Rattle.inversion_laws.proofs.Cores.{within}
 use Rattle.unify_laws.specs.Problems.{Problem, KeepsSolutions, WellTyped, Consequence, Grows}
 use Rattle.unify_laws.specs.Narrowing.{narrowed_by}
 use Rattle.unify_laws.proofs.Consequences.{of_flipped}
-use Rattle.unify_laws.proofs.Preserved.{progress_assign, progress_narrow, grows_new, narrowed_typed}
+use Rattle.unify_laws.proofs.Preserved.{progress_assign, progress_narrow, grows_new}
 use Rattle.reach_laws.specs.Rest.{IsAssignment}
 use Rattle.reach_laws.specs.Sources.{FromPlaces, FromSide}
 use Rattle.reach_laws.specs.Unified.{IsPutIn}
 use Rattle.solver_laws.specs.Solving.{Solving, InHand, FromEarlierSide, unsolved_types}
 use Rattle.solver_laws.specs.Steps.{flipped, Assigns, Narrows, AssignsEither, NarrowsEither}
 use Rattle.solver_laws.proofs.Grown.{cases_of, some_none, gives_grown, put_in_grown, from_grown}
-use Rattle.solver_laws.proofs.Open.{open_typed, closed_tree}
+use Rattle.solver_laws.proofs.Open.{closed_tree}
 use Rattle.solver_laws.proofs.Hands.{solving_gives, hand_open, hand_follows}
 use Rattle.solver_laws.proofs.Following.{following, following_put_in, following_after, from_following}
-use Rattle.solver_laws.proofs.Mentioning.{narrowed_silent, older_silent}
-use Rattle.solver_laws.proofs.StepFacts.{assigned_unsolved, assigned_type, assigned_silent, assigned_open, assigned_keeps, narrowed_unsolved, narrowed_keeps}
+use Rattle.solver_laws.proofs.Mentioning.{older_silent}
+use Rattle.solver_laws.proofs.StepFacts.{assigned_unsolved, assigned_type, assigned_silent, assigned_open, assigned_keeps, narrowed_unsolved, narrowed_keeps, narrowed_open}
 
 one_object : {a b : PlainObject} → Some a ≡ Some b → a ≡ b
 one_object e = cc
@@ -155,14 +155,8 @@ module _ (constants : Types) (start : Problem) (metas : Types) (given : Instanti
         all : IsPutIn constants more given s
         all = put_in_grown constants metas more grows given s solving.put_in gives
 
-        -- the new metavariable has no solution
-        other : (j : ℕ) (u : PlainObject) → given j ≡ Some u → n ≡ j → ⊥
-        other j u e q = some_none (ap metas (sym q) ∙ new) (solving.progress.typed.1 j u e).1
-
         open_solution : SimplyTyped (closed constants (unsolved_types more given)) solution (arrows zs c)
-        open_solution = open_typed constants more given [] solution (arrows zs c)
-            (narrowed_typed constants more n mask zs c h.final (set_there n (arrows (masked 0 mask zs) c) metas))
-            (λ j u e. ⊎_elim (λ q. absurd (other j u e q)) (λ q. narrowed_silent j n zs (masked 0 mask zs) q) (number_cases n j))
+        open_solution = narrowed_open constants metas given solving.progress.typed.1 n new mask zs c h.final
 
         free : mentions k solution ≡ false
         free = older_silent k n zs (masked 0 mask zs) less
