@@ -1,6 +1,6 @@
 -- When a step may be taken: what it adds may be added, and makes the store lighter.
-use Rattle.std.specs.Prelude.{ℕ, Bool, zero, suc, ◌+◌, ◌≡◌, ◌<◌, ◌⊎◌, List, [], ◌∷◌, ◌++◌, length, Some, None, refl}
-use Rattle.std.proofs.Common.{ap, sym, subst, ◌∙◌, arith, inl, inr, ⊎_elim, true}
+use Rattle.std.specs.Prelude.{ℕ, suc, ◌+◌, ◌≡◌, ◌<◌, List, [], ◌∷◌, ◌++◌, length, Some, None, refl}
+use Rattle.std.proofs.Common.{ap, sym, subst, ◌∙◌, arith, ⊎_elim, true}
 use Rattle.std.specs.List.{slice_get}
 use Rattle.clf_syntax.specs.declared.tree.Head.TheVariants.{Meta}
 use Rattle.clf_syntax.specs.Tree.{PlainObject, atomic, head_alone}
@@ -10,15 +10,14 @@ use Rattle.hered_subst.proofs.SimpleTyping.{to_typed}
 use Rattle.clf_syntax.specs.Occurs.{occurs}
 use Rattle.clf_syntax.proofs.OccursLaws.{not_true}
 use Rattle.subst_laws.specs.Environments.{Instantiation}
-use Rattle.store_laws.specs.Additions.{Addition, new, solved, meta_types, given}
+use Rattle.store_laws.specs.Additions.{new, meta_types, given}
 use Rattle.store_laws.specs.PutIn.{IsClosed}
-use Rattle.store_laws.specs.Store.{IsStore, MaySolve}
 use Rattle.store_laws.proofs.Numbers.{number_cases, set_there, set_else}
 use Rattle.store_laws.proofs.Closing.{Gives}
 use Rattle.store_laws.proofs.Lists.{types-append}
 use Rattle.store_laws.proofs.Stores.{store_grows}
-use Rattle.pattern_laws.specs.Instantiations.{Types, closed, Instantiated, set}
-use Rattle.pattern_laws.specs.Equations.{scoped, Equation, TypedEquation, TypedEquations}
+use Rattle.pattern_laws.specs.Instantiations.{Types, closed, set}
+use Rattle.pattern_laws.specs.Equations.{Equation, TypedEquation, TypedEquations}
 use Rattle.pattern_laws.specs.Patterns.{IsFinal, HasFinalResult, functions, Place, on, lams, arrows, masked}
 use Rattle.pattern_laws.proofs.Places.{occurring}
 use Rattle.unify_laws.specs.Problems.{Grows}
@@ -26,7 +25,7 @@ use Rattle.unify_laws.specs.Weight.{weight}
 use Rattle.unify_laws.proofs.Preserved.{equations_more, grows_new}
 use Rattle.unify_laws.proofs.Weights.{weight_assign, weight_narrow}
 use Rattle.reach_laws.specs.Rest.{EquationUnder, EachUnder}
-use Rattle.solver_laws.specs.Solving.{unsolved_types, store_weight, Ready, Open, ArePutIn}
+use Rattle.solver_laws.specs.Solving.{unsolved_types, store_weight}
 use Rattle.solver_laws.specs.Steps.{flipped, Assigns, Narrows, assigned_more, narrowed_more}
 use Rattle.solver_laws.specs.Laws.{MayAssign, MayNarrow, AssignIsAllowed, NarrowIsAllowed, PutInIsOpen}
 use Rattle.solver_laws.proofs.Grown.{cases_of, some_none}

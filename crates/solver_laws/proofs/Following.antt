@@ -1,13 +1,12 @@
 -- One more solution, which mentions nothing solved: all solutions are put in again.
-use Rattle.std.specs.Prelude.{ℕ, false, ◌≡◌, ◌⊎◌, List, [], Option, Some, None, refl}
-use Rattle.std.proofs.Common.{ap, sym, subst, ◌∙◌, inl, inr, ⊎_elim}
+use Rattle.std.specs.Prelude.{ℕ, false, ◌≡◌, List, [], Option, Some, None}
+use Rattle.std.proofs.Common.{ap, sym, subst, ◌∙◌, ⊎_elim}
 use Rattle.clf_syntax.specs.Tree.{PlainObject}
 use Rattle.clf_syntax.specs.TypeTree.{SimpleType}
 use Rattle.clf_syntax.specs.Simple.{SimplyTyped}
 use Rattle.hered_subst.specs.Substitution.{Substituted}
 use Rattle.subst_laws.specs.Environments.{Instantiation, instant, ComposedInstantiation}
 use Rattle.store_laws.specs.Mentions.{mentions}
-use Rattle.store_laws.specs.PutIn.{PutIn}
 use Rattle.store_laws.proofs.Numbers.{number_cases, set_there, set_else}
 use Rattle.store_laws.proofs.Closing.{Gives, gives_typed, next, composed_next, closed_again, next_gives}
 use Rattle.pattern_laws.specs.Instantiations.{Types, closed, set}
@@ -18,7 +17,7 @@ use Rattle.reach_laws.specs.Unified.{IsPutIn}
 use Rattle.reach_laws.proofs.Again.{instances_again}
 use Rattle.answer_laws.proofs.Sources.{absorbed_again}
 use Rattle.solver_laws.specs.Solving.{FromEarlierSide, unsolved_types}
-use Rattle.solver_laws.proofs.Open.{open_typed, open_stays, open_silent, put_in_twice, closed_tree}
+use Rattle.solver_laws.proofs.Open.{open_stays, open_silent, put_in_twice, closed_tree}
 
 one_object : {a b : PlainObject} → Some a ≡ Some b → a ≡ b
 one_object e = cc

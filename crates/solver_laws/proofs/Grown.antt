@@ -1,6 +1,6 @@
 -- What holds over some metavariables holds over more.
 use Rattle.std.specs.Prelude.{zero, suc, ◌≡◌, ◌⊎◌, List, [], ◌∷◌, Option, Some, None, refl}
-use Rattle.std.proofs.Common.{ap, sym, subst, ◌∙◌, inl, inr, ⊎_elim, true}
+use Rattle.std.proofs.Common.{inl, inr, ⊎_elim, true}
 use Rattle.clf_syntax.specs.declared.tree.Head.{Head}
 use Rattle.clf_syntax.specs.declared.tree.Head.TheVariants.{Const, Var, Meta}
 use Rattle.clf_syntax.specs.Tree.{PlainObject, PlainNeutral}
@@ -9,7 +9,7 @@ use Rattle.clf_syntax.specs.Simple.{Assignment, SimplyTyped}
 use Rattle.hered_subst.proofs.SimpleTyping.{to_typed, of_typed, to_neutral, of_neutral}
 use Rattle.subst_laws.specs.Environments.{Instantiation, ComposedInstantiation}
 use Rattle.store_laws.proofs.Closing.{Gives, gives_typed}
-use Rattle.pattern_laws.specs.Instantiations.{Types, closed, Instantiates}
+use Rattle.pattern_laws.specs.Instantiations.{Types, closed}
 use Rattle.pattern_laws.specs.Equations.{Locals, scoped, Equation}
 use Rattle.unify_laws.specs.Parts.{PartAt, part_here, part_function, part_fst, part_snd}
 use Rattle.unify_laws.specs.Problems.{Grows}

@@ -1,23 +1,22 @@
 -- Equations in hand: they are typed, mention nothing solved, and are solved by all that solves the given ones; and they go on with the solutions.
-use Rattle.std.specs.Prelude.{ℕ, true, false, ◌≡◌, ◌⊎◌, ◌||◌, Bool, List, [], ◌∷◌, length, Some, None, refl}
-use Rattle.std.proofs.Common.{ap, sym, subst, ◌∙◌, inl, inr, ⊎_elim}
-use Rattle.clf_syntax.specs.Tree.{PlainObject, lam, pair, atomic, PlainNeutral}
+use Rattle.std.specs.Prelude.{ℕ, true, false, ◌≡◌, ◌||◌, Bool, [], ◌∷◌, length, Some, refl}
+use Rattle.std.proofs.Common.{sym, subst}
+use Rattle.clf_syntax.specs.Tree.{PlainObject, PlainNeutral}
 use Rattle.clf_syntax.specs.TypeTree.{SimpleType}
 use Rattle.clf_syntax.specs.Simple.{Assignment, SimplyTyped}
-use Rattle.hered_subst.specs.Substitution.{under, Substituted}
+use Rattle.hered_subst.specs.Substitution.{under}
 use Rattle.subst_laws.specs.Environments.{Instantiation, instant, ComposedInstantiation}
 use Rattle.subst_laws.proofs.Environs.{instant_is_environment}
 use Rattle.subst_laws.proofs.Results.{composition}
 use Rattle.store_laws.specs.Mentions.{mentions, mentions_neutral}
 use Rattle.store_laws.proofs.Closing.{no_families, Gives}
-use Rattle.pattern_laws.specs.Instantiations.{Types, closed, Instantiated, Instantiates, Agrees}
-use Rattle.pattern_laws.specs.Equations.{Locals, scoped, Equation, Solves, TypedEquation, TypedEquations, Listed}
+use Rattle.pattern_laws.specs.Instantiations.{Types, closed, Instantiated}
+use Rattle.pattern_laws.specs.Equations.{Locals, scoped, Equation, TypedEquation, TypedEquations, Listed}
 use Rattle.pattern_laws.proofs.Instances.{typed_scoped, composed_scoped}
 use Rattle.unify_laws.specs.Parts.{PartAt, part_here, part_function, part_fst, part_snd}
 use Rattle.unify_laws.specs.Problems.{Problem, Grows, Consequence}
 use Rattle.unify_laws.proofs.Consequences.{listed_solved}
-use Rattle.reach_laws.specs.Rest.{IsAssignment, PartOf, part_itself, part_body, part_left, part_right, part_argument, EquationUnder, EachUnder}
-use Rattle.reach_laws.specs.Unified.{IsPutIn}
+use Rattle.reach_laws.specs.Rest.{IsAssignment, PartOf, part_itself, part_body, part_left, part_right, part_argument, EquationUnder}
 use Rattle.reach_laws.proofs.PartsUnder.{part_typed, parts_stay, some_result}
 use Rattle.reach_laws.proofs.Rests.{typed_listed, typed_under, part_solved, each_solved, put_in_types}
 use Rattle.answer_laws.proofs.InTurn.{part_of_part}

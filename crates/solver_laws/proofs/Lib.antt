@@ -7,3 +7,5 @@ pub mod StepFacts
 pub mod Taking
 pub mod Stores
 pub mod Allowed
+pub mod Works
+pub mod Reducing

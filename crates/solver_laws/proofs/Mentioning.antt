@@ -1,13 +1,13 @@
 -- What solutions mention, and what stands at a rigid place is mentioned.
-use Rattle.std.specs.Prelude.{ℕ, true, false, ◌≡◌, ◌<◌, ◌||◌, ◌==◌, List, [], ◌∷◌, length, refl}
-use Rattle.std.proofs.Common.{ap, sym, subst, ◌∙◌, arith}
+use Rattle.std.specs.Prelude.{ℕ, true, false, ◌≡◌, ◌<◌, ◌==◌, List, [], ◌∷◌, refl}
+use Rattle.std.proofs.Common.{◌∙◌, arith}
 use Rattle.clf_syntax.specs.declared.tree.Head.TheVariants.{Var, Meta}
-use Rattle.clf_syntax.specs.Tree.{PlainObject, lam, pair, atomic, PlainNeutral, head_alone, app, fst, snd}
+use Rattle.clf_syntax.specs.Tree.{PlainObject, lam, atomic, PlainNeutral, head_alone}
 use Rattle.clf_syntax.specs.Renaming.{ren}
 use Rattle.clf_syntax.proofs.OccursLaws.{or_first, or_second}
 use Rattle.eta_laws.specs.Eta.{eta}
 use Rattle.store_laws.specs.Mentions.{mentions, mentions_neutral}
-use Rattle.pattern_laws.specs.Patterns.{Place, on, lams, inverse, inverted, masked}
+use Rattle.pattern_laws.specs.Patterns.{Place, on, lams, inverse, inverted}
 use Rattle.unify_laws.specs.Rigid.{Stands, stands_here, stands_body, stands_left, stands_right, stands_below, StandsBelow, below_argument, below_function, below_fst, below_snd}
 use Rattle.flat_laws.proofs.FlatReach.{mentions_ren, on_silent}
 

@@ -1,5 +1,5 @@
 -- Trees with all solutions put in are typed by the metavariables that have no solution, and stay as they are.
-use Rattle.std.specs.Prelude.{ℕ, Bool, true, false, zero, suc, ◌≡◌, ◌⊎◌, [], ◌∷◌, length, Option, Some, None, refl}
+use Rattle.std.specs.Prelude.{ℕ, true, false, zero, suc, ◌≡◌, [], ◌∷◌, length, Some, None, refl}
 use Rattle.std.proofs.Common.{ap, sym, subst, ◌∙◌, inl, inr, ⊎_elim}
 use Rattle.clf_syntax.specs.declared.tree.Head.{Head}
 use Rattle.clf_syntax.specs.declared.tree.Head.TheVariants.{Const, Var, Meta}
@@ -8,7 +8,6 @@ use Rattle.clf_syntax.specs.TypeTree.{SimpleType}
 use Rattle.clf_syntax.specs.Simple.{SimplyTyped}
 use Rattle.clf_syntax.proofs.OccursLaws.{not_true, not_both}
 use Rattle.hered_subst.specs.Substitution.{keep, under, Substituted}
-use Rattle.hered_subst.specs.TypedEnvironments.{is_metavariable}
 use Rattle.hered_subst.proofs.SimpleTyping.{to_typed, of_typed}
 use Rattle.hered_subst.proofs.TypedResults.{result_is_typed}
 use Rattle.subst_laws.specs.Environments.{Instantiation, instant, image_or, TypedInstantiation, ComposedInstantiation}

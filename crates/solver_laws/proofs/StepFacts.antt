@@ -1,6 +1,6 @@
 -- What the premises of a step say of its metavariable and of what it adds.
-use Rattle.std.specs.Prelude.{ℕ, Bool, true, false, ◌≡◌, ◌<◌, ◌⊎◌, List, [], length, Some, None, refl}
-use Rattle.std.proofs.Common.{ap, sym, subst, ◌∙◌, inl, inr, ⊎_elim}
+use Rattle.std.specs.Prelude.{ℕ, Bool, true, false, ◌≡◌, List, [], length, Some, None}
+use Rattle.std.proofs.Common.{ap, sym, subst, ◌∙◌, ⊎_elim}
 use Rattle.clf_syntax.specs.declared.tree.Head.TheVariants.{Meta}
 use Rattle.clf_syntax.specs.Tree.{PlainObject, atomic, PlainNeutral, head_alone}
 use Rattle.clf_syntax.specs.TypeTree.{SimpleType}
@@ -11,17 +11,16 @@ use Rattle.store_laws.proofs.Numbers.{number_cases, set_there}
 use Rattle.store_laws.proofs.Closing.{Gives}
 use Rattle.pattern_laws.specs.Instantiations.{Types, closed, set}
 use Rattle.pattern_laws.specs.Equations.{scoped, Equation, TypedEquation}
-use Rattle.pattern_laws.specs.Patterns.{IsFinal, Place, on, lams, arrows, masked, inverted, LacksMisfits}
+use Rattle.pattern_laws.specs.Patterns.{IsFinal, Place, on, lams, arrows, masked, LacksMisfits}
 use Rattle.pattern_laws.proofs.Instances.{scoped_meta}
-use Rattle.inversion_laws.proofs.Cores.{inverted_typed, within}
-use Rattle.unify_laws.specs.Problems.{Problem, KeepsSolutions, WellTyped, Consequence}
+use Rattle.inversion_laws.proofs.Cores.{inverted_typed}
+use Rattle.unify_laws.specs.Problems.{KeepsSolutions, WellTyped, Consequence}
 use Rattle.unify_laws.specs.Narrowing.{narrowed_by}
 use Rattle.unify_laws.proofs.Assign.{assign_step}
-use Rattle.unify_laws.proofs.Consequences.{of_flipped}
 use Rattle.unify_laws.proofs.Preserved.{narrowed_typed}
 use Rattle.unify_laws.proofs.PruneStep.{prune_step, same_step}
 use Rattle.solver_laws.specs.Solving.{unsolved_types}
-use Rattle.solver_laws.specs.Steps.{flipped, Assigns, Prunes, Aligns, Narrows, AssignsEither, NarrowsEither}
+use Rattle.solver_laws.specs.Steps.{Assigns, Prunes, Aligns, Narrows}
 use Rattle.solver_laws.proofs.Grown.{some_none, simply_more, more_scoped}
 use Rattle.solver_laws.proofs.Open.{open_typed, open_silent, open_unsolved, unsolved_grows}
 use Rattle.solver_laws.proofs.Mentioning.{narrowed_silent, mentions_on, mentions_inverted, stands_mentions}

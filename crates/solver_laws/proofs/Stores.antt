@@ -1,5 +1,5 @@
 -- Stores as problems: their types and solutions where they grow, and all solutions put in.
-use Rattle.std.specs.Prelude.{ℕ, zero, suc, ◌≡◌, ◌<◌, ◌⊎◌, nat_eq, false, List, [], ◌∷◌, ◌++◌, length, Option, Some, None, refl}
+use Rattle.std.specs.Prelude.{ℕ, zero, suc, ◌≡◌, ◌<◌, ◌⊎◌, nat_eq, false, List, [], ◌∷◌, ◌++◌, length, Some, None, refl}
 use Rattle.std.proofs.Common.{ap, sym, subst, ◌∙◌, arith, inl, ⊎_elim}
 use Rattle.std.proofs.lemmas.List.{append-nil}
 use Rattle.std.specs.List.{slice_get}
@@ -15,12 +15,11 @@ use Rattle.hered_subst.proofs.SimpleTyping.{under_zero}
 use Rattle.subst_laws.specs.Environments.{Instantiation, instant}
 use Rattle.store_laws.specs.Mentions.{mentions}
 use Rattle.store_laws.specs.Additions.{Addition, new, solved, meta_types, given, heads_of}
-use Rattle.store_laws.specs.PutIn.{PutIn, IsClosed}
 use Rattle.store_laws.specs.Store.{MaySolve, IsStore}
 use Rattle.store_laws.proofs.Numbers.{number_cases, set_there, set_else}
 use Rattle.store_laws.proofs.Lists.{by_end, types-append, given-new, given-solved}
 use Rattle.store_laws.proofs.Closing.{Gives}
-use Rattle.store_laws.proofs.Stores.{store_is_cut, store_grows}
+use Rattle.store_laws.proofs.Stores.{store_is_cut}
 use Rattle.pattern_laws.specs.Instantiations.{Types, closed, Instantiated, set}
 use Rattle.unify_laws.specs.Problems.{Grows}
 use Rattle.unify_laws.proofs.Preserved.{grows_new}
@@ -29,7 +28,7 @@ use Rattle.reach_laws.proofs.PartsUnder.{some_result}
 use Rattle.reach_laws.proofs.Rests.{put_in_types}
 use Rattle.reach_laws.proofs.Again.{put_in_again}
 use Rattle.solver_laws.specs.Solving.{unsolved_types}
-use Rattle.solver_laws.proofs.Grown.{some_none, gives_grown, put_in_grown}
+use Rattle.solver_laws.proofs.Grown.{gives_grown, put_in_grown}
 use Rattle.solver_laws.proofs.Open.{open_stays, open_silent, put_is_open, closed_tree}
 
 -- the types of the metavariables of a store

@@ -1,5 +1,5 @@
 -- A step goes on with the state of the work.
-use Rattle.std.specs.Prelude.{ℕ, Bool, true, false, ◌≡◌, ◌<◌, ◌⊎◌, List, [], length, Option, Some, None, refl}
+use Rattle.std.specs.Prelude.{ℕ, Bool, false, ◌≡◌, ◌<◌, ◌⊎◌, List, length, Some, None}
 use Rattle.std.proofs.Common.{ap, sym, subst, ◌∙◌, inl, inr, ⊎_elim}
 use Rattle.clf_syntax.specs.declared.tree.Head.TheVariants.{Meta}
 use Rattle.clf_syntax.specs.Tree.{PlainObject, atomic, head_alone}
@@ -8,21 +8,21 @@ use Rattle.clf_syntax.specs.Simple.{SimplyTyped}
 use Rattle.subst_laws.specs.Environments.{Instantiation, ComposedInstantiation}
 use Rattle.store_laws.specs.Mentions.{mentions}
 use Rattle.store_laws.proofs.Numbers.{number_cases, set_there, set_else}
-use Rattle.store_laws.proofs.Closing.{Gives, gives_typed}
+use Rattle.store_laws.proofs.Closing.{Gives}
 use Rattle.pattern_laws.specs.Instantiations.{Types, closed, set}
 use Rattle.pattern_laws.specs.Equations.{Equation, TypedEquation}
 use Rattle.pattern_laws.specs.Patterns.{Place, on, lams, arrows, masked, inverted, local_at}
 use Rattle.inversion_laws.proofs.Cores.{within}
-use Rattle.unify_laws.specs.Problems.{Problem, KeepsSolutions, WellTyped, Consequence, Grows}
+use Rattle.unify_laws.specs.Problems.{Problem, Consequence, Grows}
 use Rattle.unify_laws.specs.Narrowing.{narrowed_by}
 use Rattle.unify_laws.proofs.Consequences.{of_flipped}
 use Rattle.unify_laws.proofs.Preserved.{progress_assign, progress_narrow, grows_new}
 use Rattle.reach_laws.specs.Rest.{IsAssignment}
-use Rattle.reach_laws.specs.Sources.{FromPlaces, FromSide}
+use Rattle.reach_laws.specs.Sources.{FromPlaces}
 use Rattle.reach_laws.specs.Unified.{IsPutIn}
 use Rattle.solver_laws.specs.Solving.{Solving, InHand, FromEarlierSide, unsolved_types}
 use Rattle.solver_laws.specs.Steps.{flipped, Assigns, Narrows, AssignsEither, NarrowsEither}
-use Rattle.solver_laws.proofs.Grown.{cases_of, some_none, gives_grown, put_in_grown, from_grown}
+use Rattle.solver_laws.proofs.Grown.{gives_grown, put_in_grown, from_grown}
 use Rattle.solver_laws.proofs.Open.{closed_tree}
 use Rattle.solver_laws.proofs.Hands.{solving_gives, hand_open, hand_follows}
 use Rattle.solver_laws.proofs.Following.{following, following_put_in, following_after, from_following}

@@ -5,9 +5,8 @@ use Rattle.clf_syntax.specs.Tree.{PlainObject}
 use Rattle.clf_syntax.specs.TypeTree.{SimpleType}
 use Rattle.subst_laws.specs.Environments.{Instantiation}
 use Rattle.store_laws.specs.Additions.{Addition, new, meta_types, given}
-use Rattle.store_laws.specs.PutIn.{IsClosed}
 use Rattle.pattern_laws.specs.Instantiations.{Types}
-use Rattle.pattern_laws.specs.Equations.{Equation, Listed, TypedEquation, TypedEquations}
+use Rattle.pattern_laws.specs.Equations.{Equation, Listed, TypedEquation}
 use Rattle.pattern_laws.specs.Patterns.{Place, arrows, masked}
 use Rattle.reach_laws.specs.Rest.{PartOf, EachUnder, Rest}
 use Rattle.reach_laws.specs.Unified.{Unified, Clashed}

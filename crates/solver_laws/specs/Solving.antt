@@ -3,7 +3,7 @@ use Rattle.std.specs.Prelude.{ℕ, ◌≡◌, ◌⊎◌, List, length, Option, S
 use Rattle.std.specs.List.{slice_get}
 use Rattle.clf_syntax.specs.Tree.{PlainObject}
 use Rattle.clf_syntax.specs.TypeTree.{SimpleType}
-use Rattle.subst_laws.specs.Environments.{Instantiation, ComposedInstantiation}
+use Rattle.subst_laws.specs.Environments.{Instantiation}
 use Rattle.store_laws.specs.Additions.{Addition, meta_types, given}
 use Rattle.store_laws.specs.PutIn.{PutIn, IsClosed}
 use Rattle.store_laws.specs.Store.{IsStore}
