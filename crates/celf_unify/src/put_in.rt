@@ -1,7 +1,6 @@
 //! All solutions put into equations.
 ghost use Rattle.std.specs.Prelude.{◌≡◌, [], ◌∷◌, ◌++◌, map, IfErr, IfOk};
 ghost use Rattle.clf_syntax.specs.Wide.{IsWant};
-ghost use Rattle.clf_syntax.specs.PlainSimple.{plain_simple_entry};
 ghost use Rattle.celf_constraints.specs.Equated.{plain_equation};
 ghost use Rattle.metavars.specs.Stored.{additions};
 ghost use Rattle.solver_laws.specs.Solving.{ArePutIn};
@@ -57,11 +56,11 @@ fn put_in(alloc: Global, store: &Store, equation: &Equation) -> Result<Equation,
 
 /// Locals are copied.
 pub fn copy_locals(alloc: Global, locals: &[SimpleEntry]) -> Result<Vec<SimpleEntry>, AllocError>
-    ensures { IfOk result (λ copy. map plain_simple_entry copy.items ≡ map plain_simple_entry locals.now) }
+    ensures { IfOk result (λ copied. copied.items ≡ locals.now) }
 {
-    let mut copy = Vec::new(alloc);
+    let mut copied = Vec::new(alloc);
     for local in locals {
-        copy.push(local.copy(alloc)?)?;
+        copied.push(local.copy(alloc)?)?;
     }
-    Ok(copy)
+    Ok(copied)
 }
