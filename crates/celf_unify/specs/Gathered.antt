@@ -55,7 +55,11 @@ pub record StepIn (constants metas : Types) (ws rest : List Equation) (step : St
   pub listed : Listed equation rest
   pub step_of : StepOf constants metas equation step
 
+-- what comes of the equations, with these simple types of constants and metavariables
+abbrev pub GathersOver : Types → Types → List Equation → Gathered → Type 0
+GathersOver constants metas ws (gathered.Left left) = Rest constants metas ws (equations_in left)
+GathersOver constants metas ws (gathered.Clash c) = ClashIn constants metas ws c
+GathersOver constants metas ws (gathered.Step step rest) = StepIn constants metas ws (map plain_equation rest.items) step
+
 abbrev pub Gathers : Stored → List Equation → Gathered → Type 0
-Gathers s ws (gathered.Left left) = Rest (consts_in s) (metas_in s) ws (equations_in left)
-Gathers s ws (gathered.Clash c) = ClashIn (consts_in s) (metas_in s) ws c
-Gathers s ws (gathered.Step step rest) = StepIn (consts_in s) (metas_in s) ws (map plain_equation rest.items) step
+Gathers s ws g = GathersOver (consts_in s) (metas_in s) ws g

@@ -4,7 +4,7 @@ use Rattle.clf_syntax.specs.TypeTree.{SimpleType}
 use Rattle.clf_syntax.specs.Plain.{plain_obj}
 use Rattle.std.specs.List.{slice_get}
 use Rattle.subst_laws.specs.Environments.{Instantiation}
-use Rattle.store_laws.specs.Additions.{Addition}
+use Rattle.store_laws.specs.Additions.{Addition, meta_types}
 use Rattle.pattern_laws.specs.Equations.{Equation, Listed}
 use Rattle.reach_laws.specs.Unified.{Unified, Clashed}
 use Rattle.solver_laws.specs.Solving.{Solving, problem_of, store_weight, Ready, Open, Working}
@@ -16,24 +16,24 @@ use Rattle.celf_unify.specs.declared.gather.Gathered.{Gathered}
 use Rattle.celf_unify.specs.declared.gather.Gathered.TheVariants as gathered
 use Rattle.celf_unify.specs.declared.pass.Pass.{Pass}
 use Rattle.celf_unify.specs.declared.pass.Pass.TheVariants as pass
-use Rattle.celf_unify.specs.Gathered.{consts_in, metas_in, StepOf}
+use Rattle.celf_unify.specs.Gathered.{StepOf}
 
 -- The store is one in which these equations are typed.
 abbrev pub IsReady : Stored → List Equation → Type 0
 IsReady s es = Ready (constants s) (additions s) es
 
--- The step follows from one of the equations that are still to be looked at, into which all solutions are put.
-pub record MayAdvance (s : Stored) (step : Step) (ws : List Equation) : Type 0 where
-  pub ready : IsReady s ws
-  pub all_in : Open (constants s) (additions s) ws
+-- In a store with these constants and additions the step follows from one of the equations that are still to be looked at, into which all solutions are put.
+pub record MayAdvance (cs : List SimpleType) (zs : List Addition) (step : Step) (ws : List Equation) : Type 0 where
+  pub ready : Ready cs zs ws
+  pub all_in : Open cs zs ws
   pub equation : Equation
   pub listed : Listed equation ws
-  pub step_of : StepOf (consts_in s) (metas_in s) equation step
+  pub step_of : StepOf (slice_get cs) (slice_get (meta_types zs)) equation step
 
-abbrev pub MayRun : Stored → Gathered → Type 0
-MayRun s (gathered.Left left) = Unit {0}
-MayRun s (gathered.Clash c) = Unit {0}
-MayRun s (gathered.Step step rest) = MayAdvance s step (map plain_equation rest.items)
+abbrev pub MayRun : List SimpleType → List Addition → Gathered → Type 0
+MayRun cs zs (gathered.Left left) = Unit {0}
+MayRun cs zs (gathered.Clash c) = Unit {0}
+MayRun cs zs (gathered.Step step rest) = MayAdvance cs zs step (map plain_equation rest.items)
 
 -- There are solutions with all solutions put in; or there was none, by the clash.
 abbrev pub StillSolving : List SimpleType → List Addition → List Addition → List Equation → Type 0
@@ -51,7 +51,7 @@ WorkStands cs before now es (gathered.Step step rest) = (v : Instantiation) × W
 -- A step was taken. Whatever work it belongs to goes on.
 pub record Advances (s : Stored) (ws : List Equation) (t : Stored) (g : Gathered) : Type 0 where
   pub same : constants t ≡ constants s
-  pub state : MayRun t g
+  pub state : MayRun (constants s) (additions t) g
   pub lighter : store_weight (additions t) < store_weight (additions s)
   pub goes : (before : List Addition) (es : List Equation) (v : Instantiation) → IsReady s es → Working (constants s) before (additions s) es v ws
       → Ready (constants s) (additions t) es × WorkStands (constants s) before (additions t) es g

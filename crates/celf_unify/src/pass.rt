@@ -1,8 +1,8 @@
 //! A pass over equations.
-ghost use Rattle.std.specs.Prelude.{◌<◌, map, IfErr, IfOk};
+ghost use Rattle.std.specs.Prelude.{map, IfErr, IfOk};
 ghost use Rattle.clf_syntax.specs.Wide.{IsWant};
 ghost use Rattle.celf_constraints.specs.Equated.{equations_in, plain_equation};
-ghost use Rattle.metavars.specs.Stored.{IsPart};
+ghost use Rattle.metavars.specs.Stored.{IsPart, constants, additions};
 ghost use Rattle.celf_unify.specs.Passes.{Advances, IsReady, MayAdvance, MayRun, PassEnds, Runs, Works};
 
 use crate::answer::Clash;
@@ -29,7 +29,7 @@ fn advance(
     step: Step,
     rest: Vec<Equation>,
 ) -> Result<Gathered, Want>
-    requires may { MayAdvance store.old step (map plain_equation rest.items) }
+    requires may { MayAdvance (constants store.old) (additions store.old) step (map plain_equation rest.items) }
     ensures advanced { IfOk result (λ g. Advances store.old (map plain_equation rest.items) store.new g) }
     ensures part { IsPart store.old store.new }
     ensures wanting { IfErr result IsWant }
@@ -41,7 +41,7 @@ fn advance(
 
 /// Takes steps until the pass is at its end.
 fn run(alloc: Global, store: &mut Store, first: Gathered) -> Result<Option<Clash>, Want>
-    requires may { MayRun store.old first }
+    requires may { MayRun (constants store.old) (additions store.old) first }
     ensures runs { IfOk result (λ end. Runs store.old first store.new end) }
     ensures part { IsPart store.old store.new }
     ensures wanting { IfErr result IsWant }
@@ -78,7 +78,7 @@ fn after(
     step: Step,
     rest: Vec<Equation>,
 ) -> Result<Pass, Want>
-    requires may { MayAdvance store.old step (map plain_equation rest.items) }
+    requires may { MayAdvance (constants store.old) (additions store.old) step (map plain_equation rest.items) }
     ensures works { IfOk result (λ pass. Works store.old (map plain_equation rest.items) store.new pass) }
     ensures part { IsPart store.old store.new }
     ensures wanting { IfErr result IsWant }

@@ -1,5 +1,5 @@
 -- The work goes on from where it stood.
-use Rattle.std.proofs.Common.{◌≡◌, ◌≤◌, ◌×◌, List}
+use Rattle.std.proofs.Common.{◌≡◌, ◌≤◌, List}
 use Rattle.store_laws.specs.Additions.{Addition}
 use Rattle.pattern_laws.specs.Equations.{Equation}
 use Rattle.solver_laws.specs.Solving.{store_weight, Ready}
@@ -9,7 +9,7 @@ use Rattle.celf_unify.proofs.pass.run.Given as goal
 
 abbrev pub invariant-loop-state : goal.invariant-loop-state
 invariant-loop-state l = record {
-  may : MayRun l.store l.state;
+  may : MayRun (constants l.initial.store) (additions l.store) l.state;
   part : IsPart l.initial.store l.store;
   same : constants l.store ≡ constants l.initial.store;
   lighter : store_weight (additions l.store) ≤ store_weight (additions l.initial.store);
