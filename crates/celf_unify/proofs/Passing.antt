@@ -6,6 +6,7 @@ use Rattle.clf_syntax.specs.TypeTree.{SimpleType}
 use Rattle.subst_laws.specs.Environments.{Instantiation}
 use Rattle.store_laws.specs.Additions.{Addition, meta_types}
 use Rattle.pattern_laws.specs.Equations.{Equation}
+use Rattle.reach_laws.specs.Unified.{Unified}
 use Rattle.solver_laws.specs.Solving.{Solving, problem_of, store_weight, Ready, Open, ArePutIn, Working}
 use Rattle.solver_laws.proofs.Allowed.{put_in_is_open}
 use Rattle.solver_laws.proofs.Works.{work_begins, work_reduces, work_ends}
@@ -14,13 +15,16 @@ use Rattle.celf_constraints.specs.declared.equation.Equations.{Equations}
 use Rattle.celf_constraints.specs.Equated.{plain_equation, equations_in}
 use Rattle.metavars.specs.Stored.{Stored, constants, additions}
 use Rattle.celf_unify.specs.declared.answer.Clash.{Clash}
+use Rattle.celf_unify.specs.declared.answer.Unified.{Unified as Answer}
+use Rattle.celf_unify.specs.declared.answer.Unified.TheVariants.{Solved, Stuck, Clash as ClashAnswer}
+use Rattle.celf_unify.specs.Answers.{Answers, IsLeft}
 use Rattle.celf_unify.specs.declared.step.Step.{Step}
 use Rattle.celf_unify.specs.declared.gather.Gathered.{Gathered}
 use Rattle.celf_unify.specs.declared.gather.Gathered.TheVariants as gathered
 use Rattle.celf_unify.specs.declared.pass.Pass.{Pass}
 use Rattle.celf_unify.specs.declared.pass.Pass.TheVariants as pass
 use Rattle.celf_unify.specs.Gathered.{IsTyped, Gathers, StepIn}
-use Rattle.celf_unify.specs.Passes.{MayAdvance, MayRun, IsReady, WorkStands, RunEnds, PassAnswers, Advances, Runs, Works, PassEnds, IsLighter}
+use Rattle.celf_unify.specs.Passes.{StillSolving, MayAdvance, MayRun, IsReady, WorkStands, RunEnds, PassAnswers, Advances, Runs, Works, PassEnds, IsLighter}
 use Rattle.celf_unify.proofs.Stepping.{typed_open, may_run, clashed, stands}
 
 -- The state of a run: constants, weight and work against those at its beginning.
@@ -106,3 +110,13 @@ module _ (s : Stored) (es us : List Equation) (ready : IsReady s es) (put : AreP
       weighed pass.Again w = w.lighter
       weighed (pass.Left left) w = tt
       weighed (pass.Clash c) w = tt
+
+-- What a pass says of the work that began in the store s.
+pub pass_follows : (s t u : Stored) (es : List Equation) (p : Pass) → IsReady s es → constants t ≡ constants s → StillSolving (constants s) (additions s) (additions t) es → PassEnds t es u p → PassAnswers (constants s) (additions s) (additions u) es p
+pass_follows s t u es p ready same still ends = subst (λ cs. PassAnswers cs (additions s) (additions u) es p) same
+    (ends.goes (additions s) still.0 (subst (λ cs. Ready cs (additions s) es) (sym same) ready) (subst (λ cs. Solving (slice_get cs) (problem_of (additions s) es) (problem_of (additions t) es) still.0) (sym same) still.1))
+
+pub left_answers : (s t : Stored) (es ls : List Equation) (a : Answer) → IsLeft ls a → Unified (slice_get (constants s)) (problem_of (additions s) es) (problem_of (additions t) es) ls → Answers s es t a
+left_answers s t es ls Solved e u = subst (Unified (slice_get (constants s)) (problem_of (additions s) es) (problem_of (additions t) es)) e u
+left_answers s t es ls (Stuck left) h u = (subst (Unified (slice_get (constants s)) (problem_of (additions s) es) (problem_of (additions t) es)) (sym h.0) u, (λ e. h.1 (sym h.0 ∙ e)))
+left_answers s t es ls (ClashAnswer c) h u = absurd h

@@ -39,7 +39,7 @@ argument_silent (part_fst p) k f h = argument_silent p k f h
 argument_silent (part_snd p) k f h = argument_silent p k f h
 
 -- What an equation does not mention its parts do not mention.
-part_silent : {constants metas : Types} {e d : Equation} → PartOf constants metas e d → (k : ℕ) → mentions k e.left ≡ false → mentions k e.right ≡ false → (mentions k d.left ≡ false) × (mentions k d.right ≡ false)
+pub part_silent : {constants metas : Types} {e d : Equation} → PartOf constants metas e d → (k : ℕ) → mentions k e.left ≡ false → mentions k e.right ≡ false → (mentions k d.left ≡ false) × (mentions k d.right ≡ false)
 part_silent part_itself k f h = (f, h)
 part_silent (part_body p) k f h = part_silent p k f h
 part_silent (part_left r s d p) k f h = let (a, b) = part_silent p k f h in (first_false _ _ a, first_false _ _ b)
