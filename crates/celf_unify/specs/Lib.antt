@@ -4,5 +4,6 @@ pub use Rattle.celf_constraints.specs.Equated
 pub use Rattle.metavars.specs.Stored
 pub mod Steps
 pub mod Gathered
+pub mod Examined
 pub mod Passes
 pub mod Answers

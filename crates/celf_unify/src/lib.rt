@@ -2,6 +2,7 @@
 #![tactic(auto)]
 
 mod answer;
+mod examine;
 mod gather;
 mod pass;
 mod put_in;
