@@ -51,8 +51,14 @@ abbrev pub directive_metas : List TypedVariable → Fillings → ℕ → Types
 directive_metas vs fillings first k = if nat_lt k first then slice_get (types_of_variables (map with_simple_type vs) ++ types_of_new fillings) k else option_map erase (holder_type vs first k)
 
 abbrev pub directive_setting : PlainSignature → List TypedVariable → Fillings → ℕ → Setting
-directive_setting sig vs fillings first = record { given = constant_type sig; implicit = holder_type vs first; shape = unmarked_shape;
-    simple = closed (λ c. option_map erase (constant_type sig c)) (directive_metas vs fillings first); arguments = families_of sig; fills = true }
+directive_setting sig vs fillings first = record {
+  given = constant_type sig;
+  implicit = holder_type vs first;
+  shape = unmarked_shape;
+  simple = closed (λ c. option_map erase (constant_type sig c)) (directive_metas vs fillings first);
+  arguments = families_of sig;
+  fills = true;
+}
 
 -- The tree of a directive with its equations: what is read with place holders, and gathered of it, after their objects are put.
 pub record IsDirectiveTree (sig : PlainSignature) (vs : List TypedVariable) (body : DesugaredBody) (fillings : Fillings) (tree : PlainCore) (equations : List Equation) : Type 0 where
