@@ -8,3 +8,4 @@ pub mod Items
 pub mod Declarations
 pub mod Directives
 pub mod Binders
+pub mod Laws
