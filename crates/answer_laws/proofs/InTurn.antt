@@ -42,23 +42,23 @@ part_of_part (part_right l k c p) q = part_right l k c (part_of_part p q)
 part_of_part (part_argument r n f p h a) q = part_argument r n f (part_of_part p q) h a
 
 -- the place of an equation in a list after an assignment
-listed_under : (s : Instantiation) (e : Equation) {es : List Equation} → Listed e es → (ds : List Equation) → EachUnder s es ds → (d : Equation) × Listed d ds × EquationUnder s e d
+pub listed_under : (s : Instantiation) (e : Equation) {es : List Equation} → Listed e es → (ds : List Equation) → EachUnder s es ds → (d : Equation) × Listed d ds × EquationUnder s e d
 listed_under s e listed_here [] u = absurd u
 listed_under s e listed_here (d ∷ ds) u = (d, listed_here, u.0)
 listed_under s e (listed_later l) [] u = absurd u
 listed_under s e (listed_later l) (d ∷ ds) u = let (b, k, v) = listed_under s e l ds u.1 in (b, listed_later k, v)
 
-listed_back : (s : Instantiation) (d : Equation) {ds : List Equation} → Listed d ds → (es : List Equation) → EachUnder s es ds → (e : Equation) × Listed e es × EquationUnder s e d
+pub listed_back : (s : Instantiation) (d : Equation) {ds : List Equation} → Listed d ds → (es : List Equation) → EachUnder s es ds → (e : Equation) × Listed e es × EquationUnder s e d
 listed_back s d listed_here [] u = absurd u
 listed_back s d listed_here (e ∷ es) u = (e, listed_here, u.0)
 listed_back s d (listed_later l) [] u = absurd u
 listed_back s d (listed_later l) (e ∷ es) u = let (b, k, v) = listed_back s d l es u.1 in (b, listed_later k, v)
 
-listed_first : {e : Equation} {l : List Equation} → Listed e l → (k : List Equation) → Listed e (l ++ k)
+pub listed_first : {e : Equation} {l : List Equation} → Listed e l → (k : List Equation) → Listed e (l ++ k)
 listed_first listed_here k = listed_here
 listed_first (listed_later m) k = listed_later (listed_first m k)
 
-listed_second : (l : List Equation) {e : Equation} {k : List Equation} → Listed e k → Listed e (l ++ k)
+pub listed_second : (l : List Equation) {e : Equation} {k : List Equation} → Listed e k → Listed e (l ++ k)
 listed_second [] m = m
 listed_second (d ∷ l) m = listed_later (listed_second l m)
 
@@ -66,7 +66,7 @@ later_case : {e f : Equation} {l k m : List Equation} → Listed e (f ∷ m) →
 later_case listed_here g = inl listed_here
 later_case (listed_later n) g = ⊎_elim (λ a. inl (listed_later a)) (λ b. inr b) (g n)
 
-listed_cases : (l k : List Equation) (e : Equation) → Listed e (l ++ k) → Listed e l ⊎ Listed e k
+pub listed_cases : (l k : List Equation) (e : Equation) → Listed e (l ++ k) → Listed e l ⊎ Listed e k
 listed_cases [] k e m = inr m
 listed_cases (d ∷ l) k e m = later_case m (λ n. listed_cases l k e n)
 

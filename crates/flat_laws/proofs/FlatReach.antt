@@ -25,7 +25,7 @@ neither {a} {b} e f = rw (e, f) refl
 
 -- Renaming keeps what is mentioned.
 mutual
-  mentions_ren : (k : ℕ) (r : Renumbering) (o : PlainObject) → mentions k (ren r o) ≡ mentions k o
+  pub mentions_ren : (k : ℕ) (r : Renumbering) (o : PlainObject) → mentions k (ren r o) ≡ mentions k o
   mentions_ren k r (lam m b) = mentions_ren k (lifted 1 r) b
   mentions_ren k r (pair x y) = rw (mentions_ren k r x, mentions_ren k r y) refl
   mentions_ren k r unit = refl
@@ -62,7 +62,7 @@ mutual
   variables_silent k simple_end = refl
   variables_silent k (simple_binding m t ts) = neither (eta_silent k t (head_alone (Var (length (simple_modes ts)))) refl) (variables_silent k ts)
 
-on_silent : (k : ℕ) (ps : List Place) (n : PlainNeutral) → mentions_neutral k n ≡ false → mentions_neutral k (on ps n) ≡ false
+pub on_silent : (k : ℕ) (ps : List Place) (n : PlainNeutral) → mentions_neutral k n ≡ false → mentions_neutral k (on ps n) ≡ false
 on_silent k [] n e = e
 on_silent k (p ∷ ps) n e = neither (on_silent k ps n e) (eta_silent k p.1 (head_alone (Var p.2)) refl)
 

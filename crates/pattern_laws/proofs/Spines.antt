@@ -101,9 +101,6 @@ pub through_lams : (t : Instantiation) (ps : List Place) {b x : PlainObject} →
 through_lams t [] {b = b} {x = x} p = subst (λ z. Substituted z b x) (under_zero (instant t)) p
 through_lams t (q ∷ ps) {b = b} {x = x} p = through_lams t ps (through_lam (subst (λ z. Substituted z b x) (sym (under_instant (length ps) t)) p))
 
-lam_body : {m : Mode} {b c : PlainObject} → lam m b ≡ lam m c → b ≡ c
-lam_body e = cc
-
 pub of_lams : (t : Instantiation) (ps : List Place) {b y : PlainObject} → Substituted (instant t) (lams ps b) y → (x : PlainObject) × (y ≡ lams ps x) × Instantiated (length ps) t b x
 of_lams t [] {b = b} {y = y} p = (y, refl, subst (λ z. Substituted z b y) (sym (under_zero (instant t))) p)
 of_lams t (q ∷ ps) {b = b} p = let (x, e, d) = of_lams t ps p in let (w, f, c) = body d in
