@@ -1,0 +1,4 @@
+pub mod Spines
+pub mod Masking
+pub mod Pruned
+pub mod Situations
