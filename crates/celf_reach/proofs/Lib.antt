@@ -2,3 +2,4 @@ pub mod Spines
 pub mod Masking
 pub mod Pruned
 pub mod Situations
+pub mod Misfitting

@@ -110,4 +110,5 @@ pub pruned_to : (g : Assignment) (ls : Locals) (ps : List Place) (ds : Locals) (
     → (o : Option (ℕ × List Bool)) → PrunesTo bs (length ds) k zs o → IsPruned g ls ps ds (atomic n) t o
 pruned_to g ls ps ds bs m n k zs t d None e = λ w o f. let (i, h) = occurs_on zs k w (subst (λ y. occurs_neutral w y ≡ true) d.neutral o) in
     not_both ((variable_marked (length ls) ps bs m (length ds) w).1 f) (none_taken bs (length ds) zs e i w h)
-pruned_to g ls ps ds bs m n k zs t d (Some p) e = ([], n, t, standing_here, zs, subst (λ j. OnDistinct (scoped (ds ++ ls) g) n j zs t) (sym e.0) d, subst (TakesForeign (length ls) ps (length ds) zs) (sym e.1) (takes_foreign (length ls) ps bs m (length ds) zs (subst (λ y. list_any not y ≡ true) e.1 e.2)))
+pruned_to g ls ps ds bs m n k zs t d (Some p) e = ([], n, t, standing_here,
+    (zs, subst (λ j. OnDistinct (scoped (ds ++ ls) g) n j zs t) (sym e.0) d, subst (TakesForeign (length ls) ps (length ds) zs) (sym e.1) (takes_foreign (length ls) ps bs m (length ds) zs (subst (λ y. list_any not y ≡ true) e.1 e.2))))

@@ -94,6 +94,19 @@ situated_types s types ls ds ps h = record {
   variables = λ i. scoped_local (types_in s.consts.now) (types_in s.metas.now) (ds ++ ls) i ∙ ap (λ l. slice_get l i) (sym h.scoped);
 }
 
+-- ---- the same told of equals
+
+pub finds_as : (s : Sought) (types : List (Bor Simple)) (x y : PlainObject) (t : SimpleType) (f k : PlainFound) → x ≡ y → f ≡ k → Finds s types x t f → Finds s types y t k
+finds_as s types x y t f k e h w = subst (λ o. Finds s types o t k) e (subst (Finds s types x t) h w)
+
+pub so_far_as : (s : Sought) (types : List (Bor Simple)) (n r : PlainNeutral) (u : SimpleType) (f k : PlainFound) → n ≡ r → f ≡ k → SoFar s types n u f → SoFar s types r u k
+so_far_as s types n r u f k e h w = subst (λ o. SoFar s types o u k) e (subst (SoFar s types n u) h w)
+
+pub finds_loose : (s : Sought) (types : List (Bor Simple)) (x y : PlainObject) (t : SimpleType) (f : PlainFound) → x ≡ y → f ≡ loose_found (mentions s.meta x) (marked_in s.marks.now (length types - s.count) x)
+    → Finds s types y t (loose_found (mentions s.meta y) (marked_in s.marks.now (length types - s.count) y)) → Finds s types x t f
+finds_loose s types x y t f e h w = finds_as s types y x t (loose_found (mentions s.meta y) (marked_in s.marks.now (length types - s.count) y)) f (sym e)
+    (ap (λ o. loose_found (mentions s.meta o) (marked_in s.marks.now (length types - s.count) o)) (sym e) ∙ sym h) w
+
 -- ---- lambdas and pairs
 
 pub finds_no_lam : (s : Sought) (types : List (Bor Simple)) (k : Mode) (b : PlainObject) (t : SimpleType) (f : PlainFound) → None ≡ function_parts t → Finds s types (lam k b) t f
