@@ -9,11 +9,12 @@ use Rattle.clf_syntax.specs.declared.tree.Simple.{Simple}
 use Rattle.clf_syntax.specs.Modes.{same_mode}
 use Rattle.clf_syntax.specs.Tree.{PlainObject, atomic, PlainNeutral, head_of}
 use Rattle.clf_syntax.specs.TypeTree.{SimpleType, base, arrow, simple_with, simple_top, lax, SimpleTelescope, simple_end, simple_binding}
-use Rattle.clf_syntax.proofs.OccursLaws.{either, or_first, or_second}
+use Rattle.clf_syntax.specs.Occurs.{occurs}
+use Rattle.clf_syntax.proofs.OccursLaws.{either, not_both, or_first, or_second}
 use Rattle.clf_simple.specs.Decision.{same_type, same_telescope}
 use Rattle.hered_subst.specs.TypedEnvironments.{is_metavariable}
 use Rattle.store_laws.specs.Mentions.{mentions}
-use Rattle.pattern_laws.specs.Patterns.{blank}
+use Rattle.pattern_laws.specs.Patterns.{LacksMisfits, blank}
 use Rattle.celf_constraints.specs.declared.places.Place.{Place}
 use Rattle.celf_constraints.specs.declared.places.Places.{Places}
 use Rattle.celf_constraints.specs.Reading.{plain_place, own_place, plain_places, own_places}
@@ -169,3 +170,26 @@ finds_at_places s types x n t p u b o m k h w e i r = finds_as s types (atomic n
   where
     the_found : Bool → Bool → Option (ℕ × List Bool) → PlainFound
     the_found u a o = record { clash = u; free = a; prune = o }
+
+-- ---- misfits that occur
+
+lack_so : (t u : SimpleType) (o b s : Bool) → blank t ≡ b → same_type t u ≡ s → not (b || s) && o ≡ false → (t ≡ u) ⊎ ((blank t ≡ true) ⊎ (o ≡ false))
+lack_so t u o true s h k e = inr (inl h)
+lack_so t u o false true h k e = inl (types_same t u k)
+lack_so t u o false false h k e = inr (inr e)
+
+no_lack : (t u : SimpleType) (o : Bool) → not (blank t || same_type t u) && o ≡ true → (t ≡ u) ⊎ ((blank t ≡ true) ⊎ (o ≡ false)) → ⊥
+no_lack t u o e s = let (p, q) = and_out (not (blank t || same_type t u)) o e in ⊎_elim (λ h. no_fit t u p (inl h)) (λ h. ⊎_elim (λ k. no_fit t u p (inr k)) (λ k. not_both q k) h) s
+
+pub lacks_each : (xs : List Place) (x : PlainObject) → list_any (λ (p : Place). misfits p && occurs p.local x) xs ≡ false → LacksMisfits (map plain_place xs) (map own_place xs) x
+lacks_each [] x e = tt
+lacks_each (y ∷ ys) x e = (
+  lack_so (plain_place y).1 (own_place y).1 (occurs y.local x) (blank (plain_place y).1) (same_type (plain_place y).1 (own_place y).1) refl refl
+  (first_false (misfits y && occurs y.local x) (list_any (λ (p : Place). misfits p && occurs p.local x) ys) e),
+  lacks_each ys x (second_false (misfits y && occurs y.local x) (list_any (λ (p : Place). misfits p && occurs p.local x) ys) e),
+)
+
+pub lacks_not : (xs : List Place) (x : PlainObject) → list_any (λ (p : Place). misfits p && occurs p.local x) xs ≡ true → LacksMisfits (map plain_place xs) (map own_place xs) x → ⊥
+lacks_not [] x e f = cc
+lacks_not (y ∷ ys) x e f = ⊎_elim (λ h. no_lack (plain_place y).1 (own_place y).1 (occurs y.local x) h f.0) (λ h. lacks_not ys x h f.1)
+    (either (misfits y && occurs y.local x) (list_any (λ (p : Place). misfits p && occurs p.local x) ys) e)

@@ -96,6 +96,7 @@ fn reach_places<'a>(
 }
 
 /// The neutral, if the object is one whose head is the metavariable.
+#[tactic(auto, using(clf_syntax::specs::Plain::plain_laws))]
 fn same_head<'o>(meta: u32, obj: &'o Obj) -> Option<&'o Neutral>
     ensures { MatchOption result ((n : PlainNeutral) → plain_obj obj.now ≡ atomic n → head_of n ≡ Meta meta → ⊥)
         (λ n. (plain_obj obj.now ≡ atomic (plain_neutral n.now)) × (head_of (plain_neutral n.now) ≡ Meta meta)) }
