@@ -1,5 +1,6 @@
 -- Places with the same local in two lists.
 use Rattle.std.specs.Prelude.{ℕ, Bool, true, false, zero, suc, ◌+◌, ◌≡◌, ◌<◌, ◌≤◌, ◌⊎◌, ◌↔◌, nat_eq, if◌then◌else◌, List, [], ◌∷◌, ◌++◌, length, map, get_or, Option, Some, None, refl}
+use Rattle.std.specs.Option.{option_map}
 use Rattle.std.proofs.Common.{ap, sym, subst, ◌∙◌, arith, inl, inr, ⊎_elim}
 use Rattle.clf_syntax.proofs.OccursLaws.{not_both}
 use Rattle.pattern_laws.specs.Patterns.{Place as PlainPlace, blank, local_at, mask_at, Ends, NoCircle}
@@ -7,15 +8,20 @@ use Rattle.pattern_laws.proofs.Inverse.{local_within}
 use Rattle.celf_constraints.specs.declared.places.Place.{Place}
 use Rattle.celf_constraints.specs.Reading.{plain_place}
 use Rattle.reach_walk.specs.Answers.{KeepsAgreeing}
-use Rattle.celf_reach.specs.Agreeing.{AgreesAt}
+use Rattle.celf_reach.specs.Agreeing.{Agrees, AgreesAt}
 use Rattle.celf_reach.proofs.Masking.{push_there, push_before, push_length}
 
 -- ---- what stands at a place
 
-pub local_read : (xs : List Place) (u : ℕ) (x : Place) → u < length xs → x ≡ get_or xs u x → local_at (map plain_place xs) u ≡ (if blank (plain_place x).1 then None else Some x.local)
-local_read [] u x h e = absurd (omega arith)
-local_read (y ∷ ys) zero x h e = ap (λ (z : Place). if blank (plain_place z).1 then None else Some z.local) (sym e)
-local_read (y ∷ ys) (suc u) x h e = local_read ys u x (omega arith) e
+pub local_there : (xs : List Place) (u : ℕ) (d : Place) → u < length xs → local_at (map plain_place xs) u ≡ (if blank (plain_place (get_or xs u d)).1 then None else Some (get_or xs u d).local)
+local_there [] u d h = absurd (omega arith)
+local_there (y ∷ ys) zero d h = refl
+local_there (y ∷ ys) (suc u) d h = local_there ys u d (omega arith)
+
+pub read_same : (xs : List Place) (u : ℕ) (d e : Place) → u < length xs → get_or xs u d ≡ get_or xs u e
+read_same [] u d e h = absurd (omega arith)
+read_same (y ∷ ys) zero d e h = refl
+read_same (y ∷ ys) (suc u) d e h = read_same ys u d e (omega arith)
 
 pub local_past : (xs : List Place) (u : ℕ) → length xs ≤ u → local_at (map plain_place xs) u ≡ None
 local_past [] u h = refl
@@ -99,3 +105,12 @@ agreed_all ps zs n bs m e = (
 
 pub circle_there : (ps zs : List PlainPlace) (n : ℕ) (b : Bool) → (b ≡ true) ↔ AgreesAt ps zs n → b ≡ false → (Ends ps zs n → ⊥) → NoCircle ps zs → ⊥
 circle_there ps zs n b k e f c = not_both (k.1 (λ w i. ⊎_elim (λ h. h) (λ h. absurd (f h)) (c n w i))) e
+
+-- ---- the answer
+
+pub agreeing_none : {V : Type 0} (o : Option V) (items : V → List Bool) (ps zs : List PlainPlace) → Agrees ps zs (option_map items o) → o ≡ None → NoCircle ps zs → ⊥
+agreeing_none None items ps zs a e = a
+agreeing_none (Some v) items ps zs a e = absurd (cc)
+
+pub agreeing_some : {V : Type 0} (o : Option V) (v : V) (items : V → List Bool) (ps zs : List PlainPlace) → Agrees ps zs (option_map items o) → o ≡ Some v → KeepsAgreeing ps zs (items v)
+agreeing_some o v items ps zs a e = subst (λ n. Agrees ps zs (option_map items n)) e a

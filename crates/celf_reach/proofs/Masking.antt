@@ -2,9 +2,12 @@
 use Rattle.std.specs.Prelude.{ℕ, Bool, true, false, zero, suc, ◌+◌, ◌≡◌, ◌<◌, ◌≤◌, ◌⊎◌, ◌&&◌, ◌||◌, not, nat_eq, if◌then◌else◌, List, [], ◌∷◌, ◌++◌, length, map, get_or, Option, Some, None, refl}
 use Rattle.std.specs.List.{list_any}
 use Rattle.std.proofs.Common.{ap, sym, subst, ◌∙◌, arith, inl, inr, ⊎_elim}
+use Rattle.clf_syntax.specs.Occurs.{occurs}
+use Rattle.clf_syntax.specs.Tree.{PlainObject}
 use Rattle.clf_syntax.proofs.OccursLaws.{not_both, not_true}
 use Rattle.pattern_laws.specs.Patterns.{Place, blank, local_at, mask_at}
-use Rattle.reach_walk.specs.Marks.{MarksForeign}
+use Rattle.reach_walk.specs.Marks.{MarksForeign, marked_in}
+use Rattle.reach_walk.proofs.Marking.{marked_out, marked_there}
 use Rattle.celf_reach.specs.Masks.{has_local}
 
 pub mask_there : (bs : List Bool) (i : ℕ) → i < length bs → get_or bs i false ≡ mask_at bs i
@@ -140,3 +143,17 @@ single n xs ys m e j = ap (λ l. mask_at l j) e ∙ ⊎_elim
 
     beyond : (l k n j : ℕ) → l ≡ k + 1 → k ≡ n → n < j → l ≤ j
     beyond l k n j e f h = omega arith
+
+same_test : (a b : Bool) → (a ≡ true → b ≡ true) → (b ≡ true → a ≡ true) → a ≡ b
+same_test true b f g = sym (f refl)
+same_test false true f g = g refl
+same_test false false f g = refl
+
+-- With a mark at one local alone it is marked where that one occurs.
+pub marked_single : (bs : List Bool) (v : ℕ) (x : PlainObject) → ((j : ℕ) → mask_at bs j ≡ nat_eq j v) → marked_in bs 0 x ≡ occurs v x
+marked_single bs v x m = same_test (marked_in bs 0 x) (occurs v x)
+    (λ e. let (w, k, o) = marked_out bs 0 x e in subst (λ i. occurs i x ≡ true) (at_none w v (the_number w v (sym (m w) ∙ k))) o)
+    (λ e. marked_there bs 0 x v (m v ∙ own_number v) (subst (λ i. occurs i x ≡ true) (sym (at_none v v refl)) e))
+  where
+    at_none : (w v : ℕ) → w ≡ v → w + 0 ≡ v
+    at_none w v e = omega arith

@@ -1,5 +1,5 @@
 //! What an equation allows, looked at from one of its sides.
-ghost use Rattle.std.specs.Prelude.{◌≡◌, IfOk, MatchOption};
+ghost use Rattle.std.specs.Prelude.{◌≡◌, ◌↔◌, IfOk, IsTrue, MatchOption};
 ghost use Rattle.clf_syntax.specs.Plain.{plain_obj, plain_neutral};
 ghost use Rattle.clf_syntax.specs.PlainSimple.{plain_simple};
 ghost use Rattle.clf_syntax.specs.Simple.{SimplyTyped};
@@ -28,6 +28,7 @@ use std::alloc::Global;
 /// What the equation allows, looked at from this side: `No` exactly where it does not reach the other side, and else
 /// what its step may rest on. The tables have the simple types of constants and metavariables, and `locals` those of
 /// the locals, the oldest first; `ty` is the type of both sides.
+#[tactic(auto, using(clf_syntax::specs::Plain::plain_laws))]
 pub fn reach<'a>(
     alloc: Global,
     consts: &'a [Simple],
@@ -95,6 +96,16 @@ fn reach_places<'a>(
     }
 }
 
+/// Whether the head is the metavariable.
+fn is_meta(meta: u32, head: Head) -> bool
+    ensures { IsTrue result ↔ (head ≡ Meta meta) }
+{
+    match head {
+        Head::Meta(other) => other == meta,
+        Head::Const(_) | Head::Var(_) => false,
+    }
+}
+
 /// The neutral, if the object is one whose head is the metavariable.
 #[tactic(auto, using(clf_syntax::specs::Plain::plain_laws))]
 fn same_head<'o>(meta: u32, obj: &'o Obj) -> Option<&'o Neutral>
@@ -103,7 +114,7 @@ fn same_head<'o>(meta: u32, obj: &'o Obj) -> Option<&'o Neutral>
 {
     match obj {
         Obj::At { neutral } => {
-            if neutral.head == Head::Meta(meta) {
+            if is_meta(meta, neutral.head) {
                 Some(neutral)
             } else {
                 None
