@@ -114,3 +114,9 @@ agreeing_none (Some v) items ps zs a e = absurd (cc)
 
 pub agreeing_some : {V : Type 0} (o : Option V) (v : V) (items : V → List Bool) (ps zs : List PlainPlace) → Agrees ps zs (option_map items o) → o ≡ Some v → KeepsAgreeing ps zs (items v)
 agreeing_some o v items ps zs a e = subst (λ n. Agrees ps zs (option_map items n)) e a
+
+-- what is read of a mask
+pub held_read : (bs : List Bool) (i : ℕ) (b : Bool) → i < length bs → b ≡ get_or bs i b → b ≡ mask_at bs i
+held_read [] i b h e = absurd (omega arith)
+held_read (x ∷ xs) zero b h e = e
+held_read (x ∷ xs) (suc i) b h e = held_read xs i b (omega arith) e

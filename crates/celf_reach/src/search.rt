@@ -28,7 +28,6 @@ use std::alloc::Global;
 /// What the equation allows, looked at from this side: `No` exactly where it does not reach the other side, and else
 /// what its step may rest on. The tables have the simple types of constants and metavariables, and `locals` those of
 /// the locals, the oldest first; `ty` is the type of both sides.
-#[tactic(auto, using(clf_syntax::specs::Plain::plain_laws))]
 pub fn reach<'a>(
     alloc: Global,
     consts: &'a [Simple],
@@ -49,11 +48,21 @@ pub fn reach<'a>(
         metas,
         locals,
     };
-    match side {
-        Obj::At { neutral } => reach_neutral(alloc, &tables, ty, side, neutral, other),
-        Obj::Lam { .. } | Obj::Pair { .. } | Obj::Unit | Obj::Mon { .. } | Obj::Hole => {
-            Ok(Reach::No)
-        }
+    match as_neutral(side) {
+        Some(neutral) => reach_neutral(alloc, &tables, ty, side, neutral, other),
+        None => Ok(Reach::No),
+    }
+}
+
+/// The neutral, if the object is an atomic one.
+#[tactic(auto, using(clf_syntax::specs::Plain::plain_laws))]
+fn as_neutral<'o>(obj: &'o Obj) -> Option<&'o Neutral>
+    ensures { MatchOption result ((n : PlainNeutral) → plain_obj obj.now ≡ atomic n → ⊥)
+        (λ n. plain_obj obj.now ≡ atomic (plain_neutral n.now)) }
+{
+    match obj {
+        Obj::At { neutral } => Some(neutral),
+        Obj::Lam { .. } | Obj::Pair { .. } | Obj::Unit | Obj::Mon { .. } | Obj::Hole => None,
     }
 }
 
