@@ -82,12 +82,12 @@ agreed_more ps zs n bs cs b m k o e = record {
   sorts = λ u w h f. ⊎_elim
       (λ l. ⊎_elim (λ p. inl (p.0, before u l ∙ p.1)) (λ p. inr (p.0, p.1, before u l ∙ p.2)) (m.sorts u w l f))
       (λ s. ⊎_elim
-          (λ t. inl (ap (local_at zs) s ∙ k.0 t w (ap (local_at ps) (sym s) ∙ f), there u s ∙ t))
-          (λ t. inr (
-            λ g. not_both (k.1 (λ x i. ap (local_at zs) (sym s) ∙ g ∙ sym f ∙ ap (local_at ps) s ∙ i)) t,
-            subst (Ends ps zs) (sym s) (o t),
-            there u s ∙ t,
-          )) (cases_of b)) (last u n h);
+      (λ t. inl (ap (local_at zs) s ∙ k.0 t w (ap (local_at ps) (sym s) ∙ f), there u s ∙ t))
+      (λ t. inr (
+        λ g. not_both (k.1 (λ x i. ap (local_at zs) (sym s) ∙ g ∙ sym f ∙ ap (local_at ps) s ∙ i)) t,
+        subst (Ends ps zs) (sym s) (o t),
+        there u s ∙ t,
+      )) (cases_of b)) (last u n h);
 }
   where
     before : (u : ℕ) → u < n → mask_at cs u ≡ mask_at bs u

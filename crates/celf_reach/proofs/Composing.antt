@@ -1,7 +1,7 @@
 -- From what is read and found to the answers.
-use Rattle.std.specs.Prelude.{ℕ, ◌≡◌, ◌<◌, ◌⊎◌, Bool, true, false, List, [], ◌∷◌, ◌++◌, length, map, reverse, Option, Some, None, refl}
+use Rattle.std.specs.Prelude.{ℕ, ◌≡◌, Bool, List, [], length, map, reverse, Some}
 use Rattle.std.specs.Borrow.{Bor}
-use Rattle.std.proofs.Common.{ap, sym, subst, ◌∙◌, inl, inr, ⊎_elim}
+use Rattle.std.proofs.Common.{sym, subst, ◌∙◌, inl, inr, ⊎_elim}
 use Rattle.std.proofs.lemmas.List.{length-map, length-reverse}
 use Rattle.clf_syntax.specs.declared.tree.Head.TheVariants.{Meta}
 use Rattle.clf_syntax.specs.declared.tree.Simple.{Simple}
@@ -11,8 +11,8 @@ use Rattle.clf_syntax.specs.TypeTree.{SimpleType}
 use Rattle.clf_syntax.specs.PlainSimple.{plain_simple_entry}
 use Rattle.clf_syntax.specs.Simple.{SimplyTyped}
 use Rattle.clf_simple.specs.Scope.{scope}
-use Rattle.pattern_laws.specs.Equations.{Locals, scoped}
-use Rattle.pattern_laws.specs.Patterns.{Place, IsFinal, OnLocals, LacksMisfits, SameTypes, NoCircle, arrows, local_at}
+use Rattle.pattern_laws.specs.Equations.{scoped}
+use Rattle.pattern_laws.specs.Patterns.{Place, IsFinal, OnLocals, LacksMisfits, NoCircle}
 use Rattle.pattern_laws.proofs.Places.{same_types}
 use Rattle.celf_constraints.specs.declared.places.Places.{Places}
 use Rattle.celf_constraints.specs.Equated.{plain_locals}
@@ -46,7 +46,7 @@ scanned t a s types j x f eh em ec es w zs k d =
 -- What was told of what is found is an answer.
 pub told_answers : (t : Tables) (a : SimpleType) (p : Places) (x : PlainObject) (f : PlainFound) (bs : List Bool) (r : Reach) → Told f p r → MarksForeign (length (plain_locals t.locals.now)) (plain_places p) bs
     → ((zs : List Place) → MarksForeign (length (plain_locals t.locals.now)) zs bs → SimplyTyped (scoped (plain_locals t.locals.now) (heads_of t.consts.now t.metas.now)) x a
-        → Walked (heads_of t.consts.now t.metas.now) (plain_locals t.locals.now) p.meta zs [] x a f)
+    → Walked (heads_of t.consts.now t.metas.now) (plain_locals t.locals.now) p.meta zs [] x a f)
     → ((k : PlainNeutral) → x ≡ atomic k → head_of k ≡ Meta p.meta → ⊥) → LacksMisfits (plain_places p) (own_places p) x → (side : PlainObject) (n : PlainNeutral) → AnswersAt t a side n p x r
 told_answers t a p x f bs r w k walked h l side n e o s d = subst (λ y. Answers (heads_of t.consts.now t.metas.now) (plain_locals t.locals.now) a y x r) (sym e) (of r w)
   where

@@ -1,7 +1,7 @@
 -- Masks that grow by one mark.
-use Rattle.std.specs.Prelude.{ℕ, Bool, true, false, zero, suc, ◌+◌, ◌≡◌, ◌<◌, ◌≤◌, ◌⊎◌, ◌&&◌, ◌||◌, not, nat_eq, if◌then◌else◌, List, [], ◌∷◌, ◌++◌, length, map, get_or, Option, Some, None, refl}
+use Rattle.std.specs.Prelude.{ℕ, Bool, true, false, zero, suc, ◌+◌, ◌≡◌, ◌<◌, ◌≤◌, ◌⊎◌, ◌&&◌, ◌||◌, not, nat_eq, if◌then◌else◌, List, [], ◌∷◌, ◌++◌, length, map, get_or, Some, None, refl}
 use Rattle.std.specs.List.{list_any}
-use Rattle.std.proofs.Common.{ap, sym, subst, ◌∙◌, arith, inl, inr, ⊎_elim}
+use Rattle.std.proofs.Common.{ap, sym, subst, ◌∙◌, arith, ⊎_elim}
 use Rattle.clf_syntax.specs.Occurs.{occurs}
 use Rattle.clf_syntax.specs.Tree.{PlainObject}
 use Rattle.clf_syntax.proofs.OccursLaws.{not_both, not_true}
@@ -117,7 +117,7 @@ module _ {X : Type 0} (f : X → Place) where
     λ v e. ⊎_elim
         (λ l. (l, λ i h. not_both (among_in xs v i h) (not_false (list_any (λ x. has_local v (f x)) xs) (sym (m.each v l) ∙ e))))
         (λ l. absurd (not_both e (sym (mask_past bs v (subst (λ k. k ≤ v) (sym m.long) l))))) (cut v n),
-    λ v l h. m.each v l ∙ false_not (list_any (λ x. has_local v (f x)) xs) (not_true (list_any (λ x. has_local v (f x)) xs) (λ e. let (i, k) = among_out xs v e in h i k))
+    λ v l h. m.each v l ∙ false_not (list_any (λ x. has_local v (f x)) xs) (not_true (list_any (λ x. has_local v (f x)) xs) (λ e. let (i, k) = among_out xs v e in h i k)),
   )
     where
       cut : (v n : ℕ) → (v < n) ⊎ (n ≤ v)

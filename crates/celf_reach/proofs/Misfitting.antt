@@ -17,7 +17,7 @@ use Rattle.store_laws.specs.Mentions.{mentions}
 use Rattle.pattern_laws.specs.Patterns.{LacksMisfits, blank}
 use Rattle.celf_constraints.specs.declared.places.Place.{Place}
 use Rattle.celf_constraints.specs.declared.places.Places.{Places}
-use Rattle.celf_constraints.specs.Reading.{plain_place, own_place, plain_places, own_places}
+use Rattle.celf_constraints.specs.Reading.{plain_place, own_place, plain_places}
 use Rattle.reach_walk.specs.Fits.{FitsOwn}
 use Rattle.reach_walk.specs.Marks.{marked_in}
 use Rattle.reach_walk.specs.Walked.{Found as PlainFound}
@@ -185,7 +185,7 @@ pub lacks_each : (xs : List Place) (x : PlainObject) → list_any (λ (p : Place
 lacks_each [] x e = tt
 lacks_each (y ∷ ys) x e = (
   lack_so (plain_place y).1 (own_place y).1 (occurs y.local x) (blank (plain_place y).1) (same_type (plain_place y).1 (own_place y).1) refl refl
-  (first_false (misfits y && occurs y.local x) (list_any (λ (p : Place). misfits p && occurs p.local x) ys) e),
+      (first_false (misfits y && occurs y.local x) (list_any (λ (p : Place). misfits p && occurs p.local x) ys) e),
   lacks_each ys x (second_false (misfits y && occurs y.local x) (list_any (λ (p : Place). misfits p && occurs p.local x) ys) e),
 )
 

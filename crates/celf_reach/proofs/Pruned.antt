@@ -3,7 +3,7 @@ use Rattle.std.specs.Prelude.{ℕ, Bool, true, false, zero, suc, ◌+◌, ◌≡
 use Rattle.std.specs.List.{list_any}
 use Rattle.std.proofs.Common.{ap, sym, subst, ◌∙◌, arith, inl, inr, ⊎_elim}
 use Rattle.std.proofs.lemmas.List.{length-map}
-use Rattle.clf_syntax.specs.declared.tree.Head.TheVariants.{Var, Meta}
+use Rattle.clf_syntax.specs.declared.tree.Head.TheVariants.{Var}
 use Rattle.clf_syntax.specs.Tree.{atomic, PlainNeutral, head_alone}
 use Rattle.clf_syntax.specs.TypeTree.{SimpleType}
 use Rattle.clf_syntax.specs.Simple.{Assignment}
@@ -23,7 +23,7 @@ use Rattle.celf_reach.specs.Masks.{is_kept, PrunesTo}
 pub variable_marked : (n : ℕ) (ps : List Place) (bs : List Bool) → MarksForeign n ps bs → (d i : ℕ) → (is_marked bs d (Var i) ≡ true) ↔ Foreign n ps d i
 variable_marked n ps bs k d i = (
   λ e. let (v, m, o) = marked_out_neutral bs d (head_alone (Var i)) e in subst (Foreign n ps d) (sym (the_number i (v + d) o)) (marked_foreign n ps bs k d v m),
-  λ f. let (v, h, m) = foreign_marked n ps bs k d i f in marked_there_neutral bs d (head_alone (Var i)) v m (subst (λ j. occurs_neutral j (head_alone (Var i)) ≡ true) h (own_number i))
+  λ f. let (v, h, m) = foreign_marked n ps bs k d i f in marked_there_neutral bs d (head_alone (Var i)) v m (subst (λ j. occurs_neutral j (head_alone (Var i)) ≡ true) h (own_number i)),
 )
   where
     the_number : (i v : ℕ) → occurs_neutral v (head_alone (Var i)) ≡ true → i ≡ v
@@ -110,5 +110,10 @@ pub pruned_to : (g : Assignment) (ls : Locals) (ps : List Place) (ds : Locals) (
     → (o : Option (ℕ × List Bool)) → PrunesTo bs (length ds) k zs o → IsPruned g ls ps ds (atomic n) t o
 pruned_to g ls ps ds bs m n k zs t d None e = λ w o f. let (i, h) = occurs_on zs k w (subst (λ y. occurs_neutral w y ≡ true) d.neutral o) in
     not_both ((variable_marked (length ls) ps bs m (length ds) w).1 f) (none_taken bs (length ds) zs e i w h)
-pruned_to g ls ps ds bs m n k zs t d (Some p) e = ([], n, t, standing_here,
-    (zs, subst (λ j. OnDistinct (scoped (ds ++ ls) g) n j zs t) (sym e.0) d, subst (TakesForeign (length ls) ps (length ds) zs) (sym e.1) (takes_foreign (length ls) ps bs m (length ds) zs (subst (λ y. list_any not y ≡ true) e.1 e.2))))
+pruned_to g ls ps ds bs m n k zs t d (Some p) e = (
+  [],
+  n,
+  t,
+  standing_here,
+  (zs, subst (λ j. OnDistinct (scoped (ds ++ ls) g) n j zs t) (sym e.0) d, subst (TakesForeign (length ls) ps (length ds) zs) (sym e.1) (takes_foreign (length ls) ps bs m (length ds) zs (subst (λ y. list_any not y ≡ true) e.1 e.2))),
+)

@@ -1,15 +1,15 @@
 -- Where a walk stands, and what is found there, step by step.
-use Rattle.std.specs.Prelude.{ℕ, Bool, true, false, ◌+◌, ◌-◌, ◌≡◌, ◌⊎◌, ◌↔◌, ◌&&◌, nat_eq, not, List, [], ◌∷◌, ◌++◌, length, map, reverse, Option, Some, None, refl}
+use Rattle.std.specs.Prelude.{ℕ, Bool, true, false, ◌+◌, ◌-◌, ◌≡◌, ◌↔◌, nat_eq, not, List, [], ◌∷◌, ◌++◌, length, map, Option, Some, None, refl}
 use Rattle.std.specs.List.{slice_get}
 use Rattle.std.specs.Borrow.{Bor}
-use Rattle.std.proofs.Common.{ap, sym, subst, ◌∙◌, arith, inl, inr, ⊎_elim}
+use Rattle.std.proofs.Common.{ap, sym, subst, ◌∙◌, arith}
 use Rattle.std.proofs.lemmas.List.{length-append, length-map, length-reverse}
 use Rattle.clf_syntax.specs.declared.tree.Mode.{Mode}
 use Rattle.clf_syntax.specs.declared.tree.Head.{Head}
 use Rattle.clf_syntax.specs.declared.tree.Head.TheVariants.{Const, Var, Meta}
 use Rattle.clf_syntax.specs.declared.tree.Simple.{Simple}
 use Rattle.clf_syntax.specs.Tree.{PlainObject, lam, pair, unit, monadic, atomic, hole, PlainNeutral, head_alone, app, fst, snd, PlainExpression, head_of, PlainElimination, arg, first, second, eliminated, spine_on}
-use Rattle.clf_syntax.specs.TypeTree.{SimpleType, base, arrow, simple_with, simple_top, lax}
+use Rattle.clf_syntax.specs.TypeTree.{SimpleType, arrow, simple_with}
 use Rattle.clf_syntax.specs.PlainSimple.{plain_simple}
 use Rattle.clf_syntax.specs.Simple.{Assignment, SimplyTyped, SimplyTypedNeutral}
 use Rattle.hered_subst.specs.TypedEnvironments.{is_metavariable}
@@ -140,9 +140,10 @@ finds_hole s types t f ls ds ps h p = absurd (cc)
 marked_at : (s : Sought) (types : List (Bor Simple)) (ls ds : Locals) (ps : List Place) (x : PlainObject) → Situated s types ls ds ps
     → (marked_in s.marks.now (length types - s.count) x ≡ false → NoForeign (length ls) ps (length ds) x) × (NoForeign (length ls) ps (length ds) x → marked_in s.marks.now (length types - s.count) x ≡ false)
 marked_at s types ls ds ps x h =
-    let e = situated_depth s types ls ds ps h in
-    (λ f. none_marked (length ls) ps s.marks.now h.marks (length ds) x (subst (λ d. marked_in s.marks.now d x ≡ false) e f),
-    λ f. subst (λ d. marked_in s.marks.now d x ≡ false) (sym e) (some_marked (length ls) ps s.marks.now h.marks (length ds) x f))
+    let e = situated_depth s types ls ds ps h in (
+      λ f. none_marked (length ls) ps s.marks.now h.marks (length ds) x (subst (λ d. marked_in s.marks.now d x ≡ false) e f),
+      λ f. subst (λ d. marked_in s.marks.now d x ≡ false) (sym e) (some_marked (length ls) ps s.marks.now h.marks (length ds) x f),
+    )
 
 pub finds_monadic : (s : Sought) (types : List (Bor Simple)) (e : PlainExpression) (t : SimpleType) → Finds s types (monadic e) t (loose_found (mentions s.meta (monadic e)) (marked_in s.marks.now (length types - s.count) (monadic e)))
 finds_monadic s types e t ls ds ps h p = let (a, b) = marked_at s types ls ds ps (monadic e) h in walked_monadic (sought_heads s) ls s.meta ps ds e t (marked_in s.marks.now (length types - s.count) (monadic e)) a b
@@ -169,9 +170,11 @@ pub so_far_app : (s : Sought) (types : List (Bor Simple)) (n : PlainNeutral) (u 
     → Finds s types x q.0 j → SoFar s types (app k n x) q.1 (both f j)
 so_far_app s types n u f k x q j w e o ls ds ps h t p =
     let (a, b) = w ls ds ps h (arrow k p.0 t) p.1 in
-    let (y, z) = function_type u q e k p.0 t (sym a) in
-    (sym z, walked_app (sought_heads s) ls s.meta ps ds k n x p.0 t p.1 f j b
-    (subst (λ d. Walked (sought_heads s) ls s.meta ps ds x d j) y (o ls ds ps h (subst (SimplyTyped (scoped (ds ++ ls) (sought_heads s)) x) (sym y) p.2))))
+    let (y, z) = function_type u q e k p.0 t (sym a) in (
+      sym z,
+      walked_app (sought_heads s) ls s.meta ps ds k n x p.0 t p.1 f j b
+          (subst (λ d. Walked (sought_heads s) ls s.meta ps ds x d j) y (o ls ds ps h (subst (SimplyTyped (scoped (ds ++ ls) (sought_heads s)) x) (sym y) p.2))),
+    )
 
 -- Along a spine: what is left of it stands under what was walked.
 pub record Along (s : Sought) (types : List (Bor Simple)) (es : List PlainElimination) (start : PlainNeutral) (left : List PlainElimination) (u : SimpleType) (f : PlainFound) : Type 0 where
@@ -220,7 +223,7 @@ pub so_far_head : (s : Sought) (types : List (Bor Simple)) (h : Head) (u : Simpl
     → SoFar s types (head_alone h) u (record { clash = b; free = not b; prune = None })
 so_far_head s types h u b k e f ls ds ps w t p = (
   one_type (sym p ∙ sym (head_typed s types ls ds ps h w e) ∙ sym f),
-  subst (λ y. WalkedBelow (sought_heads s) ls s.meta ps ds (head_alone h) (record { clash = y; free = not y; prune = None })) (sym k) (head_found s types ls ds ps h w e)
+  subst (λ y. WalkedBelow (sought_heads s) ls s.meta ps ds (head_alone h) (record { clash = y; free = not y; prune = None })) (sym k) (head_found s types ls ds ps h w e),
 )
 
 -- ---- atomic objects

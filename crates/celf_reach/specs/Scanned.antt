@@ -5,7 +5,6 @@ use Rattle.std.specs.Borrow.{Bor}
 use Rattle.clf_syntax.specs.declared.tree.Simple.{Simple}
 use Rattle.clf_syntax.specs.Tree.{PlainObject, PlainNeutral}
 use Rattle.clf_syntax.specs.TypeTree.{SimpleType}
-use Rattle.clf_syntax.specs.PlainSimple.{plain_simple}
 use Rattle.clf_syntax.specs.Simple.{SimplyTyped, SimplyTypedNeutral}
 use Rattle.pattern_laws.specs.Equations.{Locals, scoped}
 use Rattle.pattern_laws.specs.Patterns.{Place, OnLocals}
@@ -14,7 +13,6 @@ use Rattle.celf_constraints.specs.Reading.{plain_places, own_places}
 use Rattle.reach_walk.specs.Walked.{Found as PlainFound, Walked, WalkedBelow}
 use Rattle.celf_reach.specs.declared.found.Found.{Found}
 use Rattle.celf_reach.specs.declared.found.Prune.{Prune}
-use Rattle.celf_reach.specs.declared.scan.Walking.{Walking}
 use Rattle.celf_reach.specs.declared.tables.Sought.{Sought}
 use Rattle.celf_reach.specs.Sought.{Situated, sought_heads}
 

@@ -1,5 +1,5 @@
 -- Inner: what contracts see of what is sought in the other side.
-use Rattle.std.specs.Prelude.{ℕ, ◌≡◌, List, ◌++◌, length, map, Option, Some, None}
+use Rattle.std.specs.Prelude.{◌≡◌, List, ◌++◌, length, map, Option, Some, None}
 use Rattle.std.specs.List.{slice_get}
 use Rattle.std.specs.Borrow.{Bor}
 use Rattle.clf_syntax.specs.declared.tree.Head.{Head}

@@ -24,7 +24,12 @@ fn is_kept(marks: &[bool], depth: u64, place: &Place<'_>) -> bool
 }
 
 /// For each place whether it is kept.
-fn mask_of(alloc: Global, marks: &[bool], depth: u64, places: &[Place<'_>]) -> Result<Vec<bool>, AllocError>
+fn mask_of(
+    alloc: Global,
+    marks: &[bool],
+    depth: u64,
+    places: &[Place<'_>],
+) -> Result<Vec<bool>, AllocError>
     ensures { IfOk result (λ mask. mask.items ≡ map (λ p. is_kept_of marks.now depth (plain_place p)) places.now) }
 {
     let mut mask = Vec::new(alloc);

@@ -2,7 +2,6 @@ use Rattle.std.specs.Prelude.{ℕ, ◌≡◌, Bool, List, map, not, refl}
 use Rattle.std.specs.List.{list_any}
 use Rattle.std.proofs.Common.{ap, sym, ◌∙◌}
 use Rattle.std.proofs.lemmas.Simd.{map-map}
-use Rattle.pattern_laws.specs.Patterns.{Place as PlainPlace}
 use Rattle.celf_constraints.specs.declared.places.Place.{Place}
 use Rattle.celf_constraints.specs.Reading.{plain_place}
 use Rattle.celf_reach.specs.Masks.{is_kept}

@@ -24,8 +24,8 @@ loop-place-preserved c =
     agreed_more (plain_places c.args.places.now) (plain_places c.args.others.now) c.loop-place.place c.loop-place.mask.items c.push.new.self.items c.agrees-same.result c.loop-place.invariant
     (subst (λ l. (c.agrees-same.result ≡ true) ↔ AgreesAt (plain_places c.args.places.now) (map plain_place l) c.loop-place.place) c.as_slice.ensures.value
     (subst (λ l. (c.agrees-same.result ≡ true) ↔ AgreesAt (map plain_place l) (map plain_place c.as_slice.result.now) c.loop-place.place) c.as_slice-here.ensures.value c.agrees-same.ensures)) (λ f. elim c.else-not-same.branch [
-      else-not-same-via-then-not-same+else-not-index w ↦ (c.in_ok-ended.ensures.ends c.loop-place.place).0 (sym (held_read c.in_ok-ended.ended.items c.loop-place.place w.index.result.now lt w.index.ensures) ∙ w.if-not-index.false)
-    | else-not-same-via-else-not-same w ↦ absurd (not_both w.if-not-same.false f)
+      | else-not-same-via-then-not-same+else-not-index w ↦ (c.in_ok-ended.ensures.ends c.loop-place.place).0 (sym (held_read c.in_ok-ended.ended.items c.loop-place.place w.index.result.now lt w.index.ensures) ∙ w.if-not-index.false)
+      | else-not-same-via-else-not-same w ↦ absurd (not_both w.if-not-same.false f)
     ]) c.in_ok-push.ensures.items
 
 pub returns : goal.returns

@@ -1,4 +1,4 @@
-use Rattle.std.specs.Prelude.{◌≡◌, ◌<◌, Bool, true, false, not, length, map, get_or, refl}
+use Rattle.std.specs.Prelude.{◌<◌, not, length, map, get_or, refl}
 use Rattle.std.proofs.Common.{ap, sym, ◌∙◌, arith}
 use Rattle.clf_syntax.specs.PlainSimple.{plain_simple}
 use Rattle.pattern_laws.specs.Patterns.{blank}

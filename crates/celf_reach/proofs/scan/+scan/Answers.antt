@@ -1,4 +1,4 @@
-use Rattle.std.specs.Prelude.{◌∷◌, ◌+◌, ◌<◌, ◌≡◌, length, map}
+use Rattle.std.specs.Prelude.{◌+◌, ◌<◌, length, map}
 use Rattle.std.proofs.Common.{ap, sym, subst, ◌∙◌, arith, ⊎_elim, drop}
 use Rattle.std.proofs.Math.ListN.{drop_of_length-le}
 use Rattle.std.proofs.lemmas.Result.{IfOk-weaker}
@@ -9,7 +9,7 @@ use Rattle.clf_syntax.proofs.Next.{dropped}
 use Rattle.clf_simple.specs.Scope.{scope}
 use Rattle.clf_simple.proofs.Lists.{neutral_head}
 use Rattle.hered_subst.specs.TypedEnvironments.{is_metavariable}
-use Rattle.reach_walk.specs.Walked.{nothing, both}
+use Rattle.reach_walk.specs.Walked.{both}
 use Rattle.celf_reach.specs.Scanned.{plain_found, Finds, FindsBelow, SoFar}
 use Rattle.celf_reach.specs.Sought.{plain_parts}
 use Rattle.celf_reach.proofs.Situations.{finds_as, so_far_as, finds_loose, finds_no_lam, finds_lam, finds_no_pair, finds_pair, finds_monadic, finds_rigid, finds_untyped, so_far_fst, so_far_snd, so_far_app, so_far_no_app, Along, along_more, along_end}

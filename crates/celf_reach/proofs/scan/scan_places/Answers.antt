@@ -1,6 +1,6 @@
 use Rattle.std.specs.Prelude.{not, refl}
 use Rattle.std.specs.Option.{option_map}
-use Rattle.std.proofs.Common.{ap, sym, subst, ◌∙◌, arith}
+use Rattle.std.proofs.Common.{ap, sym, subst, ◌∙◌}
 use Rattle.std.proofs.lemmas.Result.{IfOk-weaker}
 use Rattle.clf_syntax.specs.Plain.{plain_obj}
 use Rattle.celf_constraints.specs.Reading.{plain_places}

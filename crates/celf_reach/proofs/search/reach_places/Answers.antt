@@ -1,21 +1,17 @@
-use Rattle.std.specs.Prelude.{map}
-use Rattle.std.proofs.Common.{ap, sym, subst, ◌∙◌}
+use Rattle.std.proofs.Common.{sym, subst, ◌∙◌}
 use Rattle.std.proofs.lemmas.Result.{IfOk-weaker}
-use Rattle.clf_syntax.specs.Plain.{plain_obj, plain_neutral, plain-At}
+use Rattle.clf_syntax.specs.Plain.{plain_obj}
 use Rattle.clf_syntax.specs.PlainSimple.{plain_simple}
 use Rattle.clf_syntax.specs.Simple.{SimplyTyped}
-use Rattle.clf_syntax.specs.Tree.{atomic}
 use Rattle.pattern_laws.specs.Equations.{scoped}
 use Rattle.pattern_laws.specs.Patterns.{LacksMisfits}
 use Rattle.celf_constraints.specs.Equated.{plain_locals}
-use Rattle.celf_constraints.specs.Reading.{ReadsLocals, plain_places, own_places}
+use Rattle.celf_constraints.specs.Reading.{plain_places, own_places}
 use Rattle.reach_laws.specs.Reach.{Reaches}
 use Rattle.reach_walk.proofs.OneReading.{stands_final}
-use Rattle.reach_walk.proofs.Reaching.{unread_no, misfit_no, same_unread_no, same_misfit_no, circle_no}
+use Rattle.reach_walk.proofs.Reaching.{misfit_no}
 use Rattle.celf_reach.specs.Answered.{types_in, heads_of}
 use Rattle.celf_reach.specs.Asked.{AnswersAt}
-use Rattle.celf_reach.proofs.Agreed.{agreeing_none, agreeing_some}
-use Rattle.celf_reach.proofs.Composing.{same_answers}
 use Rattle.celf_reach.proofs.Misfitting.{lacks_each, lacks_not}
 use Rattle.celf_reach.proofs.search.reach_places.Goals as goal
 
