@@ -1,0 +1,17 @@
+pub use Rattle.clf_syntax.specs.Tree
+pub use Rattle.clf_syntax.specs.TypeTree
+pub use Rattle.clf_syntax.specs.Plain
+pub use Rattle.clf_syntax.specs.PlainSimple
+pub use Rattle.pattern_laws.specs.Equations
+pub use Rattle.pattern_laws.specs.Patterns
+pub use Rattle.reach_laws.specs.Reach
+pub use Rattle.celf_constraints.specs.Equated
+pub use Rattle.celf_constraints.specs.Reading
+pub use Rattle.reach_walk.specs.Answers
+pub mod Answered
+pub mod Masks
+pub mod Misfits
+pub mod Agreeing
+pub mod Asked
+pub mod Sought
+pub mod Scanned

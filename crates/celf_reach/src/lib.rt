@@ -1,0 +1,16 @@
+//! What an equation allows, looked at from one of its sides.
+#![tactic(auto)]
+
+mod answer;
+mod fits;
+mod found;
+mod marks;
+mod masks;
+mod same;
+mod scan;
+mod search;
+mod tables;
+mod types;
+
+pub use answer::Reach;
+pub use search::reach;
