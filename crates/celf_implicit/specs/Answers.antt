@@ -25,6 +25,11 @@ abbrev pub IsOutcome : PlainSignature → DesugaredBody → Result (List Implici
 IsOutcome sig body (Ok xs) = AreAll sig body xs
 IsOutcome sig body (Err v) = undetermined sig body ≡ Some v
 
+-- these, unless one is left
+abbrev pub unless_left : List Implicit → Option Variable → Result (List Implicit) Variable
+unless_left xs None = Ok xs
+unless_left xs (Some v) = Err v
+
 -- The answer is all implicit variables, each determined; or the first of those in the text that no round determines.
 abbrev pub IsAnswer : PlainSignature → DesugaredItem → Result (List Implicit) (OrWide Variable) → Type 0
 IsAnswer sig item (Ok xs) = AreAll sig item.body xs

@@ -13,14 +13,15 @@ use Rattle.celf_sugar.specs.PlainTree.{DesugaredObject, DesugaredAct, DesugaredS
 use Rattle.celf_places.specs.Locals.{Declared, plain_place, plain_locals}
 use Rattle.celf_places.specs.Heads.{local_from}
 use Rattle.celf_places.specs.Places.{Place, next_part, behind_act}
-use Rattle.celf_places.specs.Along.{left_along}
+use Rattle.celf_places.specs.Combined.{combined}
+use Rattle.celf_places.specs.Along.{read_along, stateless, left_along}
 use Rattle.celf_places.specs.SimpleTypes.{local_of}
 use Rattle.celf_implicit.specs.declared.variable.Variable.{Variable}
 use Rattle.celf_implicit.specs.declared.notes.Notes.{Notes}
 use Rattle.celf_implicit.specs.declared.applied.AppliedLocal.{AppliedLocal as DeclaredLocal}
 use Rattle.celf_implicit.specs.Scopes.{Binders, Scope, under}
 use Rattle.celf_implicit.specs.Variables.{PlainImplicit, has_name, is_among, head_place}
-use Rattle.celf_implicit.specs.Occurrences.{AppliedLocal, applied_local, Occurrence, inside, at_head, after_step, after_steps, in_object, in_spine, in_act, in_steps, in_tuple, in_indices, in_type, in_telescope}
+use Rattle.celf_implicit.specs.Occurrences.{AppliedLocal, applied_local, local_argument, locals_applied_to, Occurrence, inside, at_head, after_step, after_steps, in_object, in_spine, in_act, in_steps, in_tuple, in_indices, in_type, in_telescope}
 use Rattle.celf_implicit.specs.Rounds.{start, begins, standing, argument_of, from_locals, determined_by}
 use Rattle.celf_implicit.specs.Answers.{plain_implicit}
 
@@ -65,6 +66,14 @@ plain_applied a = record { mode = a.mode; number = a.number; place = plain_place
 -- a name as an argument, in a mode that is written
 abbrev pub local_written : Binders → SMode → PName → Option AppliedLocal
 local_written bs m n = if n.dollar then None else option_map (applied_local bs.modes m) (local_from 0 n.name bs.locals)
+
+-- an argument, read along a spine without a state
+abbrev pub local_along : Binders → Unit {0} → DesugaredAct → Option AppliedLocal
+local_along bs u a = local_argument bs a
+
+pub locals-along : (bs : Binders) (u : Unit {0}) (as_ : List DesugaredAct) → locals_applied_to bs (spine_of as_) ≡ read_along (local_along bs) stateless u as_
+locals-along bs u [] = refl
+locals-along bs u (a ∷ as_) = ap (combined (◌∷◌) (local_argument bs a)) (locals-along bs u as_)
 
 -- what a name says of its variable where it is applied to these locals
 abbrev pub determined_name : PName → List AppliedLocal → Place → PlainImplicit

@@ -165,7 +165,7 @@ pub fn distinct_locals<'a>(
 }
 
 fn where_distinct(locals: Items<AppliedLocal>) -> Option<Items<AppliedLocal>>
-    ensures { option_map (map plain_applied) result ≡ spec.where_distinct (map plain_applied locals) }
+    ensures { option_map (map plain_applied) result ≡ spec.where_distinct (map plain_applied locals.entry) }
 {
     if are_distinct(locals.as_slice()) {
         Some(locals)
@@ -207,7 +207,8 @@ fn from_local(
 ) -> Result<Option<Boxed<Simple>>, AllocError>
     ensures { IfOk result (λ t.
         plain_place t
-        ≡ combined (arrow local.mode) (plain_place (option_copied local.place)) (plain_place codomain)) }
+        ≡ combined (arrow local.entry.mode) (plain_place (option_copied local.entry.place))
+        (plain_place codomain)) }
 {
     match (copied(alloc, local.place)?, codomain) {
         (Some(dom), Some(cod)) => Ok(Some(Boxed::new(

@@ -3,7 +3,7 @@
 
 mod applied;
 mod binders;
-mod given;
+mod heads;
 mod items;
 mod notes;
 mod objects;

@@ -1,21 +1,24 @@
 //! The occurrences of implicit variables in objects.
-ghost use Rattle.std.specs.Prelude.{◌≡◌, None, map, IfOk, OnOk, option_copied, option_map, option_and_then};
+ghost use Rattle.std.specs.Prelude.{◌≡◌, ◌++◌, map, IfOk, OnOk, option_copied, option_map, option_and_then};
 ghost use Rattle.clf_syntax.specs.PlainSimple.{plain_simple_entry};
 ghost use Rattle.clf_sig.specs.Signature.{plain_signature};
 ghost use Rattle.celf_sugar.specs.PlainTree.{spine_of};
 ghost use Rattle.celf_sugar.specs.Plain.{desugared_object, desugared_expression, desugared_elim, desugared_step, desugared_marked};
 ghost use Rattle.celf_places.specs.Locals.{plain_place};
 ghost use Rattle.celf_places.specs.Along.{left_along};
+ghost use Rattle.celf_implicit.specs.Variables.{is_open_name};
 ghost use Rattle.celf_implicit.specs.Occurrences as spec;
 ghost use Rattle.celf_implicit.specs.Answers.{plain_implicit};
 ghost use Rattle.celf_implicit.specs.Noting.{plain_notes, plain_scope, noted, after_act, after_one_step, after_marked};
 
 use crate::applied::distinct_locals;
 use crate::binders::Binders;
-use crate::given::Given;
+use crate::heads::{head_place, is_open};
 use crate::notes::Notes;
+use crate::variable::Implicit;
 use celf_places::{behind_act, behind_spine, entries_at, function_parts, marked, next_part, pair_parts};
 use celf_sugar::{PElim, PExpr, PMarked, PName, PObj, PObjForm, PStep};
+use clf_sig::Signature;
 use clf_syntax::{Shortage, Simple, SimpleEntry};
 use std::alloc::Global;
 
@@ -25,15 +28,16 @@ use std::alloc::Global;
 pub fn note_object<'a>(
     obj: &'a PObj,
     alloc: Global,
-    given: &Given<'a>,
+    sig: &'a Signature,
+    found: &'a [Implicit],
     binders: &Binders<'a>,
     checked: bool,
     place: Option<&'a Simple>,
     notes: &mut Notes,
 ) -> Result<(), Shortage>
     ensures { OnOk result (plain_notes notes.new
-        ≡ noted (map plain_implicit given.now.found.now) (plain_notes notes.old)
-        (spec.in_object (plain_signature given.now.sig.now) (map plain_implicit given.now.found.now)
+        ≡ noted (map plain_implicit found.now) (plain_notes notes.old)
+        (spec.in_object (plain_signature sig.now) (map plain_implicit found.now)
         (plain_scope binders.now checked) (plain_place (option_copied place.entry)) (desugared_object obj.now))) }
 {
     match &obj.form {
@@ -43,7 +47,7 @@ pub fn note_object<'a>(
             note_object(
                 body.get(),
                 alloc,
-                given,
+                sig, found,
                 &inner,
                 checked,
                 parts.codomain,
@@ -52,18 +56,18 @@ pub fn note_object<'a>(
         }
         PObjForm::Pair { left, right } => {
             let parts = pair_parts(place);
-            note_object(left.get(), alloc, given, binders, checked, parts.left, notes)?;
-            note_object(right.get(), alloc, given, binders, checked, parts.right, notes)
+            note_object(left.get(), alloc, sig, found, binders, checked, parts.left, notes)?;
+            note_object(right.get(), alloc, sig, found, binders, checked, parts.right, notes)
         }
         PObjForm::Mon { expr } => {
-            note_expression(expr, alloc, given, binders, checked, entries_at(place), notes)
+            note_expression(expr, alloc, sig, found, binders, checked, entries_at(place), notes)
         }
         PObjForm::At { head, spine } => {
             let spine = spine.as_slice();
-            let open = given.is_open(binders, head)?;
-            note_head(alloc, given, binders, checked, open, head, Some(spine), place, notes)?;
-            let own = given.head_place(binders, head)?;
-            note_spine(spine, alloc, given, binders, checked && !open, own, notes)
+            let loose = is_open(sig, found, binders, head)?;
+            note_head(alloc, sig, found, binders, checked, loose, head, Some(spine), place, notes)?;
+            let own = head_place(sig, found, binders, head)?;
+            note_spine(spine, alloc, sig, found, binders, checked && !loose, own, notes)
         }
         PObjForm::Unit | PObjForm::Hole => Ok(()),
     }
@@ -73,25 +77,26 @@ pub fn note_object<'a>(
 /// right side of a `let`.
 fn note_head<'a>(
     alloc: Global,
-    given: &Given<'a>,
+    sig: &'a Signature,
+    found: &'a [Implicit],
     binders: &Binders<'a>,
     checked: bool,
-    open: bool,
+    loose: bool,
     head: &PName,
     spine: Option<&[PElim]>,
     place: Option<&'a Simple>,
     notes: &mut Notes,
 ) -> Result<(), Shortage>
-    requires { open ≡ is_open_name (plain_signature given.now.sig.now) (map plain_implicit given.now.found.now)
+    requires { loose ≡ is_open_name (plain_signature sig.now) (map plain_implicit found.now)
         (plain_scope binders.now checked).binders.locals head.now }
     ensures { OnOk result (plain_notes notes.new
-        ≡ noted (map plain_implicit given.now.found.now) (plain_notes notes.old)
-        (spec.at_head (plain_signature given.now.sig.now) (plain_scope binders.now checked)
+        ≡ noted (map plain_implicit found.now) (plain_notes notes.old)
+        (spec.at_head (plain_signature sig.now) (map plain_implicit found.now) (plain_scope binders.now checked)
         (option_and_then (λ es. spec.distinct_locals (plain_scope binders.now checked).binders
         (spine_of (map desugared_elim es))) (option_copied spine.entry))
         (plain_place (option_copied place.entry)) head.now)) }
 {
-    if !open {
+    if !loose {
         return Ok(());
     }
     notes.note_open(alloc, head)?;
@@ -111,20 +116,21 @@ fn note_head<'a>(
 fn note_spine<'a>(
     spine: &'a [PElim],
     alloc: Global,
-    given: &Given<'a>,
+    sig: &'a Signature,
+    found: &'a [Implicit],
     binders: &Binders<'a>,
     checked: bool,
     place: Option<&'a Simple>,
     notes: &mut Notes,
 ) -> Result<(), Shortage>
     ensures { OnOk result (plain_notes notes.new
-        ≡ (left_along (after_act (plain_signature given.now.sig.now) (map plain_implicit given.now.found.now)
+        ≡ (left_along (after_act (plain_signature sig.now) (map plain_implicit found.now)
         (plain_scope binders.now checked)) (plain_notes notes.old, plain_place (option_copied place.entry))
         (map desugared_elim spine.now)).0) }
 {
     let mut place = place;
     for act in spine {
-        note_act(act, alloc, given, binders, checked, place, notes)?;
+        note_act(act, alloc, sig, found, binders, checked, place, notes)?;
         place = behind_act(place, act);
     }
     Ok(())
@@ -135,20 +141,21 @@ fn note_spine<'a>(
 fn note_act<'a>(
     act: &'a PElim,
     alloc: Global,
-    given: &Given<'a>,
+    sig: &'a Signature,
+    found: &'a [Implicit],
     binders: &Binders<'a>,
     checked: bool,
     place: Option<&'a Simple>,
     notes: &mut Notes,
 ) -> Result<(), Shortage>
     ensures { OnOk result (plain_notes notes.new
-        ≡ noted (map plain_implicit given.now.found.now) (plain_notes notes.old)
-        (spec.in_act (plain_signature given.now.sig.now) (map plain_implicit given.now.found.now)
+        ≡ noted (map plain_implicit found.now) (plain_notes notes.old)
+        (spec.in_act (plain_signature sig.now) (map plain_implicit found.now)
         (plain_scope binders.now checked) (plain_place (option_copied place.entry)) (desugared_elim act.now))) }
 {
     match act {
         PElim::Arg { mode: _, obj } => {
-            note_object(obj, alloc, given, binders, checked, function_parts(place).domain, notes)
+            note_object(obj, alloc, sig, found, binders, checked, function_parts(place).domain, notes)
         }
         PElim::First | PElim::Second => Ok(()),
     }
@@ -160,27 +167,28 @@ fn note_act<'a>(
 fn note_expression<'a>(
     expr: &'a PExpr,
     alloc: Global,
-    given: &Given<'a>,
+    sig: &'a Signature,
+    found: &'a [Implicit],
     outer: &Binders<'a>,
     outer_checked: bool,
     wanted: &'a [SimpleEntry],
     notes: &mut Notes,
 ) -> Result<(), Shortage>
     ensures { OnOk result (plain_notes notes.new
-        ≡ noted (map plain_implicit given.now.found.now) (plain_notes notes.old) (spec.in_steps
-        (plain_signature given.now.sig.now) (map plain_implicit given.now.found.now)
+        ≡ noted (map plain_implicit found.now) (plain_notes notes.old) (spec.in_steps
+        (plain_signature sig.now) (map plain_implicit found.now)
         (plain_scope outer.now outer_checked) (desugared_expression expr.now).0
-        ++ spec.in_tuple (plain_signature given.now.sig.now) (map plain_implicit given.now.found.now)
-        (spec.after_steps (plain_signature given.now.sig.now) (map plain_implicit given.now.found.now)
+        ++ spec.in_tuple (plain_signature sig.now) (map plain_implicit found.now)
+        (spec.after_steps (plain_signature sig.now) (map plain_implicit found.now)
         (plain_scope outer.now outer_checked) (desugared_expression expr.now).0)
         (map plain_simple_entry wanted.now) (desugared_expression expr.now).1)) }
 {
     let mut binders = outer.copy(alloc)?;
     let mut checked = outer_checked;
     for step in expr.steps.as_slice() {
-        checked = note_step(step, alloc, given, &mut binders, checked, notes)?;
+        checked = note_step(step, alloc, sig, found, &mut binders, checked, notes)?;
     }
-    note_tuple(expr.result.as_slice(), alloc, given, &binders, checked, wanted, notes)
+    note_tuple(expr.result.as_slice(), alloc, sig, found, &binders, checked, wanted, notes)
 }
 
 /// Notes the occurrences in a step, whose pattern is bound. It answers whether what stands after it is checked.
@@ -189,44 +197,46 @@ fn note_expression<'a>(
 fn note_step<'a>(
     step: &'a PStep,
     alloc: Global,
-    given: &Given<'a>,
+    sig: &'a Signature,
+    found: &'a [Implicit],
     binders: &mut Binders<'a>,
     checked: bool,
     notes: &mut Notes,
 ) -> Result<bool, Shortage>
     ensures { IfOk result (λ later.
         (plain_notes notes.new, plain_scope binders.new later)
-        ≡ after_one_step (plain_signature given.now.sig.now) (map plain_implicit given.now.found.now)
+        ≡ after_one_step (plain_signature sig.now) (map plain_implicit found.now)
         (plain_notes notes.old, plain_scope binders.old checked) (desugared_step step.now)) }
 {
     let spine = step.spine.as_slice();
-    let open = given.is_open(binders, &step.head)?;
-    note_head(alloc, given, binders, checked, open, &step.head, None, None, notes)?;
-    let own = given.head_place(binders, &step.head)?;
-    note_spine(spine, alloc, given, binders, checked && !open, own, notes)?;
+    let loose = is_open(sig, found, binders, &step.head)?;
+    note_head(alloc, sig, found, binders, checked, loose, &step.head, None, None, notes)?;
+    let own = head_place(sig, found, binders, &step.head)?;
+    note_spine(spine, alloc, sig, found, binders, checked && !loose, own, notes)?;
     binders.bind_pattern(entries_at(behind_spine(own, spine)), step.pattern.as_slice())?;
-    Ok(checked && !open)
+    Ok(checked && !loose)
 }
 
 #[cycle(objects)]
 fn note_tuple<'a>(
     tuple: &'a [PMarked],
     alloc: Global,
-    given: &Given<'a>,
+    sig: &'a Signature,
+    found: &'a [Implicit],
     binders: &Binders<'a>,
     checked: bool,
     wanted: &'a [SimpleEntry],
     notes: &mut Notes,
 ) -> Result<(), Shortage>
     ensures { OnOk result (plain_notes notes.new
-        ≡ (left_along (after_marked (plain_signature given.now.sig.now) (map plain_implicit given.now.found.now)
+        ≡ (left_along (after_marked (plain_signature sig.now) (map plain_implicit found.now)
         (plain_scope binders.now checked)) (plain_notes notes.old, map plain_simple_entry wanted.now)
         (map desugared_marked tuple.now)).0) }
 {
     let mut wanted = wanted;
     for entry in tuple {
         let next = next_part(wanted);
-        note_entry(entry, alloc, given, binders, checked, next.place, notes)?;
+        note_entry(entry, alloc, sig, found, binders, checked, next.place, notes)?;
         wanted = next.later;
     }
     Ok(())
@@ -237,17 +247,18 @@ fn note_tuple<'a>(
 fn note_entry<'a>(
     entry: &'a PMarked,
     alloc: Global,
-    given: &Given<'a>,
+    sig: &'a Signature,
+    found: &'a [Implicit],
     binders: &Binders<'a>,
     checked: bool,
     place: Option<&'a Simple>,
     notes: &mut Notes,
 ) -> Result<(), Shortage>
     ensures { OnOk result (plain_notes notes.new
-        ≡ noted (map plain_implicit given.now.found.now) (plain_notes notes.old)
-        (spec.in_object (plain_signature given.now.sig.now) (map plain_implicit given.now.found.now)
+        ≡ noted (map plain_implicit found.now) (plain_notes notes.old)
+        (spec.in_object (plain_signature sig.now) (map plain_implicit found.now)
         (plain_scope binders.now checked) (plain_place (option_copied place.entry))
         (desugared_marked entry.now).1)) }
 {
-    note_object(&entry.obj, alloc, given, binders, checked, place, notes)
+    note_object(&entry.obj, alloc, sig, found, binders, checked, place, notes)
 }

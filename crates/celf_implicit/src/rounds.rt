@@ -1,11 +1,11 @@
 //! The rounds in which implicit variables are determined.
-ghost use Rattle.std.specs.Prelude.{◌≡◌, map};
+ghost use Rattle.std.specs.Prelude.{◌≡◌, IfOk};
 ghost use Rattle.clf_sig.specs.Signature.{plain_signature};
 ghost use Rattle.celf_sugar.specs.Plain.{desugared_item, body_of};
-ghost use Rattle.celf_implicit.specs.Answers.{IsAnswer, IsOutcome};
+ghost use Rattle.celf_implicit.specs.Answers.{IsAnswer, IsOutcome, unless_left};
 
-use crate::given::Given;
 use crate::items::notes_of_item;
+use crate::notes::Notes;
 use crate::variable::{Implicit, Variable};
 use celf_sugar::{Plain, PlainBody};
 use clf_sig::Signature;
@@ -39,17 +39,23 @@ fn rounds_of(
 {
     let mut found = Items::new(alloc);
     loop {
-        let given = Given {
-            sig,
-            found: found.as_slice(),
-        };
-        let notes = notes_of_item(alloc, &given, body)?;
-        if notes.determined.is_empty() {
-            return Ok(match notes.open_one {
-                Some(variable) => Err(variable),
-                None => Ok(found),
-            });
+        let Notes {
+            determined,
+            open_one,
+        } = notes_of_item(alloc, sig, found.as_slice(), body)?;
+        if determined.is_empty() {
+            return Ok(outcome(found, open_one));
         }
-        found.append(notes.determined)?;
+        found.append(determined)?;
+    }
+}
+
+/// The variables that were found, unless one is left.
+fn outcome(found: Items<Implicit>, left: Option<Variable>) -> Result<Items<Implicit>, Variable>
+    ensures { result ≡ unless_left found left }
+{
+    match left {
+        Some(variable) => Err(variable),
+        None => Ok(found),
     }
 }

@@ -1,21 +1,25 @@
 //! The occurrences of implicit variables in types. What stands in a type, and in none of its objects, is checked.
-ghost use Rattle.std.specs.Prelude.{◌≡◌, true, map, get_or, IfOk, OnOk, option_copied};
+ghost use Rattle.std.specs.Prelude.{◌≡◌, true, None, map, drop, get_or, OnOk, option_copied};
 ghost use Rattle.clf_syntax.specs.PlainSimple.{plain_simple_entry};
 ghost use Rattle.clf_sig.specs.Signature.{plain_signature};
 ghost use Rattle.celf_sugar.specs.Plain.{desugared_object, desugared_type, desugared_telescope, desugared_entry};
 ghost use Rattle.celf_places.specs.Locals.{plain_place};
 ghost use Rattle.celf_places.specs.Along.{left_along, bound_place};
+ghost use Rattle.celf_names.specs.Names.{family_named as family_named_of};
+ghost use Rattle.celf_implicit.specs.Scopes.{under};
 ghost use Rattle.celf_implicit.specs.Occurrences as spec;
 ghost use Rattle.celf_implicit.specs.Answers.{plain_implicit};
 ghost use Rattle.celf_implicit.specs.Noting.{plain_notes, plain_scope, noted, after_index, after_entry};
 
 use crate::binders::Binders;
-use crate::given::{Given, written_entries};
+use crate::heads::{from_number, left_out};
 use crate::notes::Notes;
 use crate::objects::note_object;
+use crate::variable::Implicit;
 use celf_names::family_named;
 use celf_places::{arguments_of, bound_simple, bound_simples, next_part};
 use celf_sugar::{PEntry, PName, PObj, PTele, PTy, PTyForm};
+use clf_sig::Signature;
 use clf_syntax::{Mode, Name, Shortage, Simple, SimpleEntry};
 use sqlite_items::Boxed;
 use std::alloc::Global;
@@ -26,18 +30,19 @@ use std::alloc::Global;
 pub fn note_type<'a>(
     ty: &'a PTy,
     alloc: Global,
-    given: &Given<'a>,
+    sig: &'a Signature,
+    found: &'a [Implicit],
     binders: &Binders<'a>,
     notes: &mut Notes,
 ) -> Result<(), Shortage>
     ensures { OnOk result (plain_notes notes.new
-        ≡ noted (map plain_implicit given.now.found.now) (plain_notes notes.old)
-        (spec.in_type (plain_signature given.now.sig.now) (map plain_implicit given.now.found.now)
+        ≡ noted (map plain_implicit found.now) (plain_notes notes.old)
+        (spec.in_type (plain_signature sig.now) (map plain_implicit found.now)
         (plain_scope binders.now true) (desugared_type ty.now))) }
 {
     match &ty.form {
         PTyForm::Family { head, indices } => {
-            note_family(alloc, given, binders, head, indices.as_slice(), notes)
+            note_family(alloc, sig, found, binders, head, indices.as_slice(), notes)
         }
         PTyForm::Fun {
             mode,
@@ -45,16 +50,17 @@ pub fn note_type<'a>(
             dom,
             cod,
         } => {
-            note_type(dom.get(), alloc, given, binders, notes)?;
-            let simple = bound_simple(alloc, given.sig, name, dom.get())?;
-            note_under(cod.get(), alloc, given, *mode, name, &simple, binders, notes)
+            note_type(dom.get(), alloc, sig, found, binders, notes)?;
+            let simple = bound_simple(alloc, sig, name, dom.get())?;
+            let inner = binders.copy(alloc)?;
+            note_under(cod.get(), alloc, sig, found, *mode, name, &simple, inner, notes)
         }
         PTyForm::With { left, right } => {
-            note_type(left.get(), alloc, given, binders, notes)?;
-            note_type(right.get(), alloc, given, binders, notes)
+            note_type(left.get(), alloc, sig, found, binders, notes)?;
+            note_type(right.get(), alloc, sig, found, binders, notes)
         }
         PTyForm::Top => Ok(()),
-        PTyForm::Monad { tele } => note_telescope(tele, alloc, given, binders, notes),
+        PTyForm::Monad { tele } => note_telescope(tele, alloc, sig, found, binders, notes),
     }
 }
 
@@ -63,20 +69,22 @@ pub fn note_type<'a>(
 fn note_under<'a>(
     ty: &'a PTy,
     alloc: Global,
-    given: &Given<'a>,
+    sig: &'a Signature,
+    found: &'a [Implicit],
     mode: Mode,
     name: &'a Option<Name>,
     simple: &'a Option<Boxed<Simple>>,
-    outer: &Binders<'a>,
+    outer: Binders<'a>,
     notes: &mut Notes,
 ) -> Result<(), Shortage>
     ensures { OnOk result (plain_notes notes.new
-        ≡ noted (map plain_implicit given.now.found.now) (plain_notes notes.old)
-        (spec.in_type (plain_signature given.now.sig.now) (map plain_implicit given.now.found.now)
-        (under mode (name.now, plain_place simple.now) (plain_scope outer.now true)) (desugared_type ty.now))) }
+        ≡ noted (map plain_implicit found.now) (plain_notes notes.old)
+        (spec.in_type (plain_signature sig.now) (map plain_implicit found.now)
+        (under mode (name.now, plain_place simple.now) (plain_scope outer.entry true)) (desugared_type ty.now))) }
 {
-    let binders = outer.with(alloc, mode, name, place_of(simple))?;
-    note_type(ty, alloc, given, &binders, notes)
+    let mut binders = outer;
+    binders.bind(mode, name, place_of(simple))?;
+    note_type(ty, alloc, sig, found, &binders, notes)
 }
 
 /// A simple type in a box.
@@ -92,47 +100,54 @@ pub fn place_of(simple: &Option<Boxed<Simple>>) -> Option<&Simple>
 /// Notes those in a family at indices.
 fn note_family<'a>(
     alloc: Global,
-    given: &Given<'a>,
+    sig: &'a Signature,
+    found: &'a [Implicit],
     binders: &Binders<'a>,
     head: &PName,
     indices: &'a [PObj],
     notes: &mut Notes,
 ) -> Result<(), Shortage>
     ensures { OnOk result (plain_notes notes.new
-        ≡ noted (map plain_implicit given.now.found.now) (plain_notes notes.old)
-        (spec.in_indices (plain_signature given.now.sig.now) (map plain_implicit given.now.found.now)
-        (plain_scope binders.now true) (spec.written_parts (plain_signature given.now.sig.now) head.now.dollar
-        (family_named_of (plain_signature given.now.sig.now) head.now.name)) (map desugared_object indices.now))) }
+        ≡ noted (map plain_implicit found.now) (plain_notes notes.old)
+        (spec.in_indices (plain_signature sig.now) (map plain_implicit found.now)
+        (plain_scope binders.now true) (spec.written_parts (plain_signature sig.now) head.now.dollar
+        (family_named_of (plain_signature sig.now) head.now.name)) (map desugared_object indices.now))) }
 {
-    match family_named(given.sig, head.name.as_str()) {
+    match family_named(sig, head.name.as_str()) {
         Some(family) => {
-            let wanted = arguments_of(alloc, given.sig, family)?;
-            let wanted = written_entries(given.sig, head.dollar, family, wanted.as_slice());
-            note_indices(indices, alloc, given, wanted, binders, notes)
+            let wanted = arguments_of(alloc, sig, family)?;
+            let left_out = left_out(sig, head.dollar, family);
+            let inner = binders.copy(alloc)?;
+            note_indices(indices, alloc, sig, found, wanted.as_slice(), left_out, inner, notes)
         }
-        None => note_indices(indices, alloc, given, &[], binders, notes),
+        None => {
+            let inner = binders.copy(alloc)?;
+            note_indices(indices, alloc, sig, found, &[], 0, inner, notes)
+        }
     }
 }
 
-/// Notes those in indices, of which these entries are wanted.
+/// Notes those in indices, of which these entries are wanted after so many that are not written.
 #[tactic(auto, using(crate::specs::Noting::index_noted_laws))]
 fn note_indices<'a>(
     indices: &'a [PObj],
     alloc: Global,
-    given: &Given<'a>,
-    wanted: &'a [SimpleEntry],
-    binders: &Binders<'a>,
+    sig: &'a Signature,
+    found: &'a [Implicit],
+    entries: &'a [SimpleEntry],
+    left_out: u32,
+    binders: Binders<'a>,
     notes: &mut Notes,
 ) -> Result<(), Shortage>
     ensures { OnOk result (plain_notes notes.new
-        ≡ noted (map plain_implicit given.now.found.now) (plain_notes notes.old)
-        (spec.in_indices (plain_signature given.now.sig.now) (map plain_implicit given.now.found.now)
-        (plain_scope binders.now true) (map plain_simple_entry wanted.now) (map desugared_object indices.now))) }
+        ≡ noted (map plain_implicit found.now) (plain_notes notes.old)
+        (spec.in_indices (plain_signature sig.now) (map plain_implicit found.now) (plain_scope binders.entry true)
+        (drop left_out (map plain_simple_entry entries.now)) (map desugared_object indices.now))) }
 {
-    let mut wanted = wanted;
+    let mut wanted = from_number(entries, left_out);
     for index in indices {
         let next = next_part(wanted);
-        note_object(index, alloc, given, binders, true, next.place, notes)?;
+        note_object(index, alloc, sig, found, &binders, true, next.place, notes)?;
         wanted = next.later;
     }
     Ok(())
@@ -144,18 +159,26 @@ fn note_indices<'a>(
 pub fn note_telescope<'a>(
     tele: &'a PTele,
     alloc: Global,
-    given: &Given<'a>,
+    sig: &'a Signature,
+    found: &'a [Implicit],
     binders: &Binders<'a>,
     notes: &mut Notes,
 ) -> Result<(), Shortage>
     ensures { OnOk result (plain_notes notes.new
-        ≡ noted (map plain_implicit given.now.found.now) (plain_notes notes.old)
-        (spec.in_telescope (plain_signature given.now.sig.now) (map plain_implicit given.now.found.now)
+        ≡ noted (map plain_implicit found.now) (plain_notes notes.old)
+        (spec.in_telescope (plain_signature sig.now) (map plain_implicit found.now)
         (plain_scope binders.now true) (desugared_telescope tele.now))) }
 {
-    let entries = tele.entries.as_slice();
-    let simples = bound_simples(alloc, given.sig, entries)?;
-    note_entries(entries, alloc, given, simples.as_slice(), binders, notes)
+    let simples = bound_simples(alloc, sig, tele.entries.as_slice())?;
+    note_entries(
+        tele.entries.as_slice(),
+        alloc,
+        sig,
+        found,
+        simples.as_slice(),
+        binders.copy(alloc)?,
+        notes,
+    )
 }
 
 /// Notes those in entries that bind these simple types.
@@ -163,20 +186,21 @@ pub fn note_telescope<'a>(
 fn note_entries<'a>(
     entries: &'a [PEntry],
     alloc: Global,
-    given: &Given<'a>,
+    sig: &'a Signature,
+    found: &'a [Implicit],
     simples: &'a [Option<Boxed<Simple>>],
-    outer: &Binders<'a>,
+    outer: Binders<'a>,
     notes: &mut Notes,
 ) -> Result<(), Shortage>
     requires { map plain_place simples.now
-        ≡ map (bound_place (plain_signature given.now.sig.now)) (map desugared_entry entries.now) }
+        ≡ map (bound_place (plain_signature sig.now)) (map desugared_entry entries.now) }
     ensures { OnOk result (plain_notes notes.new
-        ≡ (left_along (after_entry (plain_signature given.now.sig.now) (map plain_implicit given.now.found.now))
-        (plain_notes notes.old, plain_scope outer.now true) (map desugared_entry entries.now)).0) }
+        ≡ (left_along (after_entry (plain_signature sig.now) (map plain_implicit found.now))
+        (plain_notes notes.old, plain_scope outer.entry true) (map desugared_entry entries.now)).0) }
 {
-    let mut binders = outer.copy(alloc)?;
+    let mut binders = outer;
     for (index, entry) in entries.iter().enumerate() {
-        note_entry(entry, alloc, given, &binders, notes)?;
+        note_entry(entry, alloc, sig, found, &binders, notes)?;
         binders.bind(entry.mode, &entry.name, place_at(simples, index))?;
     }
     Ok(())
@@ -194,14 +218,15 @@ fn place_at<'a>(simples: &'a [Option<Boxed<Simple>>], index: usize) -> Option<&'
 fn note_entry<'a>(
     entry: &'a PEntry,
     alloc: Global,
-    given: &Given<'a>,
+    sig: &'a Signature,
+    found: &'a [Implicit],
     binders: &Binders<'a>,
     notes: &mut Notes,
 ) -> Result<(), Shortage>
     ensures { OnOk result (plain_notes notes.new
-        ≡ noted (map plain_implicit given.now.found.now) (plain_notes notes.old)
-        (spec.in_type (plain_signature given.now.sig.now) (map plain_implicit given.now.found.now)
+        ≡ noted (map plain_implicit found.now) (plain_notes notes.old)
+        (spec.in_type (plain_signature sig.now) (map plain_implicit found.now)
         (plain_scope binders.now true) (desugared_entry entry.now).2)) }
 {
-    note_type(&entry.ty, alloc, given, binders, notes)
+    note_type(&entry.ty, alloc, sig, found, binders, notes)
 }
