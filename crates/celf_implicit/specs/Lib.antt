@@ -11,3 +11,5 @@ pub mod Occurrences
 pub mod Rounds
 pub mod Answers
 pub mod Noting
+pub mod Laws
+pub mod Worked

@@ -1,5 +1,5 @@
 -- Inner: what is noted of occurrences one after the other, and of the parts of lists.
-use Rattle.std.specs.Prelude.{ℕ, ◌≡◌, Bool, if◌then◌else◌, List, [], ◌∷◌, ◌++◌, map, nat_lt, Option, Some, None, option_copied, option_map, refl}
+use Rattle.std.specs.Prelude.{ℕ, ◌≡◌, ◌<◌, Bool, true, false, length, take, get_or, if◌then◌else◌, List, [], ◌∷◌, ◌++◌, map, nat_lt, Option, Some, None, option_copied, option_map, refl}
 use Rattle.std.specs.List.{fold}
 use Rattle.std.proofs.Common.{ap, ◌∙◌}
 use Rattle.clf_syntax.specs.declared.tree.Mode.{Mode}
@@ -16,6 +16,7 @@ use Rattle.celf_places.specs.Places.{Place, next_part, behind_act}
 use Rattle.celf_places.specs.Combined.{combined}
 use Rattle.celf_places.specs.Along.{read_along, stateless, left_along}
 use Rattle.celf_places.specs.SimpleTypes.{local_of}
+use Rattle.celf_implicit.specs.declared.variable.Implicit.{Implicit}
 use Rattle.celf_implicit.specs.declared.variable.Variable.{Variable}
 use Rattle.celf_implicit.specs.declared.notes.Notes.{Notes}
 use Rattle.celf_implicit.specs.declared.applied.AppliedLocal.{AppliedLocal as DeclaredLocal}
@@ -57,6 +58,11 @@ note xs ns o = if is_among xs o.name.name then ns else note_open ns o
 
 abbrev pub noted : List PlainImplicit → PlainNotes → List Occurrence → PlainNotes
 noted xs ns os = fold (note xs) ns os
+
+-- the place of the first one of a name
+abbrev pub IsPlaceOf : List ℕ → List Implicit → Option ℕ → Type 0
+IsPlaceOf n xs None = is_among (map plain_implicit xs) n ≡ false
+IsPlaceOf n xs (Some i) = (i < length xs) × (is_among (map plain_implicit (take i xs)) n ≡ false) × ((x : Implicit) → x ≡ get_or xs i x → has_name n (plain_implicit x) ≡ true)
 
 -- ---- applied locals
 

@@ -5,11 +5,13 @@ mod applied;
 mod binders;
 mod heads;
 mod items;
+mod laws;
 mod notes;
 mod objects;
 mod rounds;
 mod types;
 mod variable;
 
+pub use laws::{least_closed, worked_variables};
 pub use rounds::implicit_variables;
 pub use variable::{Argument, Implicit, Variable};

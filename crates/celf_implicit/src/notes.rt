@@ -1,9 +1,7 @@
 //! What is noted of the occurrences of a walk.
 ghost use Rattle.std.specs.Prelude.{◌≡◌, Some, map, OnOk, IfOk, option_copied};
-ghost use Rattle.std.specs.List.{position};
 ghost use Rattle.celf_sugar.specs.Earliest.{sooner};
 ghost use Rattle.celf_places.specs.Locals.{plain_place};
-ghost use Rattle.celf_implicit.specs.Variables.{has_name};
 ghost use Rattle.celf_implicit.specs.Rounds.{begins};
 ghost use Rattle.celf_implicit.specs.Answers.{plain_implicit};
 ghost use Rattle.celf_implicit.specs.Noting as spec;
@@ -55,7 +53,7 @@ impl Notes {
 
     /// The place of the variable of a name among those that are noted.
     fn find(&self, name: &Name) -> Option<usize>
-        ensures { result ≡ position (has_name name.now) (map plain_implicit self.now.determined) }
+        ensures { spec.IsPlaceOf name.now self.now.determined result }
     {
         for (index, variable) in self.determined.as_slice().iter().enumerate() {
             if same_name(name, &variable.name) {
