@@ -61,8 +61,8 @@ others_other y z e (w ∷ ws) = by_test (others_other y z e ws) (has_name z.name
     by_test : filter (is_other y) (with_one ws z) ≡ with_one (filter (is_other y) ws) z → (b c d : Bool) → has_name z.name w ≡ b → nat_lt z.start w.start ≡ c → has_name y.name w ≡ d → filter (is_other y) (with_one (w ∷ ws) z) ≡ with_one (filter (is_other y) (w ∷ ws)) z
     by_test same true true d p q r = rw (p, q, e, not_too p, p, q) refl
     by_test same true false d p q r = rw (p, q, not_too p, p, q) refl
-    by_test same false c true p q r = rw (p, r, r) same
-    by_test same false c false p q r = rw (p, r, r, p) (ap (λ xs. w ∷ xs) same)
+    by_test same false c true p q r = rw (p, r) same
+    by_test same false c false p q r = rw (p, r, p) (ap (λ xs. w ∷ xs) same)
 
 -- The first ones, with one occurrence more.
 firsts_last : (xs : List PlainImplicit) (z : PlainImplicit) → first_of_each (xs ++ z ∷ []) ≡ with_one (first_of_each xs) z
@@ -73,8 +73,8 @@ firsts_last (y ∷ ys) z = rw (firsts_last ys z) (by_test (has_name y.name z) re
     u = first_named y (first_of_each ys)
 
     by_start : (b : Bool) (rest : List PlainImplicit) → nat_lt z.start u.0.start ≡ b → has_name z.name u.0 ≡ true → cons_option (sooner start (Some u.0) (Some z)) rest ≡ with_one (u.0 ∷ rest) z
-    by_start true rest q h = rw (q, h, q) refl
-    by_start false rest q h = rw (q, h, q) refl
+    by_start true rest q h = rw (q, h) refl
+    by_start false rest q h = rw (q, h) refl
 
     by_test : (b : Bool) → has_name y.name z ≡ b
         → cons_option (sooner start (Some y) (find (has_name y.name) (with_one (first_of_each ys) z))) (filter (is_other y) (with_one (first_of_each ys) z))
@@ -103,31 +103,54 @@ folded ys (x ∷ xs) = rw (← firsts_last ys x) (folded (ys ++ x ∷ []) xs ∙
 -- ---- notes
 
 module _ (xs : List PlainImplicit) where
-  noted_determined : (ns : PlainNotes) (os : List Occurrence) → (noted xs ns os).determined ≡ fold with_one ns.determined (filter_map determined_by (filter (is_open xs) os))
+  is_noted : (ns : PlainNotes) (o : Occurrence) → is_among xs o.name.name ≡ false → note xs ns o ≡ note_open ns o
+  is_noted ns o p = rw p refl
+
+  is_passed : (ns : PlainNotes) (o : Occurrence) → is_among xs o.name.name ≡ true → note xs ns o ≡ ns
+  is_passed ns o p = rw p refl
+
+  abbrev given : List Occurrence → List PlainImplicit
+  given os = filter_map determined_by (filter (is_open xs) os)
+
+  noted_determined : (ns : PlainNotes) (os : List Occurrence) → (noted xs ns os).determined ≡ fold with_one ns.determined (given os)
   noted_determined ns [] = refl
   noted_determined ns (o ∷ os) = by_test (λ ms. noted_determined ms os) (is_among xs o.name.name) (determined_by o) refl refl
     where
-      by_test : ((ms : PlainNotes) → (noted xs ms os).determined ≡ fold with_one ms.determined (filter_map determined_by (filter (is_open xs) os))) → (b : Bool) (d : Option PlainImplicit) → is_among xs o.name.name ≡ b → determined_by o ≡ d
-          → (noted xs ns (o ∷ os)).determined ≡ fold with_one ns.determined (filter_map determined_by (filter (is_open xs) (o ∷ os)))
-      by_test further true d p q = rw p (further ns)
-      by_test further false None p q = rw p (further (note_open ns o) ∙ rw q refl)
-      by_test further false (Some x) p q = rw p (further (note_open ns o) ∙ rw q refl)
+      by_test : ((ms : PlainNotes) → (noted xs ms os).determined ≡ fold with_one ms.determined (given os)) → (b : Bool) (d : Option PlainImplicit) → is_among xs o.name.name ≡ b → determined_by o ≡ d
+          → (noted xs (note xs ns o) os).determined ≡ fold with_one ns.determined (given (o ∷ os))
+      by_test further true d p q =
+          let same : fold with_one ns.determined (given os) ≡ fold with_one ns.determined (given (o ∷ os)) = rw p refl in
+          ap (λ m. (noted xs m os).determined) (is_passed ns o p) ∙ further ns ∙ same
+      by_test further false None p q =
+          let same : fold with_one (note_open ns o).determined (given os) ≡ fold with_one ns.determined (given (o ∷ os)) = rw (p, q) refl in
+          ap (λ m. (noted xs m os).determined) (is_noted ns o p) ∙ further (note_open ns o) ∙ same
+      by_test further false (Some x) p q =
+          let same : fold with_one (note_open ns o).determined (given os) ≡ fold with_one ns.determined (given (o ∷ os)) = rw (p, q) refl in
+          ap (λ m. (noted xs m os).determined) (is_noted ns o p) ∙ further (note_open ns o) ∙ same
 
   none_first : (v : Option Variable) → v ≡ sooner begins v None
   none_first None = refl
   none_first (Some v) = refl
 
-  noted_open : (ns : PlainNotes) (os : List Occurrence) → (noted xs ns os).open_one ≡ sooner begins ns.open_one (earliest begins (map standing (filter (is_open xs) os)))
+  abbrev first_open : List Occurrence → Option Variable
+  first_open os = earliest begins (map standing (filter (is_open xs) os))
+
+  noted_open : (ns : PlainNotes) (os : List Occurrence) → (noted xs ns os).open_one ≡ sooner begins ns.open_one (first_open os)
   noted_open ns [] = none_first ns.open_one
   noted_open ns (o ∷ os) = by_test (λ ms. noted_open ms os) (is_among xs o.name.name) refl
     where
-      by_test : ((ms : PlainNotes) → (noted xs ms os).open_one ≡ sooner begins ms.open_one (earliest begins (map standing (filter (is_open xs) os)))) → (b : Bool) → is_among xs o.name.name ≡ b → (noted xs ns (o ∷ os)).open_one ≡ sooner begins ns.open_one (earliest begins (map standing (filter (is_open xs) (o ∷ os))))
-      by_test further true p = rw p (further ns)
-      by_test further false p = rw p (further (note_open ns o) ∙ sooner_assoc begins ns.open_one (Some (standing o)) (earliest begins (map standing (filter (is_open xs) os))))
+      by_test : ((ms : PlainNotes) → (noted xs ms os).open_one ≡ sooner begins ms.open_one (first_open os)) → (b : Bool) → is_among xs o.name.name ≡ b
+          → (noted xs (note xs ns o) os).open_one ≡ sooner begins ns.open_one (first_open (o ∷ os))
+      by_test further true p =
+          let same : sooner begins ns.open_one (first_open os) ≡ sooner begins ns.open_one (first_open (o ∷ os)) = rw p refl in
+          ap (λ m. (noted xs m os).open_one) (is_passed ns o p) ∙ further ns ∙ same
+      by_test further false p =
+          let same : sooner begins ns.open_one (sooner begins (Some (standing o)) (first_open os)) ≡ sooner begins ns.open_one (first_open (o ∷ os)) = rw p refl in
+          ap (λ m. (noted xs m os).open_one) (is_noted ns o p) ∙ further (note_open ns o) ∙ sooner_assoc begins ns.open_one (Some (standing o)) (first_open os) ∙ same
 
   -- what has been noted of all occurrences
   pub noted_firsts : (os : List Occurrence) → (noted xs nothing_noted os).determined ≡ first_of_each (filter_map determined_by (filter (is_open xs) os))
-  noted_firsts os = noted_determined nothing_noted os ∙ folded [] (filter_map determined_by (filter (is_open xs) os))
+  noted_firsts os = noted_determined nothing_noted os ∙ folded [] (given os)
 
   pub noted_first : (os : List Occurrence) → (noted xs nothing_noted os).open_one ≡ earliest begins (map standing (filter (is_open xs) os))
   noted_first os = noted_open nothing_noted os

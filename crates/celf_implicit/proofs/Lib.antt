@@ -6,3 +6,4 @@ pub mod RoundLaws
 pub mod Replaced
 pub mod Firsts
 pub mod Walks
+pub mod Outcomes

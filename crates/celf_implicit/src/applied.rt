@@ -73,10 +73,13 @@ fn local_named<'a>(
         option_map plain_applied a ≡ spec.local_named (plain_binders binders.now) mode (desugared_object obj.now)) }
 {
     match &obj.form {
-        PObjForm::At { head, spine } => match spine.as_slice() {
-            [] => local_of_name(binders, mode, head),
-            [_, ..] => Ok(None),
-        },
+        PObjForm::At { head, spine } => {
+            if spine.is_empty() {
+                local_of_name(binders, mode, head)
+            } else {
+                Ok(None)
+            }
+        }
         PObjForm::Lam { .. }
         | PObjForm::Pair { .. }
         | PObjForm::Unit
