@@ -1,12 +1,12 @@
 -- Rests in turn, and where metavariables came from in turn: several calls of unification one after the other.
-use Rattle.std.specs.Prelude.{ℕ, true, false, ◌≡◌, ◌⊎◌, List, [], ◌∷◌, ◌++◌, length, Some, None, refl}
-use Rattle.std.proofs.Common.{ap, sym, subst, ◌∙◌, inl, inr, ⊎_elim}
+use Rattle.std.specs.Prelude.{ℕ, true, ◌≡◌, ◌⊎◌, List, [], ◌∷◌, ◌++◌, length, refl}
+use Rattle.std.proofs.Common.{sym, subst, ◌∙◌, inl, inr, ⊎_elim}
 use Rattle.clf_syntax.specs.declared.tree.Mode.{Mode}
-use Rattle.clf_syntax.specs.Tree.{PlainObject, lam, pair, atomic, PlainNeutral, head_alone, app, fst, snd}
+use Rattle.clf_syntax.specs.Tree.{PlainObject, lam, pair, atomic, PlainNeutral, app, fst, snd}
 use Rattle.clf_syntax.specs.TypeTree.{SimpleType, base, arrow, simple_with}
 use Rattle.clf_syntax.specs.Simple.{Assignment, no_holes, SimplyTyped, SimplyTypedNeutral}
-use Rattle.hered_subst.specs.Substitution.{Image, keep, put, Environment, under, Substituted, KeepsHead, kept_bare, kept_app, kept_fst, kept_snd}
-use Rattle.hered_subst.specs.TypedEnvironments.{is_metavariable, TypedEnvironment}
+use Rattle.hered_subst.specs.Substitution.{Image, keep, put, Environment, under, Substituted, KeepsHead, kept_app, kept_fst, kept_snd}
+use Rattle.hered_subst.specs.TypedEnvironments.{TypedEnvironment}
 use Rattle.hered_subst.proofs.Bounded.{Kept}
 use Rattle.hered_subst.proofs.Determined.{determined}
 use Rattle.hered_subst.proofs.SimpleTyping.{to_neutral, of_neutral}
@@ -19,18 +19,18 @@ use Rattle.joined_laws.specs.Environments.{JoinedImage}
 use Rattle.joined_laws.proofs.Results.{respects_all}
 use Rattle.store_laws.proofs.Closing.{no_families}
 use Rattle.pattern_laws.specs.Instantiations.{Types, closed, Instantiated}
-use Rattle.pattern_laws.specs.Equations.{Locals, scoped, Equation, TypedEquation, TypedEquations, Listed, listed_here, listed_later}
+use Rattle.pattern_laws.specs.Equations.{Locals, scoped, Equation, TypedEquation, Listed, listed_here, listed_later}
 use Rattle.pattern_laws.specs.Patterns.{arrows, masked}
+use Rattle.pattern_laws.proofs.TypeParts.{from_type}
 use Rattle.pattern_laws.proofs.Spines.{under_instant, body}
 use Rattle.pattern_laws.proofs.Instances.{typed_scoped}
-use Rattle.unify_laws.specs.Parts.{SameShape, PartAt, part_here, part_function, part_fst, part_snd}
-use Rattle.unify_laws.specs.Problems.{Grows, Stays}
-use Rattle.unify_laws.specs.Progress.{CameFrom, Traced}
+use Rattle.unify_laws.specs.Parts.{PartAt, part_here, part_function, part_fst, part_snd}
+use Rattle.unify_laws.specs.Progress.{CameFrom}
 use Rattle.unify_laws.proofs.RigidPlaces.{parts, keeps_head, keeps_others}
 use Rattle.unify_laws.proofs.Steps.{shape_heads}
 use Rattle.answer_laws.specs.Laws.{RestsInTurn, TracedInTurn}
-use Rattle.reach_laws.specs.Rest.{IsAssignment, ComesDown, down_joined, down_listed, down_lam, down_pair, down_neutral, PartOf, part_itself, part_body, part_left, part_right, part_argument, EquationUnder, EachUnder, Rest}
-use Rattle.reach_laws.proofs.PartsUnder.{part_typed, parts_stay, kept_neutral, shape_under, one_shape}
+use Rattle.reach_laws.specs.Rest.{IsAssignment, ComesDown, down_joined, down_listed, down_lam, down_pair, down_neutral, PartOf, part_itself, part_body, part_left, part_right, part_argument, EquationUnder, EachUnder}
+use Rattle.reach_laws.proofs.PartsUnder.{part_typed, parts_stay, kept_neutral, shape_under}
 use Rattle.reach_laws.proofs.Rests.{typed_listed}
 
 -- A part of a part is a part.
@@ -42,23 +42,23 @@ part_of_part (part_right l k c p) q = part_right l k c (part_of_part p q)
 part_of_part (part_argument r n f p h a) q = part_argument r n f (part_of_part p q) h a
 
 -- the place of an equation in a list after an assignment
-listed_under : (s : Instantiation) (e : Equation) {es : List Equation} → Listed e es → (ds : List Equation) → EachUnder s es ds → (d : Equation) × Listed d ds × EquationUnder s e d
+pub listed_under : (s : Instantiation) (e : Equation) {es : List Equation} → Listed e es → (ds : List Equation) → EachUnder s es ds → (d : Equation) × Listed d ds × EquationUnder s e d
 listed_under s e listed_here [] u = absurd u
 listed_under s e listed_here (d ∷ ds) u = (d, listed_here, u.0)
 listed_under s e (listed_later l) [] u = absurd u
 listed_under s e (listed_later l) (d ∷ ds) u = let (b, k, v) = listed_under s e l ds u.1 in (b, listed_later k, v)
 
-listed_back : (s : Instantiation) (d : Equation) {ds : List Equation} → Listed d ds → (es : List Equation) → EachUnder s es ds → (e : Equation) × Listed e es × EquationUnder s e d
+pub listed_back : (s : Instantiation) (d : Equation) {ds : List Equation} → Listed d ds → (es : List Equation) → EachUnder s es ds → (e : Equation) × Listed e es × EquationUnder s e d
 listed_back s d listed_here [] u = absurd u
 listed_back s d listed_here (e ∷ es) u = (e, listed_here, u.0)
 listed_back s d (listed_later l) [] u = absurd u
 listed_back s d (listed_later l) (e ∷ es) u = let (b, k, v) = listed_back s d l es u.1 in (b, listed_later k, v)
 
-listed_first : {e : Equation} {l : List Equation} → Listed e l → (k : List Equation) → Listed e (l ++ k)
+pub listed_first : {e : Equation} {l : List Equation} → Listed e l → (k : List Equation) → Listed e (l ++ k)
 listed_first listed_here k = listed_here
 listed_first (listed_later m) k = listed_later (listed_first m k)
 
-listed_second : (l : List Equation) {e : Equation} {k : List Equation} → Listed e k → Listed e (l ++ k)
+pub listed_second : (l : List Equation) {e : Equation} {k : List Equation} → Listed e k → Listed e (l ++ k)
 listed_second [] m = m
 listed_second (d ∷ l) m = listed_later (listed_second l m)
 
@@ -66,7 +66,7 @@ later_case : {e f : Equation} {l k m : List Equation} → Listed e (f ∷ m) →
 later_case listed_here g = inl listed_here
 later_case (listed_later n) g = ⊎_elim (λ a. inl (listed_later a)) (λ b. inr b) (g n)
 
-listed_cases : (l k : List Equation) (e : Equation) → Listed e (l ++ k) → Listed e l ⊎ Listed e k
+pub listed_cases : (l k : List Equation) (e : Equation) → Listed e (l ++ k) → Listed e l ⊎ Listed e k
 listed_cases [] k e m = inr m
 listed_cases (d ∷ l) k e m = later_case m (λ n. listed_cases l k e n)
 
@@ -85,9 +85,6 @@ of_kept_fst (kept_fst {r = q} k) = (q, refl, k)
 
 of_kept_snd : {s : Environment} {r x : PlainNeutral} → KeepsHead s r (snd x) → (q : PlainNeutral) × (r ≡ snd q) × KeepsHead s q x
 of_kept_snd (kept_snd {r = q} k) = (q, refl, k)
-
-from_type : {m k : Mode} {d c e f : SimpleType} → arrow m d c ≡ arrow k e f → e ≡ d
-from_type h = cc
 
 both_ends : (g : Assignment) (a b : PlainObject) (c : SimpleType) {r n q k : PlainNeutral} → r ≡ q → n ≡ k → PartAt g a b c q k → PartAt g a b c r n
 both_ends g a b c {r = r} {k = k} e h p = subst (λ z. PartAt g a b c r z) (sym h) (subst (λ z. PartAt g a b c z k) (sym e) p)

@@ -17,7 +17,8 @@ use Rattle.eta_laws.specs.Eta.{eta, variables}
 use Rattle.eta_laws.proofs.EtaLaws.{variables_kept}
 use Rattle.eta_laws.proofs.Expanding.{eta_expands}
 use Rattle.store_laws.specs.PutIn.{PutIn}
-use Rattle.pattern_laws.specs.Instantiations.{set, Instantiated}
+use Rattle.store_laws.specs.Additions.{set}
+use Rattle.pattern_laws.specs.Instantiations.{Instantiated}
 use Rattle.pattern_laws.specs.Equations.{Equation, Solves, Listed}
 use Rattle.pattern_laws.proofs.Spines.{keeps_variables, kept_place}
 use Rattle.unify_laws.specs.Parts.{shape_head, shape_app}

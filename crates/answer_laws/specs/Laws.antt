@@ -6,7 +6,8 @@ use Rattle.clf_syntax.specs.Simple.{SimplyTyped}
 use Rattle.hered_subst.specs.Substitution.{Substituted}
 use Rattle.subst_laws.specs.Environments.{Instantiation, instant, ComposedInstantiation}
 use Rattle.store_laws.specs.Mentions.{mentions}
-use Rattle.pattern_laws.specs.Instantiations.{Types, closed, set, Instantiates}
+use Rattle.store_laws.specs.Additions.{set}
+use Rattle.pattern_laws.specs.Instantiations.{Types, closed, Instantiates}
 use Rattle.store_laws.specs.PutIn.{PutIn}
 use Rattle.pattern_laws.specs.Equations.{Equation, SolvesEach, TypedEquation, TypedEquations, Listed}
 use Rattle.unify_laws.specs.Problems.{Problem, WellTyped, Grows, Stays, KeepsSolutions}

@@ -9,7 +9,8 @@ use Rattle.hered_subst.specs.Substitution.{Substituted}
 use Rattle.trace_equal.specs.Exchange.{Joined}
 use Rattle.subst_laws.specs.Environments.{Instantiation, instant}
 use Rattle.eta_laws.specs.Eta.{eta}
-use Rattle.pattern_laws.specs.Instantiations.{Types, set, Instantiated}
+use Rattle.store_laws.specs.Additions.{set}
+use Rattle.pattern_laws.specs.Instantiations.{Types, Instantiated}
 use Rattle.pattern_laws.specs.Equations.{Equation, Solves, Listed}
 use Rattle.unify_laws.specs.Problems.{Problem}
 use Rattle.reach_laws.specs.Rest.{Rest}

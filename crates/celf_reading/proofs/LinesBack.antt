@@ -7,10 +7,11 @@ use Rattle.clf_sig.specs.Core.{declares, checks}
 use Rattle.clf_rules.specs.WellFormed.{WellFormedSignature, WellFormedEntry}
 use Rattle.clf_printer.specs.Depth.{class_depth}
 use Rattle.clf_printer.specs.Text.{declaration_text}
+use Rattle.clf_printer.specs.Judgment.{judgment_text}
 use Rattle.celf_spelling.specs.Printed.{printed_check}
 use Rattle.celf_meaning.specs.ReadingBack.{ReadsAs}
 use Rattle.celf_meaning.proofs.LinesRead.{printable_entries_read_back, checks_mean_themselves, read_as}
-use Rattle.celf_reading.specs.Lines.{entry_line, judgment_text, EntryLinesReadBack, CheckLinesReadBack}
+use Rattle.celf_reading.specs.Lines.{entry_line, EntryLinesReadBack, CheckLinesReadBack}
 use Rattle.celf_reading.proofs.Named.{typed-named, formed-printable}
 use Rattle.celf_reading.proofs.WellFormedLines.{printable-entry, check_lines_are_spelled}
 
@@ -25,6 +26,6 @@ entry_lines_read_back sig name e formed fit h counted small = entry_reads_back s
 
 pub check_lines_read_back : CheckLinesReadBack
 check_lines_read_back sig n a formed type_formed typed object_fits type_fits =
-    read_as sig (codes "#check " ++ judgment_text sig n a) (printed_check sig n a) (checks n a)
+    read_as sig (codes "#check " ++ (judgment_text sig n a ++ codes ".\n")) (printed_check sig n a) (checks n a)
     (checks_mean_themselves sig n a formed type_formed typed (typed-named sig formed n [] [] a typed, omega arith) (formed-printable sig formed a [] (omega arith) type_formed))
     (check_lines_are_spelled sig n a formed type_formed typed object_fits type_fits)

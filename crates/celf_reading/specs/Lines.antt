@@ -11,17 +11,12 @@ use Rattle.celf_spelling.specs.Printed.{printed_entry, printed_check}
 use Rattle.celf_spelling.specs.Spelling.{SpellsItem}
 use Rattle.clf_sig.specs.Core.{declares, checks}
 use Rattle.celf_meaning.specs.ReadingBack.{ReadsAs}
-use Rattle.clf_printer.specs.declared.place.Place.TheVariants.{Whole}
-use Rattle.clf_printer.specs.Text.{object_text, type_text, declaration_text}
-use Rattle.clf_printer.specs.Metas.{appearing, appearing_type}
+use Rattle.clf_printer.specs.Text.{declaration_text}
+use Rattle.clf_printer.specs.Judgment.{judgment_text}
 
 -- the line of an entry, over the entries before it
 abbrev pub entry_line : PlainSignature → List ℕ → PlainEntry → List ℕ
 entry_line sig name entry = declaration_text sig [] name entry ++ codes "\n"
-
--- an object and its type, with a colon between
-abbrev pub judgment_text : PlainSignature → PlainObject → PlainType → List ℕ
-judgment_text sig n a = object_text sig (appearing [] n) 0 n ++ codes " : " ++ type_text sig (appearing_type [] a) 0 Whole a ++ codes ".\n"
 
 -- Over a well-formed signature the line of a well-formed entry, under a name that can be declared, spells the entry. Fewer than 2 ^ 32
 -- arguments are implicit, and no part has 2 ^ 64 or more variables bound around it.
@@ -32,7 +27,7 @@ EntryLinesAreSpelled = (sig : PlainSignature) (name : List ℕ) (e : PlainEntry)
 -- The same of an object without free variables that has a well-formed type: what is printed of both spells the question whether it has it.
 abbrev pub CheckLinesAreSpelled : Type 0
 CheckLinesAreSpelled = (sig : PlainSignature) (n : PlainObject) (a : PlainType) → WellFormedSignature sig → WellFormedType sig [] a → HasType sig [] [] n a → scope_depth n < 2 ^ 64 → type_depth a < 2 ^ 64
-    → SpellsItem (codes "#check " ++ judgment_text sig n a) (printed_check sig n a)
+    → SpellsItem (codes "#check " ++ (judgment_text sig n a ++ codes ".\n")) (printed_check sig n a)
 
 -- So the line of the entry reads back as the entry,
 abbrev pub EntryLinesReadBack : Type 0
@@ -42,4 +37,4 @@ EntryLinesReadBack = (sig : PlainSignature) (name : List ℕ) (e : PlainEntry) �
 -- and what is printed of the object and its type reads back, after the word of a check, as both.
 abbrev pub CheckLinesReadBack : Type 0
 CheckLinesReadBack = (sig : PlainSignature) (n : PlainObject) (a : PlainType) → WellFormedSignature sig → WellFormedType sig [] a → HasType sig [] [] n a → scope_depth n < 2 ^ 64 → type_depth a < 2 ^ 64
-    → ReadsAs sig (codes "#check " ++ judgment_text sig n a) (checks n a)
+    → ReadsAs sig (codes "#check " ++ (judgment_text sig n a ++ codes ".\n")) (checks n a)

@@ -1,14 +1,10 @@
 -- The lines of a reply, over the signature that is held after it.
-use Rattle.std.specs.Prelude.{ℕ, ◌≡◌, ◌<◌, ◌^◌, true, false, List, [], ◌++◌, Some, codes}
+use Rattle.std.specs.Prelude.{ℕ, ◌≡◌, ◌<◌, ◌^◌, true, false, List, ◌++◌, Some, codes}
 use Rattle.std.specs.Fmt.{decimal}
-use Rattle.clf_syntax.specs.Tree.{PlainObject}
-use Rattle.clf_syntax.specs.TypeTree.{PlainType}
 use Rattle.clf_sig.specs.Entry.{PlainEntry, PlainSignature, entry_at}
-use Rattle.clf_printer.specs.declared.place.Place.TheVariants.{Whole}
-use Rattle.clf_printer.specs.Text.{object_text, type_text}
-use Rattle.clf_printer.specs.Metas.{appearing, appearing_type}
 use Rattle.clf_printer.specs.Depth.{scope_depth, type_depth, class_depth}
 use Rattle.clf_printer.specs.Entry.{entry_text}
+use Rattle.clf_printer.specs.Judgment.{judgment_text}
 use Rattle.celf_replies.specs.Causes.{cause_text, path_text}
 use Rattle.celf_replies.specs.Reply.{PlainWhy, bad_byte, long_name, unexpected, directive, too_deep, kind_place, not_async, redex, out_of_range, bad_implicit, duplicate, full, unknown_name, kernel, not_yet, PlainReply, entry, checked, equal, different, refused}
 
@@ -31,16 +27,12 @@ why_text sig (unknown_name name) = codes "unknown name " ++ name
 why_text sig (kernel path cause) = cause_text sig cause ++ codes " at " ++ path_text path
 why_text sig not_yet = codes "not yet"
 
--- an object and its type, with a colon between
-abbrev pub judgment_text : PlainSignature → PlainObject → PlainType → List ℕ
-judgment_text sig n a = object_text sig (appearing [] n) 0 n ++ codes " : " ++ type_text sig (appearing_type [] a) 0 Whole a ++ codes ".\n"
-
 abbrev pub refusal_text : PlainSignature → ℕ → PlainWhy → List ℕ
 refusal_text sig at why = codes "refused at " ++ decimal at ++ codes ": " ++ why_text sig why ++ codes ".\n"
 
 abbrev pub reply_text : PlainSignature → PlainReply → List ℕ
 reply_text sig (entry k) = entry_text sig k ++ codes "\n"
-reply_text sig (checked n a) = codes "check: " ++ judgment_text sig n a
+reply_text sig (checked n a) = codes "check: " ++ (judgment_text sig n a ++ codes ".\n")
 reply_text sig equal = codes "equal.\n"
 reply_text sig different = codes "different.\n"
 reply_text sig (refused r) = refusal_text sig r.at r.why

@@ -3,9 +3,9 @@ use Rattle.std.proofs.Common.{ℕ, ◌≡◌, false, refl, ap, sym, ◌∙◌, s
 use Rattle.clf_syntax.specs.declared.fault.Want.{Want}
 use Rattle.clf_syntax.specs.declared.fault.Want.TheVariants.{NoMemory as no_memory, TooFar as too_far}
 use Rattle.clf_sig.specs.Entry.{PlainSignature}
-use Rattle.celf_source.specs.Sink.{Appends, AppendsPrefix}
+use Rattle.celf_source.specs.Sink.{Appends}
 use Rattle.clf_rules.specs.WellFormed.{WellFormedSignature}
-use Rattle.celf_replies.specs.Reply.{PlainReply, entry, checked, equal, different, refused, is_refusal}
+use Rattle.celf_replies.specs.Reply.{PlainReply, is_refusal}
 use Rattle.celf_replies.specs.Text.{reply_text, IsNumbered}
 use Rattle.celf_run.specs.declared.options.Options.{Options}
 use Rattle.celf_run.specs.declared.status.Status.{Status}
@@ -16,7 +16,7 @@ use Rattle.celf_run.specs.Source.{Source, IsOver}
 use Rattle.celf_run.specs.Allowed.{Held, holding}
 use Rattle.celf_run.specs.Transcript.{told, Turn, over, goes_on, stops, Begun, nothing, front, beyond}
 use Rattle.celf_run.specs.Run.{Way, whole, cut, silent, way, start, nothing_held}
-use Rattle.celf_run.specs.Turning.{place_in, Answers, WritesFront, Writes, TakesOn, TextEnds, TextOutcome, Finishes, Turns, Reached, turn_behind, status_of}
+use Rattle.celf_run.specs.Turning.{place_in, Answers, WritesFront, Writes, TakesOn, TextEnds, TextOutcome, Finishes, Turns, Reached, status_of}
 use Rattle.celf_run.proofs.Replies.{allowed-reads_back}
 
 pub appends-nothing : (x y : Option (List ℕ)) → y ≡ x → Appends [] x y
@@ -32,23 +32,6 @@ appends-twice a b (Some x) (Some y) z p q =
     q ∙ ap (λ l. Some (l ++ b)) y_is ∙ ap Some (append_assoc x a b)
 
 -- ---- what is written of a reply
-
-pub writes-given_up : (sig : PlainSignature) (reply : PlainReply) (end : ℕ) (w : Option (List ℕ)) (want : Want) → Writes sig reply end w w (Ends (status_of want))
-writes-given_up sig reply end w no_memory = record { written = []; appends = appends-nothing w w refl; is_front = inl refl }
-writes-given_up sig reply end w (too_far x) = record { written = []; appends = appends-nothing w w refl; is_front = inl refl }
-
-pub writes-whole : (sig : PlainSignature) (reply : PlainReply) (end : ℕ) (before after : Option (List ℕ)) → IsNumbered sig reply → Appends (reply_text sig reply) before after
-    → Writes sig reply end before after (turn_behind reply end)
-writes-whole sig (entry k) end before after n a = (refl, refl, record { numbered = n; appends = a })
-writes-whole sig (checked o t) end before after n a = (refl, refl, record { numbered = n; appends = a })
-writes-whole sig equal end before after n a = (refl, refl, record { numbered = n; appends = a })
-writes-whole sig different end before after n a = (refl, refl, record { numbered = n; appends = a })
-writes-whole sig (refused r) end before after n a = (refl, record { numbered = n; appends = a })
-
-pub writes-front : (sig : PlainSignature) (reply : PlainReply) (text : List ℕ) (before after : Option (List ℕ)) → IsNumbered sig reply → text ≡ reply_text sig reply
-    → AppendsPrefix text before after → WritesFront sig reply before after
-writes-front sig reply text before after n e (count, within, a) =
-    record { written = take count text; appends = a; is_front = inr (n, count, ap (take count) e) }
 
 -- Nothing is left.
 pub finishes-over : (options : Options) (source : Source) (sig : PlainSignature) (before : Option (List ℕ)) → WellFormedSignature sig → IsOver source
@@ -106,9 +89,6 @@ onward : (w : Way) (options : Options) (source behind : Source) (old new : Held)
 onward whole options source behind old new reply rest status t r (last, goes, formed) = (last, goes_on t r goes, formed)
 onward cut options source behind old new reply rest status t r begun = beyond t r begun
 onward silent options source behind old new reply rest status t r none = none
-
-pub reached-start : (options : Options) (text : List ℕ) (w : Option (List ℕ)) → Reached options text 0 nothing_held w w
-reached-start options text w = record { so_far = []; appends = appends-nothing w w refl; goes = λ status rest o. o }
 
 pub reached-onward : (options : Options) (text : List ℕ) (at end : ℕ) (old new : Held) (before now after : Option (List ℕ)) → Reached options text at old before now
     → TakesOn options (place_in text at) old (place_in text end) new now after → Reached options text end new before after

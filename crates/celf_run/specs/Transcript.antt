@@ -4,7 +4,8 @@ use Rattle.clf_sig.specs.Entry.{PlainEntry}
 use Rattle.clf_sig.specs.Core.{declares, checks}
 use Rattle.celf_meaning.specs.ReadingBack.{ReadsAs}
 use Rattle.celf_replies.specs.Reply.{PlainReply, entry, checked, equal, different, refused, is_refusal}
-use Rattle.celf_replies.specs.Text.{judgment_text, reply_text}
+use Rattle.clf_printer.specs.Judgment.{judgment_text}
+use Rattle.celf_replies.specs.Text.{reply_text}
 use Rattle.celf_run.specs.declared.options.Options.{Options}
 use Rattle.celf_run.specs.declared.status.Status.{Status}
 use Rattle.celf_run.specs.declared.status.Status.TheVariants.{Done, Refused}
@@ -19,7 +20,7 @@ told options new reply = reply_text new.signature reply
 -- #check, as the object and its type. The other lines repeat nothing.
 abbrev pub ReadsBack : Options → Held → PlainReply → Held → Type 0
 ReadsBack options old (entry k) new = (name : List ℕ) × (e : PlainEntry) × (new.signature ≡ old.signature ++ (name, e) ∷ []) × ReadsAs old.signature (told options new (entry k)) (declares name e)
-ReadsBack options old (checked n a) new = ReadsAs old.signature (codes "#check " ++ judgment_text new.signature n a) (checks n a)
+ReadsBack options old (checked n a) new = ReadsAs old.signature (codes "#check " ++ (judgment_text new.signature n a ++ codes ".\n")) (checks n a)
 ReadsBack options old equal new = Unit {0}
 ReadsBack options old different new = Unit {0}
 ReadsBack options old (refused r) new = Unit {0}

@@ -82,9 +82,6 @@ listed-several n text =
     let some : (suc (suc n) == 0) ≡ false = ne_eqb (suc (suc n)) 0 (λ e. omega (arith, e)) in
     rw (some, lt-ltb 1 (suc (suc n)) (omega arith)) refl
 
-pub listed-one : (text : List ℕ) → listed 1 text ≡ text
-listed-one text = append-nil text
-
 one-stands : (rest : List ℕ) (ts : List Lexeme) (b : BeginsWith kind.Number (codes "1") rest ts) → Stands IsPattern (Binds []) ts b.others
 one-stands rest ts b = record { depth = 0; opened = 0; fits = omega (arith, opening-first b); read = read }
   where

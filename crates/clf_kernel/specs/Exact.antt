@@ -2,9 +2,10 @@
 --
 -- A leftover is determined by the parts that it stands for, but for slack where its row has no linear entry: there slack has nothing to
 -- take, and a call may answer it or not.
-use Rattle.std.specs.Prelude.{Result, Ok, Err, Some, None}
+use Rattle.std.specs.Prelude.{◌≡◌, List, Result, Ok, Err, Some, None}
 use Rattle.clf_syntax.specs.declared.fault.OrWide.{OrWide}
 use Rattle.clf_syntax.specs.declared.fault.OrWide.TheVariants.{Fault, NoMemory, TooFar}
+use Rattle.clf_syntax.specs.declared.tree.Mode.{Mode}
 use Rattle.clf_syntax.specs.Tree.{PlainObject, monadic, PlainNeutral, PlainExpression}
 use Rattle.clf_syntax.specs.TypeTree.{PlainType, monad, PlainTelescope, PlainKind}
 use Rattle.clf_syntax.specs.Wide.{IsWide}
@@ -16,6 +17,8 @@ use Rattle.clf_sig.specs.Entry.{PlainSignature, PlainEntry}
 use Rattle.clf_kernel.specs.declared.refusal.Refusal.{Refusal}
 use Rattle.clf_kernel.specs.declared.refusal.Inferred.{Inferred}
 use Rattle.clf_rules.specs.Typing.{HasType, Synthesizes, ExpressionHasType}
+use Rattle.clf_decision.specs.Outcome.{passed, refused}
+use Rattle.clf_decision.specs.Checking.{pattern_left}
 use Rattle.clf_decision.specs.Laws.{InferredIs}
 use Rattle.clf_rules.specs.WellFormed.{WellFormedType, WellFormedKind, WellFormedEntry}
 use Rattle.clf_rules.specs.Explained.{ExplainedAt, ExplainedInNeutral, ExplainedInType, ExplainedInKind, ExplainedInClass}
@@ -64,3 +67,11 @@ ChecksExpression sig g h e s (Ok left) = Agrees (modes g) h (Some (plain_left le
 ChecksExpression sig g h e s (Err (Fault r)) = Agrees (modes g) h None (λ p. ExpressionHasType sig g p e s) × ExplainedAt sig g h (monadic e) (monad s) r.path.items (plain_cause r.cause)
 ChecksExpression sig g h e s (Err NoMemory) = Unit {0}
 ChecksExpression sig g h e s (Err (TooFar w)) = IsWide w
+
+-- A pattern passes where it has as many modes as the telescope has entries, and the same. A refusal is that of the pattern itself, by its
+-- width or by its first mode that is another one.
+abbrev pub ChecksPattern : List Mode → PlainTelescope → Result (Unit {0}) (OrWide Refusal) → Type 0
+ChecksPattern ms s (Ok x) = pattern_left ms s ≡ passed tt
+ChecksPattern ms s (Err (Fault r)) = pattern_left ms s ≡ refused r.path.items (plain_cause r.cause)
+ChecksPattern ms s (Err NoMemory) = Unit {0}
+ChecksPattern ms s (Err (TooFar w)) = IsWide w

@@ -16,6 +16,7 @@ pub use Rattle.clf_rules.specs.WellFormed
 pub use Rattle.clf_rules.specs.Refusal
 pub use Rattle.clf_rules.specs.Explained
 pub mod Answers
+pub mod Numbered
 pub mod Judge
 pub mod Exact
 pub mod Spine

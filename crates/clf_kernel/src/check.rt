@@ -1,5 +1,5 @@
 //! The check of objects.
-ghost use Rattle.std.specs.Prelude.{◌≡◌, ◌∷◌, ◌<◌, ◌^◌, true, IfOk, OnOk, length};
+ghost use Rattle.std.specs.Prelude.{◌≡◌, ◌∷◌, true, IfOk, OnOk};
 ghost use Rattle.clf_syntax.specs.Plain.{plain_obj, plain_neutral};
 ghost use Rattle.clf_syntax.specs.PlainTypes.{plain_ty};
 ghost use Rattle.use_contexts.specs.Context.{modes};
@@ -9,7 +9,7 @@ ghost use Rattle.clf_decision.specs.Outcome.{and_then, at_part};
 ghost use Rattle.clf_decision.specs.Checking.{closed_scope, lambda_left, joined_left, atomic_left, checked, inferred};
 ghost use Rattle.clf_decision.specs.Hereditary.{hereditary};
 ghost use Rattle.clf_kernel.specs.Answers.{plain_left};
-ghost use Rattle.clf_kernel.specs.Judge.{signature_of, context_of};
+ghost use Rattle.clf_kernel.specs.Judge.{IsRowOf, signature_of, context_of};
 ghost use Rattle.clf_kernel.specs.Stops.{Gives};
 
 use crate::judge::Judge;
@@ -23,11 +23,10 @@ impl Judge<'_> {
     #[cycle(check)]
     #[tactic(auto, using(clf_syntax::specs::Plain::plain_laws, clf_syntax::specs::PlainTypes::plain_type_laws, crate::proofs::Stops::stop_laws))]
     pub fn check(&mut self, obj: &Obj, ty: &Ty, row: Holding) -> Result<Left, Stop>
-        requires marked { length (marks row) ≡ length (context_of self.old) }
-        requires numbered { length (context_of self.old) < 2 ^ 32 }
+        requires marked { IsRowOf self.old row }
         ensures outcome { Gives plain_left (checked hereditary (signature_of self.old) (context_of self.old) (marks row)
             (plain_obj obj.now) (plain_ty ty.now)) result }
-        ensures marked { IfOk result (λ left. length (marks left.row) ≡ length (context_of self.old)) }
+        ensures marked { IfOk result (λ left. IsRowOf self.old left.row) }
         ensures kept { OnOk result (self.new ≡ self.old) }
     {
         match obj {
@@ -55,12 +54,11 @@ impl Judge<'_> {
     #[cycle(check)]
     #[tactic(auto, using(crate::proofs::Stops::stop_laws))]
     fn check_neutral(&mut self, neutral: &Neutral, ty: &Ty, row: Holding) -> Result<Left, Stop>
-        requires marked { length (marks row) ≡ length (context_of self.old) }
-        requires numbered { length (context_of self.old) < 2 ^ 32 }
+        requires marked { IsRowOf self.old row }
         ensures outcome { Gives plain_left (and_then (inferred hereditary (signature_of self.old) (context_of self.old)
             (marks row) (plain_neutral neutral.now)) (atomic_left (context_of self.old) (plain_ty ty.now)))
             result }
-        ensures marked { IfOk result (λ left. length (marks left.row) ≡ length (context_of self.old)) }
+        ensures marked { IfOk result (λ left. IsRowOf self.old left.row) }
         ensures kept { OnOk result (self.new ≡ self.old) }
     {
         let found = self.infer_neutral(neutral, row)?;
@@ -71,11 +69,10 @@ impl Judge<'_> {
     #[cycle(check)]
     #[tactic(auto, using(crate::proofs::Stops::stop_laws))]
     fn check_left(&mut self, obj: &Obj, ty: &Ty, row: &Holding) -> Result<Left, Stop>
-        requires marked { length (marks row.now) ≡ length (context_of self.old) }
-        requires numbered { length (context_of self.old) < 2 ^ 32 }
+        requires marked { IsRowOf self.old row.now }
         ensures outcome { Gives plain_left (at_part 0 (checked hereditary (signature_of self.old) (context_of self.old)
             (marks row.now) (plain_obj obj.now) (plain_ty ty.now))) result }
-        ensures marked { IfOk result (λ left. length (marks left.row) ≡ length (context_of self.old)) }
+        ensures marked { IfOk result (λ left. IsRowOf self.old left.row) }
         ensures kept { OnOk result (self.new ≡ self.old) }
     {
         let copy = row.copy(self.alloc)?;
@@ -86,15 +83,14 @@ impl Judge<'_> {
     #[cycle(check)]
     #[tactic(auto, using(crate::proofs::Stops::stop_laws))]
     fn check_right(&mut self, obj: &Obj, ty: &Ty, row: Holding, first: Left) -> Result<Left, Stop>
-        requires marked { length (marks row) ≡ length (context_of self.old) }
-        requires numbered { length (context_of self.old) < 2 ^ 32 }
-        requires first_marked { length (marks first.row) ≡ length (context_of self.old) }
+        requires marked { IsRowOf self.old row }
+        requires first_marked { IsRowOf self.old first.row }
         ensures outcome { Gives plain_left (and_then (at_part 1 (checked hereditary (signature_of self.old)
             (context_of self.old) (marks row) (plain_obj obj.now) (plain_ty ty.now))) (λ y.
             joined_left (context_of self.old) (plain_left first) y
             (newest_difference (modes (context_of self.old)) (marks first.row) first.slack y.0 y.1)))
             result }
-        ensures marked { IfOk result (λ left. length (marks left.row) ≡ length (context_of self.old)) }
+        ensures marked { IfOk result (λ left. IsRowOf self.old left.row) }
         ensures kept { OnOk result (self.new ≡ self.old) }
     {
         let second = self.check_part(1, obj, ty, row)?;
@@ -110,11 +106,10 @@ impl Judge<'_> {
         ty: &Ty,
         row: Holding,
     ) -> Result<Left, Stop>
-        requires marked { length (marks row) ≡ length (context_of self.old) }
-        requires numbered { length (context_of self.old) < 2 ^ 32 }
+        requires marked { IsRowOf self.old row }
         ensures outcome { Gives plain_left (at_part place (checked hereditary (signature_of self.old)
             (context_of self.old) (marks row) (plain_obj obj.now) (plain_ty ty.now))) result }
-        ensures marked { IfOk result (λ left. length (marks left.row) ≡ length (context_of self.old)) }
+        ensures marked { IfOk result (λ left. IsRowOf self.old left.row) }
         ensures kept { OnOk result (self.new ≡ self.old) }
     {
         match self.check(obj, ty, row) {
@@ -126,12 +121,11 @@ impl Judge<'_> {
     #[cycle(check)]
     #[tactic(auto, using(clf_syntax::specs::Plain::plain_laws, clf_syntax::specs::PlainTypes::plain_type_laws, crate::proofs::Stops::stop_laws))]
     fn check_lambda(&mut self, mode: Mode, body: &Obj, ty: &Ty, row: Holding) -> Result<Left, Stop>
-        requires marked { length (marks row) ≡ length (context_of self.old) }
-        requires numbered { length (context_of self.old) < 2 ^ 32 }
+        requires marked { IsRowOf self.old row }
         ensures outcome { Gives plain_left (lambda_left mode (context_of self.old) (plain_ty ty.now) (λ a c.
             checked hereditary (signature_of self.old) ((mode, a) ∷ context_of self.old) (true ∷ marks row)
             (plain_obj body.now) c)) result }
-        ensures marked { IfOk result (λ left. length (marks left.row) ≡ length (context_of self.old)) }
+        ensures marked { IfOk result (λ left. IsRowOf self.old left.row) }
         ensures kept { OnOk result (self.new ≡ self.old) }
     {
         match ty {
@@ -168,12 +162,11 @@ impl Judge<'_> {
         cod: &Ty,
         row: Holding,
     ) -> Result<Left, Stop>
-        requires marked { length (marks row) ≡ length (context_of self.old) }
-        requires numbered { length (context_of self.old) < 2 ^ 32 }
+        requires marked { IsRowOf self.old row }
         ensures outcome { Gives plain_left (and_then (at_part 0 (checked hereditary (signature_of self.old)
             ((mode, plain_ty dom.now) ∷ context_of self.old) (true ∷ marks row) (plain_obj body.now)
             (plain_ty cod.now))) (closed_scope mode (context_of self.old))) result }
-        ensures marked { IfOk result (λ left. length (marks left.row) ≡ length (context_of self.old)) }
+        ensures marked { IfOk result (λ left. IsRowOf self.old left.row) }
         ensures kept { OnOk result (self.new ≡ self.old) }
     {
         let inner = self.enter(mode, dom, row)?;

@@ -1,5 +1,5 @@
 //! The formation of types and kinds, over a context that grows under their binders.
-ghost use Rattle.std.specs.Prelude.{◌≡◌, ◌∷◌, ◌<◌, ◌^◌, ◌==◌, if◌then◌else◌, [], length, map, option_map, option_copied, OnOk};
+ghost use Rattle.std.specs.Prelude.{◌≡◌, ◌∷◌, ◌<◌, ◌==◌, if◌then◌else◌, [], length, map, option_map, option_copied, OnOk};
 ghost use Rattle.clf_syntax.specs.Plain.{plain_obj};
 ghost use Rattle.clf_syntax.specs.PlainTypes.{plain_ty, plain_tele_entry, plain_kind};
 ghost use Rattle.clf_syntax.specs.TypeTree.{telescope_of};
@@ -25,7 +25,6 @@ impl Judge<'_> {
     /// The arguments of a kind, each of which adds a persistent variable.
     #[tactic(auto, using(crate::proofs::Stops::stop_laws))]
     pub fn form_arguments(&mut self, args: &[Ty]) -> Result<(), Stop>
-        requires numbered { length (context_of self.old) < 2 ^ 32 }
         ensures { Gives (λ x. x)
             (kind_formed hereditary (signature_of self.old) (context_of self.old) 0 (map plain_ty args.now))
             result }
@@ -42,13 +41,11 @@ impl Judge<'_> {
     #[cycle(form)]
     #[tactic(auto, using(crate::proofs::Stops::stop_laws))]
     fn form_entry(&mut self, place: usize, mode: Mode, ty: &Ty) -> Result<(), Stop>
-        requires numbered { length (context_of self.old) < 2 ^ 32 }
         ensures formed { Gives (λ x. x)
             (at_part place (type_formed hereditary (signature_of self.old) (context_of self.old) (plain_ty ty.now)))
             result }
         ensures context { OnOk result (context_of self.new ≡ (mode, plain_ty ty.now) ∷ context_of self.old) }
         ensures entry { OnOk result (IsEntered self.old self.new) }
-        ensures numbered { OnOk result (length (context_of self.new) < 2 ^ 32) }
     {
         self.form_part(place, ty)?;
         self.enter_entry(mode, ty)
@@ -57,7 +54,6 @@ impl Judge<'_> {
     /// The type of the part with this number.
     #[cycle(form)]
     fn form_part(&mut self, place: usize, ty: &Ty) -> Result<(), Stop>
-        requires numbered { length (context_of self.old) < 2 ^ 32 }
         ensures formed { Gives (λ x. x)
             (at_part place (type_formed hereditary (signature_of self.old) (context_of self.old) (plain_ty ty.now)))
             result }
@@ -73,7 +69,6 @@ impl Judge<'_> {
     #[cycle(form)]
     #[tactic(auto, using(clf_syntax::specs::PlainTypes::plain_type_laws, crate::proofs::Stops::stop_laws))]
     pub fn form_type(&mut self, ty: &Ty) -> Result<(), Stop>
-        requires numbered { length (context_of self.old) < 2 ^ 32 }
         ensures formed { Gives (λ x. x)
             (type_formed hereditary (signature_of self.old) (context_of self.old) (plain_ty ty.now)) result }
         ensures kept { OnOk result (self.new ≡ self.old) }
@@ -99,7 +94,6 @@ impl Judge<'_> {
     #[cycle(form)]
     #[tactic(auto, using(crate::proofs::Stops::stop_laws))]
     fn form_telescope(&mut self, entries: &[TeleEntry]) -> Result<(), Stop>
-        requires numbered { length (context_of self.old) < 2 ^ 32 }
         ensures formed { Gives (λ x. x) (telescope_formed hereditary (signature_of self.old) (context_of self.old) 0
             (telescope_of (map plain_tele_entry entries.now))) result }
         ensures kept { OnOk result (self.new ≡ self.old) }
@@ -117,7 +111,6 @@ impl Judge<'_> {
     /// A family at its indices.
     #[tactic(auto, using(crate::proofs::Stops::stop_laws))]
     fn form_family(&mut self, family: u32, indices: &[Obj]) -> Result<(), Stop>
-        requires numbered { length (context_of self.old) < 2 ^ 32 }
         ensures formed { Gives (λ x. x) (family_formed hereditary (signature_of self.old) (context_of self.old) family
             (map plain_obj indices.now) (kind_of_family (signature_of self.old) family)) result }
         ensures kept { OnOk result (self.new ≡ self.old) }
@@ -137,7 +130,6 @@ impl Judge<'_> {
     /// The indices that have an argument of the kind.
     #[tactic(auto, using(crate::proofs::Stops::stop_laws))]
     fn form_indices(&mut self, indices: &[Obj], kind: &Kind) -> Result<(), Stop>
-        requires numbered { length (context_of self.old) < 2 ^ 32 }
         ensures formed { Gives (λ x. x) (indices_formed hereditary (signature_of self.old) (context_of self.old) 0
             (map plain_obj indices.now) (plain_kind kind.now)) result }
         ensures kept { OnOk result (self.new ≡ self.old) }
@@ -158,7 +150,6 @@ impl Judge<'_> {
     #[tactic(auto, using(crate::proofs::Stops::stop_laws))]
     fn form_index(&mut self, place: usize, obj: &Obj, rest: Items<Ty>) -> Result<Items<Ty>, Stop>
         requires there { 0 < length rest }
-        requires numbered { length (context_of self.old) < 2 ^ 32 }
         ensures outcome { Gives (map plain_ty) (index_behind hereditary (signature_of self.old) (context_of self.old)
             place (plain_obj obj.now) (map plain_ty rest)) result }
         ensures kept { OnOk result (self.new ≡ self.old) }

@@ -9,7 +9,7 @@ ghost use Rattle.clf_rules.specs.Refusal.{level as level_of};
 ghost use Rattle.clf_decision.specs.Outcome.{passed};
 ghost use Rattle.clf_decision.specs.Checking.{head_left, constant_left, variable_left};
 ghost use Rattle.clf_kernel.specs.Answers.{plain_inferred};
-ghost use Rattle.clf_kernel.specs.Judge.{signature_of, context_of};
+ghost use Rattle.clf_kernel.specs.Judge.{IsRowOf, signature_of, context_of};
 ghost use Rattle.clf_kernel.specs.Stops.{Gives, IsShort};
 
 use crate::judge::Judge;
@@ -22,11 +22,10 @@ use use_contexts::{Holding, Left, take};
 impl Judge<'_> {
     /// The type of a head, and what it leaves of a row.
     pub fn infer_head(&self, head: Head, row: Holding) -> Result<Inferred, Stop>
-        requires marked { length (marks row) ≡ length (context_of self.now) }
-        requires numbered { length (context_of self.now) < 2 ^ 32 }
+        requires marked { IsRowOf self.now row }
         ensures outcome { Gives plain_inferred
             (head_left (signature_of self.now) (context_of self.now) (marks row) head) result }
-        ensures marked { IfOk result (λ found. length (marks found.left.row) ≡ length (context_of self.now)) }
+        ensures marked { IfOk result (λ found. IsRowOf self.now found.left.row) }
     {
         match head {
             Head::Const(constant) => self.infer_constant(constant, row),
@@ -52,11 +51,10 @@ impl Judge<'_> {
     }
 
     fn infer_variable(&self, var: u32, row: Holding) -> Result<Inferred, Stop>
-        requires marked { length (marks row) ≡ length (context_of self.now) }
-        requires numbered { length (context_of self.now) < 2 ^ 32 }
+        requires marked { IsRowOf self.now row }
         ensures outcome { Gives plain_inferred
             (variable_left (context_of self.now) (marks row) var (slice_get (context_of self.now) var)) result }
-        ensures marked { IfOk result (λ found. length (marks found.left.row) ≡ length (context_of self.now)) }
+        ensures marked { IfOk result (λ found. IsRowOf self.now found.left.row) }
     {
         if var as usize >= self.ctx.len() {
             return Err(refuse(
@@ -81,7 +79,6 @@ impl Judge<'_> {
     /// The level of a variable, which is the number in its printed name.
     pub fn level(&self, var: u32) -> u32
         requires there { var ≤ length (context_of self.now) }
-        requires numbered { length (context_of self.now) < 2 ^ 32 }
         ensures { result ≡ level_of (context_of self.now) var }
     {
         (self.ctx.len() - var as usize) as u32

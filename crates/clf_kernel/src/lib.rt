@@ -9,6 +9,7 @@ mod head;
 mod judge;
 mod object;
 mod parts;
+mod pattern;
 mod putting;
 mod refusal;
 mod rows;
@@ -19,4 +20,5 @@ mod tuple;
 
 pub use entry::{check_entry, check_kind, check_type};
 pub use object::{check_object, check_run, infer};
+pub use pattern::check_pattern;
 pub use refusal::{Cause, Inferred, Refusal};

@@ -1,5 +1,4 @@
 //! The calls of the kernel for objects and neutrals.
-ghost use Rattle.std.specs.Prelude.{◌≡◌, length};
 ghost use Rattle.clf_syntax.specs.Plain.{plain_obj, plain_expr, plain_neutral};
 ghost use Rattle.clf_syntax.specs.PlainTypes.{plain_ty, plain_tele};
 ghost use Rattle.clf_sig.specs.Signature.{plain_signature};
@@ -11,6 +10,7 @@ ghost use Rattle.clf_decision.specs.Hereditary.{hereditary};
 ghost use Rattle.clf_kernel.specs.Exact.{ChecksObject, ChecksExpression, InfersNeutral};
 ghost use Rattle.clf_decision.specs.Checking.{checked, checked_expression, inferred};
 ghost use Rattle.clf_kernel.specs.Answers.{plain_left, plain_inferred};
+ghost use Rattle.clf_kernel.specs.Judge.{IsRowOver};
 ghost use Rattle.clf_kernel.specs.Stops.{Gives};
 
 use crate::judge::Judge;
@@ -101,7 +101,7 @@ fn run_in_copy(
     expr: &Expr,
     tele: &Tele,
 ) -> Result<Left, Stop>
-    requires { length (marks holding.now) ≡ length (context ctx.now) }
+    requires { IsRowOver (context ctx.now) holding.now }
     ensures { Gives plain_left (checked_expression hereditary (plain_signature sig.now) (context ctx.now)
         (marks holding.now) 0 (plain_expr expr.now) (plain_tele tele.now)) result }
 {
@@ -120,7 +120,7 @@ fn check_in_copy(
     obj: &Obj,
     ty: &Ty,
 ) -> Result<Left, Stop>
-    requires { length (marks holding.now) ≡ length (context ctx.now) }
+    requires { IsRowOver (context ctx.now) holding.now }
     ensures { Gives plain_left (checked hereditary (plain_signature sig.now) (context ctx.now) (marks holding.now)
         (plain_obj obj.now) (plain_ty ty.now)) result }
 {
@@ -138,7 +138,7 @@ fn infer_in_copy(
     holding: &Holding,
     neutral: &Neutral,
 ) -> Result<Inferred, Stop>
-    requires { length (marks holding.now) ≡ length (context ctx.now) }
+    requires { IsRowOver (context ctx.now) holding.now }
     ensures { Gives plain_inferred (inferred hereditary (plain_signature sig.now) (context ctx.now) (marks holding.now)
         (plain_neutral neutral.now)) result }
 {

@@ -1,5 +1,5 @@
 //! The parts of the check that look into no part of an object.
-ghost use Rattle.std.specs.Prelude.{◌≡◌, ◌<◌, ◌^◌, [], IfOk, length, map};
+ghost use Rattle.std.specs.Prelude.{◌≡◌, [], IfOk, length, map};
 ghost use Rattle.clf_syntax.specs.Plain.{plain_obj};
 ghost use Rattle.clf_syntax.specs.PlainTypes.{plain_ty};
 ghost use Rattle.use_contexts.specs.Context.{modes};
@@ -9,7 +9,7 @@ ghost use Rattle.clf_decision.specs.Checking.{joined_left, unit_left, atomic_lef
 ghost use Rattle.clf_rules.specs.Refusal.{index_differs};
 ghost use Rattle.trace_equal.specs.Difference.{DiffersAt};
 ghost use Rattle.clf_kernel.specs.Answers.{plain_left, plain_inferred};
-ghost use Rattle.clf_kernel.specs.Judge.{context_of};
+ghost use Rattle.clf_kernel.specs.Judge.{IsRowOf, context_of};
 ghost use Rattle.clf_kernel.specs.Stops.{Gives, Ends};
 
 use crate::judge::Judge;
@@ -36,7 +36,6 @@ impl Judge<'_> {
     /// An atomic object stands at the family that its neutral has, at joined indices.
     #[tactic(auto, using(clf_syntax::specs::PlainTypes::plain_type_laws, crate::proofs::Stops::stop_laws))]
     pub fn check_atomic(&self, ty: &Ty, found: Inferred) -> Result<Left, Stop>
-        requires numbered { length (context_of self.now) < 2 ^ 32 }
         ensures outcome { Gives plain_left (atomic_left (context_of self.now) (plain_ty ty.now) (plain_inferred found))
             result }
         ensures row { IfOk result (λ left. left.row ≡ found.left.row) }
@@ -53,7 +52,6 @@ impl Judge<'_> {
 
     #[tactic(auto, using(clf_syntax::specs::PlainTypes::plain_type_laws, crate::proofs::Stops::stop_laws))]
     fn check_family(&self, wanted: u32, indices: &[Obj], found: Inferred) -> Result<Left, Stop>
-        requires numbered { length (context_of self.now) < 2 ^ 32 }
         ensures outcome { Gives plain_left (found_left (context_of self.now) wanted (map plain_obj indices.now)
             (plain_ty found.ty) (plain_left found.left)) result }
         ensures row { IfOk result (λ left. left.row ≡ found.left.row) }
@@ -80,7 +78,6 @@ impl Judge<'_> {
     /// The indices that are found are joined with those that are wanted.
     #[tactic(auto, using(crate::proofs::Stops::stop_laws, crate::proofs::Differences::none_differs))]
     fn check_indices(&self, found: &[Obj], wanted: &[Obj], left: Left) -> Result<Left, Stop>
-        requires numbered { length (context_of self.now) < 2 ^ 32 }
         ensures outcome { Gives plain_left (indices_left (context_of self.now)
             (first_unjoined (map plain_obj found.now) (map plain_obj wanted.now)) (plain_left left)) result }
         ensures row { IfOk result (λ outer. outer.row ≡ left.row) }
@@ -101,7 +98,6 @@ impl Judge<'_> {
         wanted: &[Obj],
         left: Left,
     ) -> Result<Left, Stop>
-        requires numbered { length (context_of self.now) < 2 ^ 32 }
         requires there { DiffersAt place (map plain_obj found.now) (map plain_obj wanted.now) }
         ensures outcome { Gives plain_left (indices_left (context_of self.now)
             (first_unjoined (map plain_obj found.now) (map plain_obj wanted.now)) (plain_left left)) result }
@@ -115,7 +111,6 @@ impl Judge<'_> {
 
     /// A refusal at two indices that are not joined.
     fn refuse_indices(&self, found: &Obj, wanted: &Obj) -> Stop
-        requires numbered { length (context_of self.now) < 2 ^ 32 }
         ensures { Ends [] (index_differs (length (context_of self.now)) (plain_obj found.now) (plain_obj wanted.now))
             result }
     {
@@ -136,12 +131,11 @@ impl Judge<'_> {
     /// What both parts of a pair leave.
     #[tactic(auto, using(crate::proofs::Stops::stop_laws))]
     pub fn join(&self, first: Left, second: Left) -> Result<Left, Stop>
-        requires first_marked { length (marks first.row) ≡ length (context_of self.now) }
-        requires second_marked { length (marks second.row) ≡ length (context_of self.now) }
-        requires numbered { length (context_of self.now) < 2 ^ 32 }
+        requires first_marked { IsRowOf self.now first.row }
+        requires second_marked { IsRowOf self.now second.row }
         ensures outcome { Gives plain_left (joined_left (context_of self.now) (plain_left first) (plain_left second) (newest_difference (modes (context_of self.now)) (marks first.row) first.slack (marks second.row)
             second.slack)) result }
-        ensures marked { IfOk result (λ left. length (marks left.row) ≡ length (context_of self.now)) }
+        ensures marked { IfOk result (λ left. IsRowOf self.now left.row) }
     {
         match join_add(&self.ctx, first, second) {
             Ok(left) => Ok(left),

@@ -1,10 +1,10 @@
 //! The rows from which arguments start, and what they leave outside.
-ghost use Rattle.std.specs.Prelude.{◌≡◌, ◌&&◌, not, if◌then◌else◌, IfOk, length};
+ghost use Rattle.std.specs.Prelude.{◌≡◌, ◌&&◌, not, if◌then◌else◌, IfOk};
 ghost use Rattle.use_contexts.specs.Context.{modes};
 ghost use Rattle.use_contexts.specs.Holding.{allowed, is_linear, is_persistent, persistent_alone as persistent_marks, without_linear as without_linear_marks};
 ghost use Rattle.use_contexts.specs.Marks.{marks};
 ghost use Rattle.use_contexts.specs.Rows.{linear_of as linear_marks, outside, slack_outside};
-ghost use Rattle.clf_kernel.specs.Judge.{context_of};
+ghost use Rattle.clf_kernel.specs.Judge.{IsRowOf, context_of};
 
 use crate::judge::Judge;
 use clf_syntax::Mode;
@@ -16,10 +16,10 @@ impl Judge<'_> {
     /// The row from which what its mode allows of a row starts.
     #[tactic(auto, using(crate::proofs::RowSteps::length_laws))]
     pub fn allowed_of(&self, mode: Mode, row: &Holding) -> Result<Holding, AllocError>
-        requires { length (marks row.now) ≡ length (context_of self.now) }
+        requires { IsRowOf self.now row.now }
         ensures marks { IfOk result
             (λ start. marks start ≡ allowed mode (modes (context_of self.now)) (marks row.now)) }
-        ensures marked { IfOk result (λ start. length (marks start) ≡ length (context_of self.now)) }
+        ensures marked { IfOk result (λ start. IsRowOf self.now start) }
     {
         match mode {
             Mode::Persistent => self.persistent_alone(),
@@ -36,11 +36,11 @@ impl Judge<'_> {
         row: Holding,
         left: Holding,
     ) -> Result<Holding, AllocError>
-        requires row_length { length (marks row) ≡ length (context_of self.now) }
-        requires left_length { length (marks left) ≡ length (context_of self.now) }
+        requires row_length { IsRowOf self.now row }
+        requires left_length { IsRowOf self.now left }
         ensures marks { IfOk result
             (λ rest. marks rest ≡ outside mode (modes (context_of self.now)) (marks row) (marks left)) }
-        ensures marked { IfOk result (λ rest. length (marks rest) ≡ length (context_of self.now)) }
+        ensures marked { IfOk result (λ rest. IsRowOf self.now rest) }
     {
         match mode {
             Mode::Persistent => Ok(row),
@@ -53,7 +53,7 @@ impl Judge<'_> {
     #[tactic(auto, using(crate::proofs::RowSteps::length_laws))]
     pub fn persistent_alone(&self) -> Result<Holding, AllocError>
         ensures marks { IfOk result (λ row. marks row ≡ persistent_marks (modes (context_of self.now))) }
-        ensures marked { IfOk result (λ row. length (marks row) ≡ length (context_of self.now)) }
+        ensures marked { IfOk result (λ row. IsRowOf self.now row) }
     {
         let mut held = Items::new(self.alloc);
         let mut var = self.ctx.len();
@@ -67,10 +67,10 @@ impl Judge<'_> {
     /// A row without its linear entries.
     #[tactic(auto, using(crate::proofs::RowSteps::length_laws))]
     fn without_linear(&self, row: &Holding) -> Result<Holding, AllocError>
-        requires { length (marks row.now) ≡ length (context_of self.now) }
+        requires { IsRowOf self.now row.now }
         ensures marks { IfOk result
             (λ left. marks left ≡ without_linear_marks (modes (context_of self.now)) (marks row.now)) }
-        ensures marked { IfOk result (λ left. length (marks left) ≡ length (context_of self.now)) }
+        ensures marked { IfOk result (λ left. IsRowOf self.now left) }
     {
         let mut held = Items::new(self.alloc);
         let mut var = self.ctx.len();
@@ -84,11 +84,11 @@ impl Judge<'_> {
     /// The linear entries of the first row, and the others of the second.
     #[tactic(auto, using(crate::proofs::RowSteps::length_laws))]
     fn linear_of(&self, first: &Holding, second: &Holding) -> Result<Holding, AllocError>
-        requires first_length { length (marks first.now) ≡ length (context_of self.now) }
-        requires second_length { length (marks second.now) ≡ length (context_of self.now) }
+        requires first_length { IsRowOf self.now first.now }
+        requires second_length { IsRowOf self.now second.now }
         ensures marks { IfOk result
             (λ left. marks left ≡ linear_marks (modes (context_of self.now)) (marks first.now) (marks second.now)) }
-        ensures marked { IfOk result (λ left. length (marks left) ≡ length (context_of self.now)) }
+        ensures marked { IfOk result (λ left. IsRowOf self.now left) }
     {
         let mut held = Items::new(self.alloc);
         let mut var = self.ctx.len();

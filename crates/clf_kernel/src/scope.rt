@@ -1,19 +1,21 @@
 //! The scope of a lambda's variable.
-ghost use Rattle.std.specs.Prelude.{◌≡◌, ◌∷◌, ◌+◌, ◌<◌, ◌^◌, suc, true, IfOk, OnOk, IfErr, length};
+ghost use Rattle.std.specs.Prelude.{ℕ, ◌≡◌, ◌∷◌, ◌+◌, true, IfOk, OnOk, IfErr, length};
 ghost use Rattle.clf_syntax.specs.PlainTypes.{plain_ty};
 ghost use Rattle.use_contexts.specs.Marks.{marks};
 ghost use Rattle.use_contexts.specs.Rows.{newest, older, is_unused as is_unused_linear};
 ghost use Rattle.clf_decision.specs.Checking.{closed_scope};
 ghost use Rattle.clf_kernel.specs.declared.judge.Judge.{Judge as DeclaredJudge};
 ghost use Rattle.clf_kernel.specs.Answers.{plain_left};
-ghost use Rattle.clf_kernel.specs.Judge.{IsEntered, IsGrown, context_of};
+ghost use Rattle.clf_kernel.specs.Judge.{HasMarks, HasNewer, IsEntered, IsGrown, IsInnerRowOf, IsRowOf, context_of};
 ghost use Rattle.clf_kernel.specs.Stops.{IsShort, Gives};
 ghost use Rattle.clf_kernel.specs.Trail.{closed_mode, closed_modes};
 
 use crate::judge::Judge;
-use crate::refusal::{Cause, Stop, refuse, too_far};
+use crate::refusal::{Cause, Stop, count, refuse, too_far};
 use clf_syntax::{Mode, TeleEntry, Ty};
-use std::alloc::{AllocError, Global};
+use sqlite_items::Items;
+use std::alloc::Global;
+use std::mem;
 use use_contexts::{Holding, Left};
 
 impl Judge<'_> {
@@ -22,7 +24,6 @@ impl Judge<'_> {
     pub fn enter(&mut self, mode: Mode, ty: &Ty, row: Holding) -> Result<Holding, Stop>
         ensures context { OnOk result (context_of self.new ≡ (mode, plain_ty ty.now) ∷ context_of self.old) }
         ensures entry { OnOk result (IsEntered self.old self.new) }
-        ensures numbered { OnOk result (length (context_of self.new) < 2 ^ 32) }
         ensures row { IfOk result (λ inner. marks inner ≡ true ∷ marks row) }
         ensures short { IfErr result IsShort }
     {
@@ -37,25 +38,30 @@ impl Judge<'_> {
     pub fn enter_entry(&mut self, mode: Mode, ty: &Ty) -> Result<(), Stop>
         ensures context { OnOk result (context_of self.new ≡ (mode, plain_ty ty.now) ∷ context_of self.old) }
         ensures entry { OnOk result (IsEntered self.old self.new) }
-        ensures numbered { OnOk result (length (context_of self.new) < 2 ^ 32) }
         ensures short { IfErr result IsShort }
     {
         if self.ctx.len() >= u32::MAX as usize {
             return Err(too_far(self.alloc));
         }
-        self.add_entry(mode, ty)?;
+        let ty = ty.copy(self.alloc)?;
+        self.ctx.entries.push(TeleEntry { mode, ty })?;
         Ok(())
     }
 
-    /// Adds a newest variable.
-    fn add_entry(&mut self, mode: Mode, ty: &Ty) -> Result<(), AllocError>
-        ensures context { OnOk result (context_of self.new ≡ (mode, plain_ty ty.now) ∷ context_of self.old) }
-        ensures entry { OnOk result (IsEntered self.old self.new) }
+    /// Adds variables, the newest last.
+    #[tactic(auto, using(crate::proofs::Stops::stop_laws))]
+    pub fn enter_entries(&mut self, entries: Items<TeleEntry>) -> Result<(), Stop>
+        ensures entries { OnOk result (HasNewer self.old entries self.new) }
+        ensures short { IfErr result IsShort }
     {
-        self.ctx.entries.push(TeleEntry {
-            mode,
-            ty: ty.copy(self.alloc)?,
-        })
+        let older = self.ctx.len();
+        if older > u32::MAX as usize || entries.len() > u32::MAX as usize - older {
+            return Err(too_far(self.alloc));
+        }
+        let mut all = mem::replace(&mut self.ctx.entries, Items::new(self.alloc));
+        all.append(entries)?;
+        self.ctx.entries = all;
+        Ok(())
     }
 
     /// Takes the newest variable away.
@@ -77,45 +83,43 @@ impl Judge<'_> {
     /// The end of the scope of a variable that the context has no longer.
     #[tactic(auto, using(crate::proofs::Stops::stop_laws))]
     pub fn close_scope(&self, mode: Mode, left: Left) -> Result<Left, Stop>
-        requires marked { length (marks left.row) ≡ suc (length (context_of self.now)) }
-        requires numbered { suc (length (context_of self.now)) < 2 ^ 32 }
+        requires marked { IsInnerRowOf self.now left.row }
         ensures outcome { Gives plain_left (closed_scope mode (context_of self.now) (plain_left left)) result }
-        ensures marked { IfOk result (λ outer. length (marks outer.row) ≡ length (context_of self.now)) }
+        ensures marked { IfOk result (λ outer. IsRowOf self.now outer.row) }
     {
-        close_mode(self.alloc, mode, self.ctx.len(), left)
+        close_mode(self.alloc, mode, left)
     }
 }
 
-/// The end of the scope of the newest variable, after so many older ones.
-#[tactic(auto, using(crate::proofs::Stops::stop_laws, crate::proofs::RowSteps::length_laws))]
-fn close_mode(alloc: Global, mode: Mode, older: usize, left: Left) -> Result<Left, Stop>
-    requires marked { length (marks left.row) ≡ suc older }
-    requires numbered { suc older < 2 ^ 32 }
-    ensures outcome { Gives plain_left (closed_mode mode (suc older) (plain_left left)) result }
-    ensures marked { IfOk result (λ outer. length (marks outer.row) ≡ older) }
+/// The end of the scope of the newest variable, whose level is the number of marks.
+#[tactic(auto, using(crate::proofs::Stops::stop_laws))]
+fn close_mode(alloc: Global, mode: Mode, left: Left) -> Result<Left, Stop>
+    ensures outcome { Gives plain_left (closed_mode mode (length (marks left.row)) (plain_left left)) result }
+    ensures row { IfOk result (λ outer. marks outer.row ≡ older (marks left.row)) }
 {
     let Left { mut row, slack } = left;
+    let entries = row.held.len();
     let is_left = take_newest(&mut row);
     if is_unused(mode, is_left, slack) {
-        let level = (older + 1) as u32;
+        let level = count(alloc, entries)?;
         return Err(refuse(alloc, Cause::Unused { level }));
     }
     Ok(Left { row, slack })
 }
 
-/// The ends of the scopes of variables of these modes, after so many older ones; that of the newest first.
+/// The ends of the scopes of the newest variables, which have these modes; that of the newest first.
 #[tactic(auto, using(crate::proofs::Stops::stop_laws))]
-pub fn close_modes(alloc: Global, modes: &[Mode], older: usize, left: Left) -> Result<Left, Stop>
-    requires marked { length (marks left.row) ≡ older + length modes.now }
-    requires numbered { older + length modes.now < 2 ^ 32 }
-    ensures outcome { Gives plain_left (closed_modes modes.now older (plain_left left)) result }
-    ensures marked { IfOk result (λ outer. length (marks outer.row) ≡ older) }
+pub fn close_modes(alloc: Global, modes: &[Mode], left: Left) -> Result<Left, Stop>
+    ensures outcome { (n : ℕ) → HasMarks (n + length modes.now) left.row →
+        Gives plain_left (closed_modes modes.now n (plain_left left)) result }
+    ensures marked { (n : ℕ) → HasMarks (n + length modes.now) left.row →
+        IfOk result (λ outer. HasMarks n outer.row) }
 {
     let mut left = left;
     let mut at = modes.len();
     while at > 0 {
         at -= 1;
-        left = close_mode(alloc, modes[at], older + at, left)?;
+        left = close_mode(alloc, modes[at], left)?;
     }
     Ok(left)
 }

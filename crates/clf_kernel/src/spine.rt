@@ -1,12 +1,12 @@
 //! The types of neutrals: a head, and its eliminations in order.
-ghost use Rattle.std.specs.Prelude.{◌≡◌, ◌<◌, ◌^◌, map, IfOk, OnOk, length};
+ghost use Rattle.std.specs.Prelude.{◌≡◌, map, IfOk, OnOk};
 ghost use Rattle.clf_syntax.specs.Plain.{plain_obj, plain_elim, plain_neutral};
 ghost use Rattle.clf_syntax.specs.PlainTypes.{plain_ty};
 ghost use Rattle.use_contexts.specs.Marks.{marks};
 ghost use Rattle.clf_decision.specs.Checking.{argument_left, checked, inferred};
 ghost use Rattle.clf_decision.specs.Hereditary.{hereditary};
 ghost use Rattle.clf_kernel.specs.Answers.{plain_left, plain_inferred};
-ghost use Rattle.clf_kernel.specs.Judge.{signature_of, context_of};
+ghost use Rattle.clf_kernel.specs.Judge.{IsRowOf, signature_of, context_of};
 ghost use Rattle.clf_kernel.specs.Spine.{argument_used, elimination_left, spine_left};
 ghost use Rattle.clf_kernel.specs.Stops.{Gives};
 
@@ -23,11 +23,10 @@ impl Judge<'_> {
     #[cycle(check)]
     #[tactic(auto, using(clf_syntax::specs::Plain::plain_laws, crate::proofs::Stops::stop_laws, crate::proofs::Spines::spine_laws))]
     pub fn infer_neutral(&mut self, neutral: &Neutral, row: Holding) -> Result<Inferred, Stop>
-        requires marked { length (marks row) ≡ length (context_of self.old) }
-        requires numbered { length (context_of self.old) < 2 ^ 32 }
+        requires marked { IsRowOf self.old row }
         ensures outcome { Gives plain_inferred (inferred hereditary (signature_of self.old) (context_of self.old)
             (marks row) (plain_neutral neutral.now)) result }
-        ensures marked { IfOk result (λ found. length (marks found.left.row) ≡ length (context_of self.old)) }
+        ensures marked { IfOk result (λ found. IsRowOf self.old found.left.row) }
         ensures kept { OnOk result (self.new ≡ self.old) }
     {
         let found = self.infer_head(neutral.head, row)?;
@@ -38,11 +37,10 @@ impl Judge<'_> {
     #[cycle(check)]
     #[tactic(auto, using(crate::proofs::Stops::stop_laws, crate::proofs::Spines::spine_laws))]
     fn infer_spine(&mut self, spine: &[Elim], found: Inferred) -> Result<Inferred, Stop>
-        requires marked { length (marks found.left.row) ≡ length (context_of self.old) }
-        requires numbered { length (context_of self.old) < 2 ^ 32 }
+        requires marked { IsRowOf self.old found.left.row }
         ensures outcome { Gives plain_inferred (spine_left hereditary (signature_of self.old) (context_of self.old) 0
             (map plain_elim spine.now) (plain_inferred found)) result }
-        ensures marked { IfOk result (λ found. length (marks found.left.row) ≡ length (context_of self.old)) }
+        ensures marked { IfOk result (λ found. IsRowOf self.old found.left.row) }
         ensures kept { OnOk result (self.new ≡ self.old) }
     {
         let mut inferred = found;
@@ -58,11 +56,10 @@ impl Judge<'_> {
     #[cycle(check)]
     #[tactic(auto, using(clf_syntax::specs::Plain::plain_laws, crate::proofs::Stops::stop_laws))]
     fn eliminate(&mut self, act: &Elim, place: usize, found: Inferred) -> Result<Inferred, Stop>
-        requires marked { length (marks found.left.row) ≡ length (context_of self.old) }
-        requires numbered { length (context_of self.old) < 2 ^ 32 }
+        requires marked { IsRowOf self.old found.left.row }
         ensures outcome { Gives plain_inferred (elimination_left hereditary (signature_of self.old)
             (context_of self.old) place (plain_elim act.now) (plain_inferred found)) result }
-        ensures marked { IfOk result (λ found. length (marks found.left.row) ≡ length (context_of self.old)) }
+        ensures marked { IfOk result (λ found. IsRowOf self.old found.left.row) }
         ensures kept { OnOk result (self.new ≡ self.old) }
     {
         match act {
@@ -82,13 +79,12 @@ impl Judge<'_> {
         place: usize,
         found: Inferred,
     ) -> Result<Inferred, Stop>
-        requires marked { length (marks found.left.row) ≡ length (context_of self.old) }
-        requires numbered { length (context_of self.old) < 2 ^ 32 }
+        requires marked { IsRowOf self.old found.left.row }
         ensures outcome { Gives plain_inferred (argument_left hereditary mode (context_of self.old) (plain_obj obj.now)
             place (plain_inferred found) (λ row a.
             checked hereditary (signature_of self.old) (context_of self.old) row (plain_obj obj.now) a))
             result }
-        ensures marked { IfOk result (λ found. length (marks found.left.row) ≡ length (context_of self.old)) }
+        ensures marked { IfOk result (λ found. IsRowOf self.old found.left.row) }
         ensures kept { OnOk result (self.new ≡ self.old) }
     {
         let Inferred { ty, left } = found;
@@ -131,12 +127,11 @@ impl Judge<'_> {
         place: usize,
         left: Left,
     ) -> Result<Left, Stop>
-        requires marked { length (marks left.row) ≡ length (context_of self.old) }
-        requires numbered { length (context_of self.old) < 2 ^ 32 }
+        requires marked { IsRowOf self.old left.row }
         ensures outcome { Gives plain_left (argument_used mode (context_of self.old) place (plain_left left) (λ row.
             checked hereditary (signature_of self.old) (context_of self.old) row (plain_obj obj.now)
             (plain_ty ty.now))) result }
-        ensures marked { IfOk result (λ left. length (marks left.row) ≡ length (context_of self.old)) }
+        ensures marked { IfOk result (λ left. IsRowOf self.old left.row) }
         ensures kept { OnOk result (self.new ≡ self.old) }
     {
         let start = self.allowed_of(mode, &left.row)?;

@@ -9,7 +9,7 @@ ghost use Rattle.clf_rules.specs.Refusal.{width};
 ghost use Rattle.clf_decision.specs.Checking.{checked_tuple};
 ghost use Rattle.clf_decision.specs.Hereditary.{hereditary};
 ghost use Rattle.clf_kernel.specs.Answers.{plain_left};
-ghost use Rattle.clf_kernel.specs.Judge.{signature_of, context_of};
+ghost use Rattle.clf_kernel.specs.Judge.{IsRowOf, signature_of, context_of};
 ghost use Rattle.clf_kernel.specs.Stops.{Ends, Gives, IsShort};
 ghost use Rattle.clf_kernel.specs.TupleEntries.{plain_rest, entry_behind};
 
@@ -40,12 +40,11 @@ impl Judge<'_> {
         row: Holding,
     ) -> Result<Left, Stop>
         requires room { steps + length entries.now < 2 ^ 64 }
-        requires marked { length (marks row) ≡ length (context_of self.old) }
-        requires numbered { length (context_of self.old) < 2 ^ 32 }
+        requires marked { IsRowOf self.old row }
         ensures outcome { Gives plain_left (checked_tuple hereditary (signature_of self.old) (context_of self.old)
             (marks row) steps 0 (tuple_of (map plain_entry entries.now))
             (telescope_of (map plain_tele_entry types))) result }
-        ensures marked { IfOk result (λ left. length (marks left.row) ≡ length (context_of self.old)) }
+        ensures marked { IfOk result (λ left. IsRowOf self.old left.row) }
         ensures kept { OnOk result (self.new ≡ self.old) }
     {
         let mut rest = Rest {
@@ -76,11 +75,10 @@ impl Judge<'_> {
         rest: Rest,
     ) -> Result<Rest, Stop>
         requires there { 0 < length rest.types }
-        requires marked { length (marks rest.left.row) ≡ length (context_of self.old) }
-        requires numbered { length (context_of self.old) < 2 ^ 32 }
+        requires marked { IsRowOf self.old rest.left.row }
         ensures outcome { Gives plain_rest (entry_behind hereditary (signature_of self.old) (context_of self.old) place
             (plain_entry entry.now) (plain_rest rest)) result }
-        ensures marked { IfOk result (λ rest. length (marks rest.left.row) ≡ length (context_of self.old)) }
+        ensures marked { IfOk result (λ rest. IsRowOf self.old rest.left.row) }
         ensures kept { OnOk result (self.new ≡ self.old) }
     {
         let Rest { types, left } = rest;

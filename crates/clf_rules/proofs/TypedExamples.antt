@@ -184,9 +184,6 @@ gold_drops p = ft (neutral_in ((Linear, coin) ∷ []) (true ∷ []) (constant 11
 pub z_is_nat : Typed z nat
 z_is_nat = plainly 2 [] [] (constant 3) (refl, refl)
 
-pub sz_is_nat : Typed sz nat
-sz_is_nat = plainly 2 [] [] (app Persistent (constant 4) z) (applied Persistent nat nat [] [] [] [] (constant 4) z tt (refl, refl) refl z_is_nat (in_family each_none))
-
 pub put_for_variable : (n : PlainObject) → Substituted (single n 0) (variable 0) n
 put_for_variable n = through_value (value_bare refl)
 

@@ -99,5 +99,3 @@ tuple_differs k g [] [] n = absurd (n refl)
 tuple_differs k g [] (y ∷ ys) n = refl
 tuple_differs k g (x ∷ xs) [] n = refl
 tuple_differs k g (x ∷ xs) (y ∷ ys) n = not_then _ _ (not_then _ _ (tuple_differs k g xs ys (λ e. n (ap suc e))))
-
-pub ruleset list_laws = (neutral_typed, neutral_head, expr_typed, from_place)

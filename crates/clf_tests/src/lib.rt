@@ -1,6 +1,8 @@
-//! The tests of simple typing, substitution and equality, through their public calls.
+//! The tests of simple typing, substitution, equality and equations, through their public calls.
 #![tactic(auto)]
 
+#[cfg(test)]
+mod constraints;
 #[cfg(test)]
 mod simple;
 #[cfg(test)]

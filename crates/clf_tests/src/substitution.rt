@@ -1,10 +1,11 @@
 //! What substitution answers, row by row.
 //!
 //! Objects and simple types are written part before whole, a byte for each: a digit is a variable, a small letter a
-//! constant, and the other bytes take what stands before them. `!`, `@` and `-` apply to an argument, `L`, `A` and `N`
-//! make a lambda, each of the three modes; `<` and `>` are the projections, `,` makes a pair and `U` is the unit. `D`
-//! makes a monadic object of a tuple with one entry, and `S` puts a step that binds one variable in front of one. In a
-//! simple type a letter is a family, `!`, `@` and `-` make functions, `&` makes pairs and `M` a monad of one entry.
+//! constant, `?` and `*` are two metavariables, and the other bytes take what stands before them. `!`, `@` and `-` apply
+//! to an argument, `L`, `A` and `N` make a lambda, each of the three modes; `<` and `>` are the projections, `,` makes a
+//! pair and `U` is the unit. `D` makes a monadic object of a tuple with one entry, and `S` puts a step that binds one
+//! variable in front of one. In a simple type a small letter is a family, `T` the unit, `!`, `@` and `-` make functions,
+//! `&` makes pairs and `M` a monad of one entry.
 
 use clf_syntax::{
     Elim, Expr, Head, Mode, Modes, Neutral, Obj, Simple, SimpleEntry, Step, TupleEntry, same,
@@ -104,6 +105,8 @@ fn form(alloc: Global, before: &mut Items<Obj>, byte: u8) -> Option<Obj> {
     match byte {
         b'0'..=b'9' => Some(bare(alloc, Head::Var(u32::from(byte - b'0')))),
         b'a'..=b'z' => Some(bare(alloc, Head::Const(u32::from(byte - b'a')))),
+        b'?' => Some(bare(alloc, Head::Meta(0))),
+        b'*' => Some(bare(alloc, Head::Meta(1))),
         b'U' => Some(Obj::Unit),
         b'!' | b'@' | b'-' => {
             let obj = before.pop()?;
@@ -144,6 +147,7 @@ pub fn object(alloc: Global, text: &str) -> Option<Obj> {
 fn type_form(alloc: Global, before: &mut Items<Simple>, byte: u8) -> Option<Simple> {
     match byte {
         b'a'..=b'z' => Some(Simple::Atom(u32::from(byte - b'a'))),
+        b'T' => Some(Simple::Top),
         b'&' => {
             let right = Boxed::new(alloc, before.pop()?).ok()?;
             let left = Boxed::new(alloc, before.pop()?).ok()?;

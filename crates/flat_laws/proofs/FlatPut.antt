@@ -1,13 +1,12 @@
 -- Flat solutions put into flat objects give flat objects.
 use Rattle.std.specs.Prelude.{ℕ, Bool, true, false, ◌+◌, ◌-◌, ◌≡◌, ◌<◌, ◌≤◌, ◌⊎◌, ◌&&◌, List, [], ◌∷◌, length, Option, Some, None, refl}
 use Rattle.std.proofs.Common.{ap, sym, subst, ◌∙◌, arith, inl, inr, ⊎_elim}
-use Rattle.clf_syntax.specs.declared.tree.Mode.{Mode}
 use Rattle.clf_syntax.specs.declared.tree.Head.{Head}
 use Rattle.clf_syntax.specs.declared.tree.Head.TheVariants.{Const, Var, Meta}
 use Rattle.clf_syntax.specs.Tree.{PlainObject, lam, pair, unit, monadic, atomic, hole, PlainNeutral, head_alone, app, fst, snd, head_of}
-use Rattle.clf_syntax.specs.TypeTree.{SimpleType, base, arrow, simple_with, simple_top, lax}
+use Rattle.clf_syntax.specs.TypeTree.{SimpleType, base, arrow, simple_with, lax}
 use Rattle.clf_syntax.specs.Simple.{Assignment, extended, SimplyTyped, SimplyTypedNeutral}
-use Rattle.clf_syntax.specs.Renaming.{ren, ren_neutral, up}
+use Rattle.clf_syntax.specs.Renaming.{ren, up}
 use Rattle.clf_syntax.specs.Occurs.{occurs}
 use Rattle.clf_syntax.proofs.RenamingLaws.{cut}
 use Rattle.clf_syntax.proofs.OccursLaws.{not_both}
@@ -16,13 +15,13 @@ use Rattle.hered_subst.proofs.Determined.{determined}
 use Rattle.hered_subst.proofs.SimpleTyping.{Typed, typed_lam, typed_pair, typed_unit, typed_monadic, typed_metavariable, typed_atomic, TypedNeutral, typed_bare, typed_app, typed_fst, typed_snd, to_typed, of_neutral}
 use Rattle.hered_subst.specs.TypedEnvironments.{is_metavariable}
 use Rattle.subst_laws.specs.Environments.{Instantiation, instant, image_or, TypedInstantiation}
-use Rattle.eta_laws.specs.Eta.{eta}
 use Rattle.eta_laws.proofs.EtaTyped.{eta_typed}
+use Rattle.pattern_laws.proofs.TypeParts.{from_type, to_type, first_type, second_type}
 use Rattle.pattern_laws.proofs.Owning.{blank_typed}
 use Rattle.subst_laws.proofs.Variables.{neutral_has_one_type}
 use Rattle.clf_syntax.specs.Simple.{no_holes}
 use Rattle.pattern_laws.specs.Instantiations.{Instantiated, Types, closed}
-use Rattle.pattern_laws.specs.Patterns.{Place, on, lams, arrows, blank, Fitting, local_at, OnDistinct, beneath, Ordered}
+use Rattle.pattern_laws.specs.Patterns.{Place, on, lams, arrows, Fitting, local_at, OnDistinct, beneath, Ordered}
 use Rattle.pattern_laws.specs.Equations.{scoped, Locals}
 use Rattle.pattern_laws.proofs.Spines.{applied, keeps_variables, flex_value, body, under_instant}
 use Rattle.pattern_laws.proofs.Inverse.{applied_local, place_cases, typed_lams, lams_typed, fitting_at}
@@ -52,18 +51,6 @@ on_long g (q ∷ qs) r c f p = typed_app (on_long g qs r (arrow q.0 q.1 c) f.1 p
 -- all metavariables have flat types
 abbrev pub FlatTypes : Assignment → Type 0
 FlatTypes g = (m : ℕ) (a : SimpleType) → g (Meta m) ≡ Some a → flat_type a ≡ true
-
-from_type : {m k : Mode} {d c e f : SimpleType} → arrow m d c ≡ arrow k e f → e ≡ d
-from_type h = cc
-
-to_type : {m k : Mode} {d c e f : SimpleType} → arrow m d c ≡ arrow k e f → f ≡ c
-to_type h = cc
-
-first_type : {a b c d : SimpleType} → simple_with a b ≡ simple_with c d → c ≡ a
-first_type h = cc
-
-second_type : {a b c d : SimpleType} → simple_with a b ≡ simple_with c d → d ≡ b
-second_type h = cc
 
 is_one : (h : Head) (k : ℕ) → h ≡ Meta k → is_metavariable h ≡ false → ⊥
 is_one h k e f = not_both (ap is_metavariable e) f

@@ -2,7 +2,7 @@
 use Rattle.store_laws.proofs.Numbers.{number_cases}
 use Rattle.pattern_laws.proofs.Owning.{on_locals, lacks_same}
 use Rattle.clf_syntax.specs.declared.tree.Mode.{Mode}
-use Rattle.std.specs.Prelude.{ℕ, Bool, true, false, ◌+◌, ◌-◌, ◌≡◌, ◌<◌, ◌≤◌, ◌⊎◌, ◌||◌, nat_eq, List, [], ◌∷◌, ◌++◌, length, Some, refl}
+use Rattle.std.specs.Prelude.{ℕ, Bool, false, ◌+◌, ◌-◌, ◌≡◌, ◌<◌, ◌≤◌, ◌⊎◌, ◌||◌, List, [], ◌∷◌, ◌++◌, length, Some, refl}
 use Rattle.std.proofs.Common.{ap, sym, subst, ◌∙◌, arith, inl, inr, ⊎_elim, append_assoc}
 use Rattle.clf_syntax.specs.declared.tree.Head.TheVariants.{Const, Var, Meta}
 use Rattle.clf_syntax.specs.Tree.{PlainObject, lam, pair, unit, monadic, atomic, hole, PlainNeutral, head_alone, app, fst, snd, PlainExpression, step, done, PlainTuple, empty, entry, head_of}
@@ -11,20 +11,21 @@ use Rattle.clf_syntax.specs.Simple.{Assignment, simple_modes}
 use Rattle.clf_syntax.specs.Renaming.{Renumbering, lifted, ren, ren_neutral, ren_expression, ren_tuple, up}
 use Rattle.hered_subst.specs.TypedEnvironments.{is_metavariable}
 use Rattle.eta_laws.specs.Eta.{eta, variables}
-use Rattle.pattern_laws.specs.Patterns.{Place, on, arrows, OnDistinct, Foreign, IsFinal, Ordered}
+use Rattle.pattern_laws.specs.Patterns.{Place, on, OnDistinct, Foreign, Ordered}
 use Rattle.pattern_laws.specs.Equations.{scoped, Locals}
 use Rattle.store_laws.specs.Mentions.{mentions, mentions_neutral, mentions_expression, mentions_tuple}
 use Rattle.pattern_laws.proofs.Places.{same_types}
 use Rattle.pattern_laws.proofs.Orders.{searched, ordered_no_circle}
 use Rattle.reach_laws.specs.Reach.{Standing, standing_here, standing_body, standing_left, standing_right, standing_below, StandingBelow, in_this, in_earlier, under_fst, under_snd, Prunable, PrunableBelow, InReach, same_reach, head_reach, inside_reach, free_reach}
 use Rattle.flat_laws.specs.Flat.{Flat, FlatBelow}
+use Rattle.flat_laws.specs.Laws.{FlatReaches}
 
 neither : {a b : Bool} → a ≡ false → b ≡ false → a || b ≡ false
 neither {a} {b} e f = rw (e, f) refl
 
 -- Renaming keeps what is mentioned.
 mutual
-  mentions_ren : (k : ℕ) (r : Renumbering) (o : PlainObject) → mentions k (ren r o) ≡ mentions k o
+  pub mentions_ren : (k : ℕ) (r : Renumbering) (o : PlainObject) → mentions k (ren r o) ≡ mentions k o
   mentions_ren k r (lam m b) = mentions_ren k (lifted 1 r) b
   mentions_ren k r (pair x y) = rw (mentions_ren k r x, mentions_ren k r y) refl
   mentions_ren k r unit = refl
@@ -61,7 +62,7 @@ mutual
   variables_silent k simple_end = refl
   variables_silent k (simple_binding m t ts) = neither (eta_silent k t (head_alone (Var (length (simple_modes ts)))) refl) (variables_silent k ts)
 
-on_silent : (k : ℕ) (ps : List Place) (n : PlainNeutral) → mentions_neutral k n ≡ false → mentions_neutral k (on ps n) ≡ false
+pub on_silent : (k : ℕ) (ps : List Place) (n : PlainNeutral) → mentions_neutral k n ≡ false → mentions_neutral k (on ps n) ≡ false
 on_silent k [] n e = e
 on_silent k (p ∷ ps) n e = neither (on_silent k ps n e) (eta_silent k p.1 (head_alone (Var p.2)) refl)
 
@@ -184,8 +185,7 @@ one_type : {c d : SimpleType} → Some c ≡ Some d → c ≡ d
 one_type e = cc
 
 -- In a flat system a metavariable on distinct locals in order has every flat atomic object in reach.
-pub flat_reach : (g : Assignment) (ls : Locals) (r : PlainNeutral) (m : ℕ) (ps : List Place) (a : SimpleType) → IsFinal a → scoped ls g (Meta m) ≡ Some (arrows ps a) → Ordered ps
-    → (n : PlainNeutral) → Flat (scoped ls g) (atomic n) a → InReach g ls r m ps a (atomic n)
+pub flat_reach : FlatReaches
 flat_reach g ls r m ps a fin own o n f = ⊎_elim
     (λ h. rigid h.0 (look_below g ls m ps [] n h.0 h.1))
     (λ h. let (k, zs, d, u) = h in ⊎_elim

@@ -1,13 +1,13 @@
 -- What the steps add to a flat system is flat.
-use Rattle.std.specs.Prelude.{ℕ, Bool, true, ◌≡◌, ◌<◌, ◌⊎◌, List, [], ◌∷◌, length, Option, Some, refl}
+use Rattle.std.specs.Prelude.{ℕ, true, ◌≡◌, ◌<◌, ◌⊎◌, List, [], ◌∷◌, length, Option, Some, refl}
 use Rattle.std.proofs.Common.{ap, sym, subst, ◌∙◌, arith, inr, ⊎_elim}
 use Rattle.clf_syntax.specs.declared.tree.Head.TheVariants.{Const, Meta}
-use Rattle.clf_syntax.specs.Tree.{PlainObject, lam, atomic, PlainNeutral, head_alone}
+use Rattle.clf_syntax.specs.Tree.{PlainObject, lam, atomic, head_alone}
 use Rattle.clf_syntax.specs.TypeTree.{SimpleType, arrow}
 use Rattle.clf_syntax.specs.Simple.{Assignment}
 use Rattle.clf_syntax.specs.Occurs.{occurs}
-use Rattle.pattern_laws.specs.Patterns.{Place, on, lams, arrows, local_at, OnDistinct, Covers, inverse, inverted, beneath, masked, Ordered}
-use Rattle.pattern_laws.specs.Instantiations.{Types, closed}
+use Rattle.pattern_laws.specs.Patterns.{Place, on, lams, arrows, local_at, inverse, inverted, beneath, masked}
+use Rattle.pattern_laws.specs.Instantiations.{closed}
 use Rattle.pattern_laws.specs.Equations.{scoped, Locals}
 use Rattle.pattern_laws.proofs.Inverse.{inverse_at, inverse_there, fitting_at}
 use Rattle.pattern_laws.proofs.Instances.{scoped_out}
@@ -16,6 +16,7 @@ use Rattle.inversion_laws.proofs.Masks.{masked_fitting}
 use Rattle.reach_laws.proofs.Tightness.{masked_ordered}
 use Rattle.reach_laws.proofs.Tight.{distinct_of}
 use Rattle.flat_laws.specs.Flat.{Flat}
+use Rattle.flat_laws.specs.Laws.{FlatIsInverted, FlatIsNarrowed}
 use Rattle.flat_laws.proofs.FlatRenamed.{flat_renamed}
 
 lams_flat : (ps : List Place) (y : Assignment) (b : PlainObject) (t : SimpleType) → Flat (beneath ps y) b t → Flat y (lams ps b) (arrows ps t)
@@ -32,8 +33,7 @@ three : (i j : ℕ) → (i < j) ⊎ ((i ≡ j) ⊎ (j < i))
 three i j = grind arith
 
 -- The inverted side of an equation of flat sides is flat.
-pub flat_inverted : (constants metas : Types) (ls : Locals) (r : PlainNeutral) (m : ℕ) (ps : List Place) (a : SimpleType) → OnDistinct (scoped ls (closed constants metas)) r m ps a → Ordered ps
-    → (x : PlainObject) → Flat (scoped ls (closed constants metas)) x a → Covers ps x → Flat (closed constants metas) (inverted (length ls) ps x) (arrows ps a)
+pub flat_inverted : FlatIsInverted
 flat_inverted constants metas ls r m ps a d u x f cov = lams_flat ps (closed constants metas) _ a (flat_renamed (beneath ps (closed constants metas)) (inverse (length ls) ps) (scoped ls (closed constants metas)) x a f (
   (λ c. beneath_out ps (closed constants metas) (Const c) ∙ sym (scoped_out ls (closed constants metas) (Const c))),
   (λ k. beneath_out ps (closed constants metas) (Meta k) ∙ sym (scoped_out ls (closed constants metas) (Meta k))),
@@ -55,6 +55,6 @@ flat_inverted constants metas ls r m ps a d u x f cov = lams_flat ps (closed con
         subst (λ n. n < inverse (length ls) ps j) (sym (inverse_at (length ls) ps d.distinct k i e)) (subst (λ n. k < n) (sym (inverse_at (length ls) ps d.distinct l j g)) (ordered i j h k l e g))
 
 -- The solution by a new metavariable is flat.
-pub flat_narrowed : (constants metas : Types) (k : ℕ) (bs : List Bool) (ps : List Place) (a : SimpleType) → metas k ≡ Some (arrows (masked 0 bs ps) a) → Flat (closed constants metas) (lams ps (atomic (on (masked 0 bs ps) (head_alone (Meta k))))) (arrows ps a)
+pub flat_narrowed : FlatIsNarrowed
 flat_narrowed constants metas k bs ps a e = lams_flat ps (closed constants metas) (atomic (on (masked 0 bs ps) (head_alone (Meta k)))) a
     (inr (k, masked 0 bs ps, record { neutral = refl; type = beneath_out ps (closed constants metas) (Meta k) ∙ e; fitting = masked_fitting (closed constants metas) bs ps; distinct = distinct_of (masked 0 bs ps) (masked_ordered bs ps) }, masked_ordered bs ps))

@@ -16,7 +16,7 @@ use Rattle.hered_put.specs.Tupled.{tupled}
 use Rattle.hered_put.specs.Answers.{Answers}
 use Rattle.hered_put.specs.Pieces.{object_of, expression_of, flattened_of}
 use Rattle.hered_put.specs.TypePieces.{type_of, tele_of, kind_of}
-use Rattle.hered_put.proofs.Pieces.{flat_if, not_true}
+use Rattle.hered_put.proofs.FlatPieces.{flat_if, not_true}
 
 module _ {X : Type 0} (k j : ℕ) (s z : Environment) (r : Result X PutFault) (e : k ≡ j) (f : s ≡ z) where
   pub object-called : (plain : X → PlainObject) (o : PlainObject) → Answers plain (object_of k s o) r → Answers plain (run (nested j) z o) r

@@ -15,7 +15,7 @@ use Rattle.clf_syntax.proofs.RenamingLaws.{ext}
 use Rattle.clf_syntax.proofs.ShiftLaws.{shift-ren}
 use Rattle.hered_subst.specs.Substitution.{Environment, keep, put, ren_image, single, under, objects}
 use Rattle.hered_subst.proofs.Renamed.{under_in, under_out}
-use Rattle.hered_subst.proofs.Single.{single_low, single_at, single_high}
+use Rattle.hered_subst.proofs.Single.{single_low, single_high}
 use Rattle.hered_subst.proofs.SimpleTyping.{under_under, under_zero}
 use Rattle.hered_put.specs.declared.environment.Images.{Images}
 use Rattle.hered_put.specs.declared.environment.Images.TheVariants.{Object, Tuple}
@@ -89,9 +89,6 @@ object-high n o k i h w = ap (λ j. image_of (ren_image (up n) (single o k (Var 
 
     within : i - 1 + n < 4294967296
     within = omega arith
-
-pub object-at : (n : ℕ) (o : PlainObject) (k i : ℕ) → i ≡ k → image_of (ren_image (up n) (single o k (Var i))) ≡ image_of (ren_image (up n) (put o))
-object-at n o k i e = ap (λ j. image_of (ren_image (up n) (single o k (Var j)))) e ∙ ap (λ j. image_of (ren_image (up n) j)) (single_at o k)
 
 -- an object past binders
 past-shift : (n : ℕ) (o : PlainObject) → ren (up n) o ≡ shift n 0 o
@@ -180,5 +177,3 @@ tuple-rest n raised i xs j h e = ap (λ l. image_of (ren_image (up n) l)) (tuple
 
     same : (l : ℕ) → l ≡ length xs → i - l + raised + n ≡ j
     same l q = omega (arith, q, e)
-
-pub ruleset head_laws = (head-const, head-meta)

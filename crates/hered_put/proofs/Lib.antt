@@ -3,7 +3,12 @@ pub mod Typed
 pub mod Results
 pub mod Freely
 pub mod Environments
-pub mod Pieces
+pub mod ObjectPieces
+pub mod SpinePieces
+pub mod TuplePieces
+pub mod StepPieces
+pub mod ExpressionPieces
+pub mod FlatPieces
 pub mod TypePieces
 pub mod Ranks
 pub mod Measure

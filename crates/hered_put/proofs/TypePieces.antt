@@ -16,7 +16,7 @@ use Rattle.hered_subst.specs.Substitution.{Environment, under}
 use Rattle.hered_put.specs.Function.{Answer, made, untyped, too_far, after, nested, run_type, run_telescope}
 use Rattle.hered_put.specs.Pieces.{object_of}
 use Rattle.hered_put.specs.TypePieces.{indices_of, family_of, type_of, tele_of, tele_entry_of, kind_of}
-use Rattle.hered_put.proofs.Pieces.{one_more, in_front-more, in_front-untyped, in_front-too_far, in_front-all, in_front-none}
+use Rattle.hered_put.proofs.TuplePieces.{one_more, in_front-more, in_front-untyped, in_front-too_far, in_front-all, in_front-none}
 
 -- ---- indices
 

@@ -18,7 +18,7 @@ use sqlite_items::{Boxed, Items};
 use std::alloc::{AllocError, Global};
 
 #[cycle(put)]
-#[tactic(auto, using(clf_syntax::specs::Plain::plain_laws, crate::proofs::Pieces::object_laws))]
+#[tactic(auto, using(clf_syntax::specs::Plain::plain_laws, crate::proofs::ObjectPieces::object_laws))]
 pub fn put_object(
     alloc: Global,
     obj: &Obj,
@@ -62,7 +62,7 @@ pub fn put_object(
 }
 
 #[cycle(put)]
-#[tactic(auto, using(clf_syntax::specs::Plain::plain_laws, crate::proofs::Pieces::neutral_laws))]
+#[tactic(auto, using(clf_syntax::specs::Plain::plain_laws, crate::proofs::SpinePieces::neutral_laws))]
 fn put_neutral(
     alloc: Global,
     neutral: &Neutral,
@@ -80,7 +80,7 @@ fn put_neutral(
 }
 
 #[cycle(put)]
-#[tactic(auto, using(clf_syntax::specs::Plain::plain_laws, crate::proofs::Pieces::eliminate_laws))]
+#[tactic(auto, using(clf_syntax::specs::Plain::plain_laws, crate::proofs::SpinePieces::eliminate_laws))]
 fn eliminate(
     alloc: Global,
     act: &Elim,
@@ -102,7 +102,7 @@ fn eliminate(
 }
 
 /// A neutral under one elimination more. It fails only where memory runs out.
-#[tactic(auto, using(clf_syntax::specs::Plain::plain_laws, crate::proofs::Pieces::spine_laws))]
+#[tactic(auto, using(clf_syntax::specs::Plain::plain_laws, crate::proofs::SpinePieces::spine_laws))]
 pub fn with_elimination(neutral: Neutral, act: Elim) -> Result<Neutral, AllocError>
     ensures { IfOk result (λ n. plain_neutral n ≡ eliminated (plain_elim act) (plain_neutral neutral)) }
 {
@@ -113,7 +113,7 @@ pub fn with_elimination(neutral: Neutral, act: Elim) -> Result<Neutral, AllocErr
 
 /// What a neutral becomes under an argument.
 #[cycle(put)]
-#[tactic(auto, using(clf_syntax::specs::Plain::plain_laws, crate::proofs::Pieces::apply_laws))]
+#[tactic(auto, using(clf_syntax::specs::Plain::plain_laws, crate::proofs::SpinePieces::apply_laws))]
 fn apply(
     alloc: Global,
     mode: Mode,
@@ -141,7 +141,7 @@ fn apply(
 
 /// A value under an argument, which is put for the variable of a lambda.
 #[cycle(put)]
-#[tactic(auto, using(clf_syntax::specs::Plain::plain_laws, crate::proofs::Pieces::value_laws))]
+#[tactic(auto, using(clf_syntax::specs::Plain::plain_laws, crate::proofs::ObjectPieces::value_laws))]
 fn apply_value(
     alloc: Global,
     mode: Mode,
@@ -167,7 +167,7 @@ fn apply_value(
 }
 
 /// The first part of what a neutral becomes.
-#[tactic(auto, using(clf_syntax::specs::Plain::plain_laws, crate::proofs::Pieces::parts_laws))]
+#[tactic(auto, using(clf_syntax::specs::Plain::plain_laws, crate::proofs::SpinePieces::parts_laws))]
 fn first_part(outcome: Outcome) -> Result<Outcome, PutFault>
     ensures { Answers plain_outcome (piece.first_of (plain_outcome outcome)) result }
 {
@@ -178,7 +178,7 @@ fn first_part(outcome: Outcome) -> Result<Outcome, PutFault>
 }
 
 /// The second part of what a neutral becomes.
-#[tactic(auto, using(clf_syntax::specs::Plain::plain_laws, crate::proofs::Pieces::parts_laws))]
+#[tactic(auto, using(clf_syntax::specs::Plain::plain_laws, crate::proofs::SpinePieces::parts_laws))]
 fn second_part(outcome: Outcome) -> Result<Outcome, PutFault>
     ensures { Answers plain_outcome (piece.second_of (plain_outcome outcome)) result }
 {
@@ -212,7 +212,7 @@ fn parts(value: Obj) -> Result<PairParts, PutFault>
 }
 
 #[cycle(put)]
-#[tactic(auto, using(clf_syntax::specs::Plain::plain_laws, crate::proofs::Pieces::expression_laws))]
+#[tactic(auto, using(clf_syntax::specs::Plain::plain_laws, crate::proofs::ExpressionPieces::expression_laws))]
 pub fn put_expression(
     alloc: Global,
     expr: &Expr,
@@ -233,7 +233,7 @@ pub fn put_expression(
 }
 
 #[cycle(put)]
-#[tactic(auto, using(clf_syntax::specs::Plain::plain_laws, crate::proofs::Pieces::step_laws))]
+#[tactic(auto, using(clf_syntax::specs::Plain::plain_laws, crate::proofs::StepPieces::step_laws))]
 fn put_step(
     alloc: Global,
     step: &Step,
@@ -248,7 +248,7 @@ fn put_step(
 }
 
 #[cycle(put)]
-#[tactic(auto, using(clf_syntax::specs::Plain::plain_laws, crate::proofs::Pieces::tuple_laws))]
+#[tactic(auto, using(clf_syntax::specs::Plain::plain_laws, crate::proofs::TuplePieces::tuple_laws))]
 fn put_tuple(
     alloc: Global,
     tuple: &[TupleEntry],
@@ -266,7 +266,7 @@ fn put_tuple(
 }
 
 #[cycle(put)]
-#[tactic(auto, using(clf_syntax::specs::Plain::plain_laws, crate::proofs::Pieces::entry_laws))]
+#[tactic(auto, using(clf_syntax::specs::Plain::plain_laws, crate::proofs::TuplePieces::entry_laws))]
 fn put_entry(
     alloc: Global,
     entry: &TupleEntry,
@@ -284,7 +284,7 @@ fn put_entry(
 
 /// The steps that come, in front of the rest.
 #[cycle(put)]
-#[tactic(auto, using(crate::proofs::Pieces::join_laws))]
+#[tactic(auto, using(crate::proofs::StepPieces::join_laws))]
 fn joined(
     alloc: Global,
     mut steps: Items<Coming>,
@@ -301,7 +301,7 @@ fn joined(
 
 /// One step in front of the rest.
 #[cycle(put)]
-#[tactic(auto, using(crate::proofs::Pieces::join_laws))]
+#[tactic(auto, using(crate::proofs::StepPieces::join_laws))]
 fn join(alloc: Global, step: Coming, rest: Rest, bound: Bound) -> Result<Rest, PutFault>
     ensures { Answers plain_rest (piece.join_of bound.rank (plain_coming step) (plain_rest rest)) result }
 {
@@ -317,7 +317,7 @@ fn join(alloc: Global, step: Coming, rest: Rest, bound: Bound) -> Result<Rest, P
 
 /// The steps of a value, and then the rest with its tuple put for the variables of a step.
 #[cycle(put)]
-#[tactic(auto, using(clf_syntax::specs::Plain::plain_laws, crate::proofs::Pieces::flat_laws))]
+#[tactic(auto, using(clf_syntax::specs::Plain::plain_laws, crate::proofs::FlatPieces::flat_laws))]
 pub fn flatten(
     alloc: Global,
     binders: usize,

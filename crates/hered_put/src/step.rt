@@ -30,7 +30,7 @@ pub struct Rest {
 }
 
 /// What comes in the place of a step of these modes, by what its right side becomes.
-#[tactic(auto, using(crate::proofs::Pieces::coming_laws))]
+#[tactic(auto, using(crate::proofs::StepPieces::coming_laws))]
 pub fn in_place(alloc: Global, modes: &Modes, outcome: Outcome) -> Result<Coming, PutFault>
     ensures { Answers plain_coming (coming_answer modes.now (plain_outcome outcome)) result }
 {
@@ -41,7 +41,7 @@ pub fn in_place(alloc: Global, modes: &Modes, outcome: Outcome) -> Result<Coming
 }
 
 /// The same, where the right side has a value.
-#[tactic(auto, using(clf_syntax::specs::Plain::plain_laws, crate::proofs::Pieces::coming_laws))]
+#[tactic(auto, using(clf_syntax::specs::Plain::plain_laws, crate::proofs::StepPieces::coming_laws))]
 fn value_in_place(alloc: Global, modes: &Modes, value: Obj) -> Result<Coming, PutFault>
     ensures { Answers plain_coming (value_answer modes.now (plain_obj value)) result }
 {
@@ -56,7 +56,7 @@ fn value_in_place(alloc: Global, modes: &Modes, value: Obj) -> Result<Coming, Pu
 }
 
 /// The same, where the value is a neutral: a metavariable may stand at a monad.
-#[tactic(auto, using(clf_syntax::specs::Plain::plain_laws, crate::proofs::Pieces::coming_laws))]
+#[tactic(auto, using(clf_syntax::specs::Plain::plain_laws, crate::proofs::StepPieces::coming_laws))]
 fn neutral_in_place(alloc: Global, modes: &Modes, rhs: Neutral) -> Result<Coming, PutFault>
     ensures { Answers plain_coming (neutral_answer modes.now (plain_neutral rhs)) result }
 {
@@ -78,7 +78,7 @@ fn stays(alloc: Global, modes: &Modes, rhs: Neutral) -> Result<Coming, AllocErro
 }
 
 /// How many variables the steps bind. No 2^64 of them fit memory.
-#[tactic(auto, using(clf_syntax::specs::Plain::plain_laws, crate::proofs::Pieces::binders_laws))]
+#[tactic(auto, using(clf_syntax::specs::Plain::plain_laws, crate::proofs::StepPieces::binders_laws))]
 pub fn bound_variables(steps: &[Step]) -> Result<u64, AllocError>
     ensures { IfOk result (λ n. n ≡ binders_of (map plain_step steps.now)) }
 {
@@ -112,7 +112,7 @@ impl Rest {
     }
 
     /// An expression that may grow in front.
-    #[tactic(auto, using(clf_syntax::specs::Plain::plain_laws, crate::proofs::Pieces::rest_laws))]
+    #[tactic(auto, using(clf_syntax::specs::Plain::plain_laws, crate::proofs::ExpressionPieces::rest_laws))]
     pub fn of_expression(alloc: Global, expr: Expr) -> Result<Rest, AllocError>
         ensures { IfOk result (λ r. plain_rest r ≡ plain_expr expr) }
     {
@@ -124,7 +124,7 @@ impl Rest {
     }
 
     /// The whole expression.
-    #[tactic(auto, using(clf_syntax::specs::Plain::plain_laws, crate::proofs::Pieces::rest_laws))]
+    #[tactic(auto, using(clf_syntax::specs::Plain::plain_laws, crate::proofs::ExpressionPieces::rest_laws))]
     pub fn into_expression(self, alloc: Global) -> Result<Expr, AllocError>
         ensures { IfOk result (λ e. plain_expr e ≡ plain_rest self) }
     {
@@ -136,7 +136,7 @@ impl Rest {
     }
 
     /// The same after one step more.
-    #[tactic(auto, using(clf_syntax::specs::Plain::plain_laws, crate::proofs::Pieces::rest_laws))]
+    #[tactic(auto, using(clf_syntax::specs::Plain::plain_laws, crate::proofs::ExpressionPieces::rest_laws))]
     pub fn behind(self, step: Step) -> Result<Rest, AllocError>
         ensures { IfOk result (λ r. plain_rest r ≡ steps_on (plain_step step ∷ []) (plain_rest self)) }
     {

@@ -24,6 +24,7 @@ use Rattle.pattern_laws.specs.Patterns.{Place, on, lams, arrows, Fitting, local_
 use Rattle.pattern_laws.specs.Equations.{scoped, Solves, Locals}
 use Rattle.pattern_laws.proofs.Occurrences.{away, stays_there, fixed, absent, absent_joined}
 use Rattle.pattern_laws.proofs.Typings.{typed_where, blank_absent}
+use Rattle.inversion_laws.specs.Laws.{InvertedIsTyped}
 use Rattle.inversion_laws.proofs.Misfits.{head_kept}
 use Rattle.pattern_laws.proofs.Spines.{applied, applied_past, fits_instant, of_lams, flex_value_of, Ready, ready_back, keeps_variables, kept_place, ren_lams}
 use Rattle.inversion_laws.proofs.Readings.{Stand, ready_on}
@@ -233,8 +234,7 @@ beneath_meta [] constants parameters c = refl
 beneath_meta (p ∷ ps) constants parameters c = beneath_meta ps constants parameters c
 
 -- The inverted side is closed and has the metavariable's type.
-pub inverted_typed : (constants metas : Types) (ls : Locals) (r : PlainNeutral) (m : ℕ) (ps qs : List Place) (a : SimpleType) → OnLocals (scoped ls (closed constants metas)) r m ps qs a
-    → (x : PlainObject) → SimplyTyped (scoped ls (closed constants metas)) x a → LacksMisfits ps qs x → Covers ps x → SimplyTyped (closed constants metas) (inverted (length ls) ps x) (arrows ps a)
+pub inverted_typed : InvertedIsTyped
 inverted_typed constants metas ls r m ps qs a d x tx l cov = of_typed (lams_typed ps (typed_where (beneath ps (closed constants metas)) (inverse (length ls) ps) (to_typed true (scoped ls (closed constants metas)) x a tx) (
   (λ c. below_const ps c ∙ sym (scoped_const ls c)),
   (λ k. below_meta ps k ∙ sym (scoped_meta ls (closed constants metas) k)),

@@ -31,9 +31,6 @@ PutsFor s k u w = (s (Var k) ≡ put (eta u (head_alone (Var w)))) × ((h : Head
 no_put : {i : Image} {j : Head} {n : PlainObject} → i ≡ keep j → i ≡ put n → ⊥
 no_put e f = cc
 
-the_put : {i : Image} {n o : PlainObject} → i ≡ put n → i ≡ put o → n ≡ o
-the_put e f = cc
-
 -- what is put after a renaming
 renamed_put : (r : Renumbering) (i : Image) (n : PlainObject) → ren_image r i ≡ put n → (o : PlainObject) × (i ≡ put o) × (n ≡ ren r o)
 renamed_put r (keep h) n e = absurd (cc)

@@ -73,9 +73,6 @@ cross_lift a c i = grind arith
 cross_past : (a c i : ℕ) → crossed a c (up c i) ≡ lifted a (up c) i
 cross_past a c i = grind arith
 
-lift_both : (n : ℕ) (r s t u : Renumbering) → ((i : ℕ) → r (s i) ≡ t (u i)) → (i : ℕ) → lifted n r (lifted n s i) ≡ lifted n t (lifted n u i)
-lift_both n r s t u h i = ap (λ f. f i) (lift_comp n r s) ∙ ap (λ f. lifted n f i) (ext h) ∙ sym (ap (λ f. f i) (lift_comp n t u))
-
 keeps_self : (n : PlainNeutral) (s : Environment) → ((h : Head) → s h ≡ keep h) → KeepsHead s n n
 keeps_self n s f = subst (λ (z : Environment). KeepsHead z n n) (ext (λ h. image_at h ∙ sym (f h))) (subst (KeepsHead (keeping (λ i. i)) n) (identity_neutral n) (renames_neutral (λ i. i) n))
   where

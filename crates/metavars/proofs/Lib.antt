@@ -1,6 +1,8 @@
 pub mod Gets
 pub mod TablesLaws
 pub mod Rests
+pub mod TypesStores
+pub mod Values
 pub mod Becomings
 pub mod Measure
 pub mod FreshTyped

@@ -1,8 +1,7 @@
 -- Scopes in memory, and lists of additions that grow by several.
-use Rattle.std.specs.Prelude.{ℕ, suc, ◌+◌, ◌<◌, ◌≡◌, List, [], ◌∷◌, ◌++◌, length, map, reverse, take, refl}
-use Rattle.std.proofs.Common.{ap, sym, ◌∙◌, arith, get_or, append_assoc}
-use Rattle.std.proofs.lemmas.List.{map-append, reverse-append, take_more, length-append, length-map, append-nil}
-use Rattle.std.proofs.Math.Seq.{take-length}
+use Rattle.std.specs.Prelude.{ℕ, ◌+◌, ◌<◌, ◌≡◌, List, [], ◌∷◌, ◌++◌, length, map, reverse, take, refl}
+use Rattle.std.proofs.Common.{ap, sym, ◌∙◌, get_or, append_assoc}
+use Rattle.std.proofs.lemmas.List.{map-append, reverse-append, take_more, length-append, append-nil}
 use Rattle.clf_syntax.specs.Tree.{PlainNeutral}
 use Rattle.clf_syntax.specs.TypeTree.{SimpleType}
 use Rattle.metavars.specs.declared.fresh.Local.{Local as DeclaredLocal}

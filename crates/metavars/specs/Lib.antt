@@ -10,6 +10,7 @@ pub use Rattle.store_laws.specs.Store
 pub use Rattle.eta_laws.specs.Eta
 pub mod Fresh
 pub mod Stored
+pub mod Typed
 pub mod Tables
 pub mod Becoming
 pub mod Outcomes

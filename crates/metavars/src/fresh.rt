@@ -13,9 +13,10 @@ ghost use Rattle.metavars.specs.Scopes.{plain_local, plain_scope, function_by, a
 ghost use Rattle.metavars.specs.Stored.{constants, additions, IsPart};
 
 use crate::store::Store;
-use crate::value::{bare, with_elimination};
+use crate::value::bare;
 use clf_simple::eta;
 use clf_syntax::{Elim, Head, Mode, Neutral, Obj, Or, Simple, SimpleEntry, Want};
+use hered_put::with_elimination;
 use sqlite_items::Boxed;
 use std::alloc::{AllocError, Global};
 

@@ -3,20 +3,23 @@
 //! A solution has no free variable, so the walk counts no binders. Where a neutral's head is solved, the solution is
 //! walked through in its place, so a solution is written out once for each place where it is looked at, and no tree is
 //! gone over again.
-ghost use Rattle.std.specs.Prelude.{◌≡◌, [], ◌∷◌, IfOk, length, map};
+ghost use Rattle.std.specs.Prelude.{◌≡◌, [], ◌∷◌, None, Some, IfOk, length, map};
+ghost use Rattle.std.specs.List.{slice_get};
 ghost use Rattle.clf_syntax.specs.declared.tree.Head.TheVariants.{Meta};
-ghost use Rattle.clf_syntax.specs.Tree.{PlainNeutral, PlainExpression, head_alone, eliminated, steps_on};
+ghost use Rattle.clf_syntax.specs.Tree.{PlainNeutral, PlainExpression, head_alone, eliminated, step, steps_on};
 ghost use Rattle.clf_syntax.specs.Plain.{plain_obj, plain_neutral, plain_elim, plain_expr, plain_step, plain_entry};
-ghost use Rattle.hered_subst.specs.Substitution.{Flattened};
+ghost use Rattle.hered_put.specs.Outcomes.{plain_rest};
+ghost use Rattle.store_laws.specs.Additions.{meta_types};
 ghost use Rattle.metavars.specs.Becoming as becoming;
 ghost use Rattle.metavars.specs.Inside.{IsInside};
-ghost use Rattle.metavars.specs.Outcomes.{BecomesOutcome, IsKept, IsSolved, UnderArgument, UnderFirst, UnderSecond, MetaInFront, ValueInFront, InFront, plain_rest};
+ghost use Rattle.metavars.specs.Outcomes.{Gives, BecomesOutcome, IsKept, IsSolvedAt, UnderArgument, NotUnderArgument, UnderFirst, UnderSecond, NotProjected, MetaInFront, NoMeta, Front, NotFront, Flat, NotFlat, InFront, NotInFront, plain_value};
+ghost use Rattle.metavars.specs.Stored.{additions};
+ghost use Rattle.clf_syntax.specs.PlainSimple.{plain_simple};
 
-use crate::rest::Rest;
 use crate::store::Store;
-use crate::value::{Outcome, Value, apply, bare, first_part, second_part, with_elimination};
+use crate::value::{Outcome, Value, apply, bare, parts};
 use clf_syntax::{Elim, Expr, Head, Mode, Modes, Neutral, Obj, Simple, Step, TupleEntry};
-use hered_put::{PutFault, flatten_let};
+use hered_put::{PutFault, Rest, flatten_let, with_elimination};
 use sqlite_items::{Boxed, Items};
 use std::alloc::{AllocError, Global};
 
@@ -58,7 +61,8 @@ impl<'a> Looking<'a> {
 #[cycle(put)]
 #[tactic(auto, using(clf_syntax::specs::Plain::plain_laws, crate::proofs::Becomings::becoming_laws))]
 pub fn put_object(looking: &Looking<'_>, obj: &Obj) -> Result<Obj, PutFault>
-    ensures { IfOk result (λ x. becoming.Object looking.now.store.now (plain_obj obj.now) (plain_obj x)) }
+    ensures { Gives (becoming.NoObject looking.now.store.now (plain_obj obj.now))
+        (λ x. becoming.Object looking.now.store.now (plain_obj obj.now) (plain_obj x)) result }
 {
     let alloc = looking.alloc;
     let inside = looking.inside()?;
@@ -99,7 +103,8 @@ pub fn put_object(looking: &Looking<'_>, obj: &Obj) -> Result<Obj, PutFault>
 #[cycle(put)]
 #[tactic(auto, using(clf_syntax::specs::Plain::plain_laws, crate::proofs::Becomings::becoming_laws))]
 fn put_neutral<'a>(looking: &Looking<'a>, neutral: &Neutral) -> Result<Outcome<'a>, PutFault>
-    ensures { IfOk result (λ o. BecomesOutcome looking.now.store.now (plain_neutral neutral.now) o) }
+    ensures { Gives (becoming.NoNeutral looking.now.store.now (plain_neutral neutral.now))
+        (λ o. BecomesOutcome looking.now.store.now (plain_neutral neutral.now) o) result }
 {
     let mut outcome = put_head(looking, neutral.head)?;
     for act in neutral.spine.as_slice() {
@@ -111,7 +116,8 @@ fn put_neutral<'a>(looking: &Looking<'a>, neutral: &Neutral) -> Result<Outcome<'
 /// What a head becomes.
 #[cycle(put)]
 fn put_head<'a>(looking: &Looking<'a>, head: Head) -> Result<Outcome<'a>, PutFault>
-    ensures { IfOk result (λ o. BecomesOutcome looking.now.store.now (head_alone head) o) }
+    ensures { Gives (becoming.NoNeutral looking.now.store.now (head_alone head))
+        (λ o. BecomesOutcome looking.now.store.now (head_alone head) o) result }
 {
     match head {
         Head::Const(_) | Head::Var(_) => Ok(kept_head(looking.alloc, head)),
@@ -129,7 +135,8 @@ fn kept_head<'a>(alloc: Global, head: Head) -> Outcome<'a>
 /// What a metavariable becomes.
 #[cycle(put)]
 fn put_meta<'a>(looking: &Looking<'a>, meta: u32) -> Result<Outcome<'a>, PutFault>
-    ensures { IfOk result (λ o. BecomesOutcome looking.now.store.now (head_alone (Meta meta)) o) }
+    ensures { Gives (becoming.NoNeutral looking.now.store.now (head_alone (Meta meta)))
+        (λ o. BecomesOutcome looking.now.store.now (head_alone (Meta meta)) o) result }
 {
     let store = looking.store;
     match store.solution(meta) {
@@ -143,7 +150,8 @@ fn put_meta<'a>(looking: &Looking<'a>, meta: u32) -> Result<Outcome<'a>, PutFaul
 
 /// The value of a metavariable, at its simple type.
 fn solved_head<'a>(store: &'a Store, meta: u32, obj: Obj) -> Result<Outcome<'a>, PutFault>
-    ensures { IfOk result (λ o. IsSolved (plain_obj obj) o) }
+    ensures { Gives (slice_get (meta_types (additions store.now)) meta ≡ None)
+        (λ o. IsSolvedAt (plain_obj obj) (slice_get (meta_types (additions store.now)) meta) o) result }
 {
     match store.metas().get(meta as usize) {
         Some(ty) => Ok(Outcome::Solved(Value { obj, ty })),
@@ -161,9 +169,10 @@ fn eliminate<'a>(
     act: &Elim,
     outcome: Outcome<'a>,
 ) -> Result<Outcome<'a>, PutFault>
-    ensures { IfOk result (λ o.
+    ensures { Gives ((n : PlainNeutral) → BecomesOutcome looking.now.store.now n outcome.entry →
+        becoming.NoNeutral looking.now.store.now (eliminated (plain_elim act.now) n)) (λ o.
         (n : PlainNeutral) → BecomesOutcome looking.now.store.now n outcome.entry →
-        BecomesOutcome looking.now.store.now (eliminated (plain_elim act.now) n) o) }
+        BecomesOutcome looking.now.store.now (eliminated (plain_elim act.now) n) o) result }
 {
     match act {
         Elim::Arg { mode, obj } => {
@@ -182,7 +191,8 @@ fn under_argument<'a>(
     outcome: Outcome<'a>,
     argument: Obj,
 ) -> Result<Outcome<'a>, PutFault>
-    ensures { IfOk result (λ o. UnderArgument mode (plain_obj argument) outcome.entry o) }
+    ensures { Gives (NotUnderArgument mode (plain_obj argument) outcome.entry)
+        (λ o. UnderArgument mode (plain_obj argument) outcome.entry o) result }
 {
     match outcome {
         Outcome::Kept(neutral) => {
@@ -198,21 +208,21 @@ fn under_argument<'a>(
 
 /// What a neutral becomes under the first projection.
 fn under_first<'a>(outcome: Outcome<'a>) -> Result<Outcome<'a>, PutFault>
-    ensures { IfOk result (λ o. UnderFirst outcome.entry o) }
+    ensures { Gives (NotProjected outcome.entry) (λ o. UnderFirst outcome.entry o) result }
 {
     match outcome {
         Outcome::Kept(neutral) => Ok(Outcome::Kept(with_elimination(neutral, Elim::First)?)),
-        Outcome::Solved(value) => Ok(Outcome::Solved(first_part(value)?)),
+        Outcome::Solved(value) => Ok(Outcome::Solved(parts(value)?.first)),
     }
 }
 
 /// What a neutral becomes under the second projection.
 fn under_second<'a>(outcome: Outcome<'a>) -> Result<Outcome<'a>, PutFault>
-    ensures { IfOk result (λ o. UnderSecond outcome.entry o) }
+    ensures { Gives (NotProjected outcome.entry) (λ o. UnderSecond outcome.entry o) result }
 {
     match outcome {
         Outcome::Kept(neutral) => Ok(Outcome::Kept(with_elimination(neutral, Elim::Second)?)),
-        Outcome::Solved(value) => Ok(Outcome::Solved(second_part(value)?)),
+        Outcome::Solved(value) => Ok(Outcome::Solved(parts(value)?.second)),
     }
 }
 
@@ -220,7 +230,8 @@ fn under_second<'a>(outcome: Outcome<'a>) -> Result<Outcome<'a>, PutFault>
 #[cycle(put)]
 #[tactic(auto, using(clf_syntax::specs::Plain::plain_laws, crate::proofs::Becomings::becoming_laws))]
 fn put_expression(looking: &Looking<'_>, expr: &Expr) -> Result<Expr, PutFault>
-    ensures { IfOk result (λ x. becoming.Expression looking.now.store.now (plain_expr expr.now) (plain_expr x)) }
+    ensures { Gives (becoming.NoExpression looking.now.store.now (plain_expr expr.now))
+        (λ x. becoming.Expression looking.now.store.now (plain_expr expr.now) (plain_expr x)) result }
 {
     let tuple = put_tuple(looking, expr.result.as_slice())?;
     let mut rest = Rest::of_tuple(looking.alloc, tuple);
@@ -237,9 +248,10 @@ fn put_expression(looking: &Looking<'_>, expr: &Expr) -> Result<Expr, PutFault>
 #[cycle(put)]
 #[tactic(auto, using(clf_syntax::specs::Plain::plain_laws, crate::proofs::Becomings::becoming_laws))]
 fn put_step(looking: &Looking<'_>, step: &Step, rest: Rest) -> Result<Rest, PutFault>
-    ensures { IfOk result (λ r.
+    ensures { Gives ((e : PlainExpression) → becoming.Expression looking.now.store.now e (plain_rest rest) →
+        becoming.NoExpression looking.now.store.now (steps_on (plain_step step.now ∷ []) e)) (λ r.
         (e : PlainExpression) → becoming.Expression looking.now.store.now e (plain_rest rest) →
-        becoming.Expression looking.now.store.now (steps_on (plain_step step.now ∷ []) e) (plain_rest r)) }
+        becoming.Expression looking.now.store.now (steps_on (plain_step step.now ∷ []) e) (plain_rest r)) result }
 {
     let outcome = put_neutral(looking, &step.rhs)?;
     in_front(looking.alloc, &step.modes, outcome, rest)
@@ -252,23 +264,25 @@ fn in_front(
     outcome: Outcome<'_>,
     rest: Rest,
 ) -> Result<Rest, PutFault>
-    ensures { IfOk result (λ r. InFront modes.now outcome.entry (plain_rest rest) (plain_rest r)) }
+    ensures { Gives (NotInFront modes.now outcome.entry (plain_rest rest))
+        (λ r. InFront modes.now outcome.entry (plain_rest rest) (plain_rest r)) result }
 {
     match outcome {
-        Outcome::Kept(rhs) => Ok(rest.behind(alloc, modes, rhs)?),
+        Outcome::Kept(rhs) => Ok(step_in_front(alloc, modes, rhs, rest)?),
         Outcome::Solved(value) => value_in_front(alloc, modes, value, rest),
     }
 }
 
 /// The same, where the right side has a value.
-#[tactic(auto, using(clf_syntax::specs::Plain::plain_laws))]
+#[tactic(auto, using(clf_syntax::specs::Plain::plain_laws, crate::proofs::Values::front_laws))]
 fn value_in_front(
     alloc: Global,
     modes: &Modes,
     value: Value<'_>,
     rest: Rest,
 ) -> Result<Rest, PutFault>
-    ensures { IfOk result (λ r. ValueInFront modes.now (plain_obj value.entry.obj) (plain_rest rest) (plain_rest r)) }
+    ensures { Gives (NotFront modes.now (plain_value value.entry) (plain_rest rest))
+        (λ r. Front modes.now (plain_value value.entry) (plain_rest rest) (plain_rest r)) result }
 {
     let Value { obj, ty } = value;
     match obj {
@@ -279,6 +293,7 @@ fn value_in_front(
 }
 
 /// The steps of a value, and then the rest with its tuple put for the variables of the step.
+#[tactic(auto, using(clf_syntax::specs::PlainSimple::plain_simple_laws, crate::proofs::Values::flat_laws))]
 fn flat_in_front(
     alloc: Global,
     modes: &Modes,
@@ -286,7 +301,8 @@ fn flat_in_front(
     ty: &Simple,
     rest: Rest,
 ) -> Result<Rest, PutFault>
-    ensures { IfOk result (λ r. Flattened (length modes.now) (plain_expr value.now) (plain_rest rest) (plain_rest r)) }
+    ensures { Gives (NotFlat modes.now (plain_expr value.now) (plain_simple ty.now) (plain_rest rest)) (λ r.
+        Flat modes.now (plain_expr value.now) (plain_simple ty.now) (plain_rest rest) (plain_rest r)) result }
 {
     match ty {
         Simple::Monad { entries } => {
@@ -303,13 +319,23 @@ fn flat_in_front(
     }
 }
 
+/// A step in front of the rest.
+#[tactic(auto, using(clf_syntax::specs::Plain::plain_laws))]
+fn step_in_front(alloc: Global, modes: &Modes, rhs: Neutral, rest: Rest) -> Result<Rest, AllocError>
+    ensures { IfOk result (λ r. plain_rest r ≡ step modes.now (plain_neutral rhs) (plain_rest rest)) }
+{
+    let modes = modes.copy(alloc)?;
+    Ok(rest.behind(Step { modes, rhs })?)
+}
+
 /// A step whose right side becomes a metavariable stays.
 #[tactic(auto, using(clf_syntax::specs::Plain::plain_laws))]
 fn meta_in_front(alloc: Global, modes: &Modes, rhs: Neutral, rest: Rest) -> Result<Rest, PutFault>
-    ensures { IfOk result (λ r. MetaInFront modes.now (plain_neutral rhs) (plain_rest rest) (plain_rest r)) }
+    ensures { Gives (NoMeta (plain_neutral rhs))
+        (λ r. MetaInFront modes.now (plain_neutral rhs) (plain_rest rest) (plain_rest r)) result }
 {
     match rhs.head {
-        Head::Meta(_) => Ok(rest.behind(alloc, modes, rhs)?),
+        Head::Meta(_) => Ok(step_in_front(alloc, modes, rhs, rest)?),
         Head::Const(_) | Head::Var(_) => Err(PutFault::Untyped),
     }
 }
@@ -317,8 +343,8 @@ fn meta_in_front(alloc: Global, modes: &Modes, rhs: Neutral, rest: Rest) -> Resu
 #[cycle(put)]
 #[tactic(auto, using(clf_syntax::specs::Plain::plain_laws, crate::proofs::Becomings::becoming_laws))]
 fn put_tuple(looking: &Looking<'_>, tuple: &[TupleEntry]) -> Result<Items<TupleEntry>, PutFault>
-    ensures { IfOk result (λ es.
-        becoming.Each (becoming.Entry looking.now.store.now) (map plain_entry tuple.now) (map plain_entry es)) }
+    ensures { Gives (becoming.NoTuple looking.now.store.now (map plain_entry tuple.now)) (λ es.
+        becoming.Each (becoming.Entry looking.now.store.now) (map plain_entry tuple.now) (map plain_entry es)) result }
 {
     let mut entries = Items::new(looking.alloc);
     for entry in tuple {
@@ -330,7 +356,8 @@ fn put_tuple(looking: &Looking<'_>, tuple: &[TupleEntry]) -> Result<Items<TupleE
 #[cycle(put)]
 #[tactic(auto, using(clf_syntax::specs::Plain::plain_laws, crate::proofs::Becomings::becoming_laws))]
 fn put_entry(looking: &Looking<'_>, entry: &TupleEntry) -> Result<TupleEntry, PutFault>
-    ensures { IfOk result (λ x. becoming.Entry looking.now.store.now (plain_entry entry.now) (plain_entry x)) }
+    ensures { Gives (becoming.NoEntry looking.now.store.now (plain_entry entry.now))
+        (λ x. becoming.Entry looking.now.store.now (plain_entry entry.now) (plain_entry x)) result }
 {
     Ok(TupleEntry {
         mode: entry.mode,

@@ -5,11 +5,11 @@ mod fresh;
 mod instance;
 mod instantiate;
 mod laws;
-mod rest;
 mod store;
 mod tables;
 mod types;
 mod value;
 
-pub use laws::new_metavariables;
+pub use instance::Untyped;
+pub use laws::{new_metavariables, typed_stores};
 pub use store::{Store, StoreMark};

@@ -1,19 +1,27 @@
 //! Values of neutrals whose head has a solution, under eliminations.
-ghost use Rattle.std.specs.Prelude.{◌≡◌, IfOk};
-ghost use Rattle.clf_syntax.specs.Plain.{plain_obj, plain_neutral, plain_elim};
-ghost use Rattle.clf_syntax.specs.Tree.{eliminated, head_alone};
-ghost use Rattle.metavars.specs.Outcomes.{AppliedTo, FirstOf, SecondOf};
+ghost use Rattle.std.specs.Prelude.{◌≡◌};
+ghost use Rattle.clf_syntax.specs.Plain.{plain_obj, plain_neutral};
+ghost use Rattle.clf_syntax.specs.PlainSimple.{plain_simple};
+ghost use Rattle.clf_syntax.specs.Tree.{head_alone, pair};
+ghost use Rattle.metavars.specs.Outcomes.{Gives, plain_value, Applied, NotApplied, AppliedAt, NotAppliedAt, IsPair, NoPair, IsNoPair};
 
-use clf_syntax::{Elim, Head, Mode, Neutral, Obj, Simple};
+use clf_syntax::{Head, Mode, Neutral, Obj, Simple};
 use hered_put::{PutFault, put_obj};
 use sqlite_items::Items;
-use std::alloc::{AllocError, Global};
+use std::alloc::Global;
 
 /// An object with its simple type.
 #[derive(Drop)]
 pub struct Value<'a> {
     pub obj: Obj,
     pub ty: &'a Simple,
+}
+
+/// The parts of a value.
+#[derive(Drop)]
+pub struct ValueParts<'a> {
+    pub first: Value<'a>,
+    pub second: Value<'a>,
 }
 
 /// What a neutral becomes: its head is kept, or it has a value.
@@ -34,25 +42,16 @@ pub fn bare(alloc: Global, head: Head) -> Neutral
     }
 }
 
-/// A neutral under one elimination more.
-#[tactic(auto, using(clf_syntax::specs::Plain::plain_laws, crate::proofs::Rests::spine_laws))]
-pub fn with_elimination(neutral: Neutral, act: Elim) -> Result<Neutral, AllocError>
-    ensures { IfOk result (λ n. plain_neutral n ≡ eliminated (plain_elim act) (plain_neutral neutral)) }
-{
-    let Neutral { head, mut spine } = neutral;
-    spine.push(act)?;
-    Ok(Neutral { head, spine })
-}
-
 /// A value under an argument, which is put for the variable of a lambda.
-#[tactic(auto, using(clf_syntax::specs::Plain::plain_laws))]
+#[tactic(auto, using(clf_syntax::specs::PlainSimple::plain_simple_laws, crate::proofs::Values::applied_laws))]
 pub fn apply<'a>(
     alloc: Global,
     mode: Mode,
     value: Value<'a>,
     argument: &Obj,
 ) -> Result<Value<'a>, PutFault>
-    ensures { IfOk result (λ v. AppliedTo mode (plain_obj value.entry.obj) (plain_obj argument.now) (plain_obj v.obj)) }
+    ensures { Gives (NotApplied mode (plain_value value.entry) (plain_obj argument.now))
+        (λ v. Applied mode (plain_value value.entry) (plain_obj argument.now) (plain_value v)) result }
 {
     let Value { obj, ty } = value;
     match ty {
@@ -67,7 +66,7 @@ pub fn apply<'a>(
 }
 
 /// A lambda under an argument of a simple type.
-#[tactic(auto, using(clf_syntax::specs::Plain::plain_laws))]
+#[tactic(auto, using(clf_syntax::specs::Plain::plain_laws, crate::proofs::Values::applied_laws))]
 fn apply_object(
     alloc: Global,
     mode: Mode,
@@ -75,7 +74,9 @@ fn apply_object(
     obj: &Obj,
     argument: &Obj,
 ) -> Result<Obj, PutFault>
-    ensures { IfOk result (λ x. AppliedTo mode (plain_obj obj.now) (plain_obj argument.now) (plain_obj x)) }
+    ensures { Gives (NotAppliedAt mode (plain_simple dom.now) (plain_obj obj.now) (plain_obj argument.now))
+        (λ x. AppliedAt mode (plain_simple dom.now) (plain_obj obj.now) (plain_obj argument.now) (plain_obj x))
+        result }
 {
     match obj {
         Obj::Lam { mode: wanted, body } => {
@@ -90,58 +91,50 @@ fn apply_object(
     }
 }
 
-/// The first part of a value.
-#[tactic(auto, using(clf_syntax::specs::Plain::plain_laws))]
-pub fn first_part<'a>(value: Value<'a>) -> Result<Value<'a>, PutFault>
-    ensures { IfOk result (λ v. FirstOf (plain_obj value.entry.obj) (plain_obj v.obj)) }
+/// The parts of a value that is a pair.
+#[tactic(auto, using(clf_syntax::specs::PlainSimple::plain_simple_laws, crate::proofs::Values::pair_laws))]
+pub fn parts<'a>(value: Value<'a>) -> Result<ValueParts<'a>, PutFault>
+    ensures { Gives (NoPair (plain_value value.entry))
+        (λ p. IsPair (plain_value value.entry) (plain_value p.first) (plain_value p.second)) result }
 {
     let Value { obj, ty } = value;
     match ty {
-        Simple::With { left, right: _ } => Ok(Value {
-            obj: first_object(obj)?,
-            ty: left.get(),
-        }),
+        Simple::With { left, right } => {
+            let parts = pair_parts(obj)?;
+            Ok(ValueParts {
+                first: Value {
+                    obj: parts.left,
+                    ty: left.get(),
+                },
+                second: Value {
+                    obj: parts.right,
+                    ty: right.get(),
+                },
+            })
+        }
         Simple::Atom(_) | Simple::Fun { .. } | Simple::Top | Simple::Monad { .. } => {
             Err(PutFault::Untyped)
         }
     }
 }
 
-/// The second part of a value.
-#[tactic(auto, using(clf_syntax::specs::Plain::plain_laws))]
-pub fn second_part<'a>(value: Value<'a>) -> Result<Value<'a>, PutFault>
-    ensures { IfOk result (λ v. SecondOf (plain_obj value.entry.obj) (plain_obj v.obj)) }
+/// The parts of a pair.
+#[derive(Drop)]
+struct PairParts {
+    left: Obj,
+    right: Obj,
+}
+
+#[tactic(auto, using(clf_syntax::specs::Plain::plain_laws, crate::proofs::Values::pair_laws))]
+fn pair_parts(obj: Obj) -> Result<PairParts, PutFault>
+    ensures { Gives (IsNoPair (plain_obj obj)) (λ p. plain_obj obj ≡ pair (plain_obj p.left) (plain_obj p.right))
+        result }
 {
-    let Value { obj, ty } = value;
-    match ty {
-        Simple::With { left: _, right } => Ok(Value {
-            obj: second_object(obj)?,
-            ty: right.get(),
+    match obj {
+        Obj::Pair { left, right } => Ok(PairParts {
+            left: left.into_inner(),
+            right: right.into_inner(),
         }),
-        Simple::Atom(_) | Simple::Fun { .. } | Simple::Top | Simple::Monad { .. } => {
-            Err(PutFault::Untyped)
-        }
-    }
-}
-
-#[tactic(auto, using(clf_syntax::specs::Plain::plain_laws))]
-fn first_object(obj: Obj) -> Result<Obj, PutFault>
-    ensures { IfOk result (λ x. FirstOf (plain_obj obj) (plain_obj x)) }
-{
-    match obj {
-        Obj::Pair { left, right: _ } => Ok(left.into_inner()),
-        Obj::Lam { .. } | Obj::Unit | Obj::Mon { .. } | Obj::At { .. } | Obj::Hole => {
-            Err(PutFault::Untyped)
-        }
-    }
-}
-
-#[tactic(auto, using(clf_syntax::specs::Plain::plain_laws))]
-fn second_object(obj: Obj) -> Result<Obj, PutFault>
-    ensures { IfOk result (λ x. SecondOf (plain_obj obj) (plain_obj x)) }
-{
-    match obj {
-        Obj::Pair { left: _, right } => Ok(right.into_inner()),
         Obj::Lam { .. } | Obj::Unit | Obj::Mon { .. } | Obj::At { .. } | Obj::Hole => {
             Err(PutFault::Untyped)
         }

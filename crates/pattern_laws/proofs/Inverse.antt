@@ -139,11 +139,6 @@ fitting_at z [] f y i v e = absurd (cc)
 fitting_at z (p ∷ ps) f y zero v e = let (g, h) = shown (blank p.1) p.2 v e in subst (λ k. z (Var k) ≡ Some p.1) h (⊎_elim (λ k. k) (λ k. absurd (not_both k g)) f.0)
 fitting_at z (p ∷ ps) f y (suc i) v e = fitting_at z ps f.1 y i v e
 
-pub beneath_at : (ps : List Place) (y : Assignment) (i v : ℕ) → local_at ps i ≡ Some v → (u : SimpleType) × (beneath ps y (Var i) ≡ Some u)
-beneath_at [] y i v e = absurd (cc)
-beneath_at (p ∷ ps) y zero v e = (p.1, refl)
-beneath_at (p ∷ ps) y (suc i) v e = beneath_at ps y i v e
-
 -- What lies below the lambdas does not go to a local without a place.
 pub not_applied : (n : ℕ) (ps : List Place) (y : Assignment) (b : PlainObject) (a : SimpleType) → Typed false (beneath ps y) b a → (v : ℕ) → v < n → ((i : ℕ) → local_at ps i ≡ Some v → ⊥) → (u : ℕ) → occurs u b ≡ true → applied n ps u ≡ v → ⊥
 not_applied n ps y b a t v h f u e g = ⊎_elim

@@ -2,6 +2,7 @@ pub mod Occurrences
 pub mod Typings
 pub mod EtaVariables
 pub mod OnePlace
+pub mod TypeParts
 pub mod Spines
 pub mod Inverse
 pub mod Instances

@@ -1,11 +1,12 @@
 -- The places of a metavariable on locals are determined by the neutral.
-use Rattle.std.specs.Prelude.{ℕ, Bool, true, false, zero, suc, ◌≡◌, if◌then◌else◌, List, [], ◌∷◌, Some, None, refl}
+use Rattle.std.specs.Prelude.{ℕ, Bool, true, false, zero, suc, ◌≡◌, if◌then◌else◌, [], ◌∷◌, Some, None, refl}
 use Rattle.std.proofs.Common.{ap, sym, ◌∙◌}
 use Rattle.clf_syntax.specs.declared.tree.Mode.{Mode}
-use Rattle.clf_syntax.specs.declared.tree.Head.TheVariants.{Var, Meta}
+use Rattle.clf_syntax.specs.declared.tree.Head.TheVariants.{Var}
 use Rattle.clf_syntax.specs.Tree.{PlainObject, PlainNeutral, head_alone, app}
 use Rattle.eta_laws.specs.Eta.{eta}
-use Rattle.pattern_laws.specs.Patterns.{Place, on, blank, local_at, SameTypes}
+use Rattle.pattern_laws.specs.Patterns.{on, blank}
+use Rattle.pattern_laws.specs.Laws.{OneReading}
 use Rattle.pattern_laws.proofs.EtaVariables.{eta_one}
 
 function_of : {m k : Mode} {r s : PlainNeutral} {o u : PlainObject} → app m r o ≡ app k s u → r ≡ s
@@ -19,7 +20,7 @@ same_place true v w f = refl
 same_place false v w f = ap (λ n. Some n) (f refl)
 
 -- Two readings of one neutral have the same locals at the same places.
-pub one_reading : (ps zs : List Place) (m k : ℕ) → SameTypes ps zs → on ps (head_alone (Meta m)) ≡ on zs (head_alone (Meta k)) → (i : ℕ) → local_at ps i ≡ local_at zs i
+pub one_reading : OneReading
 one_reading [] [] m k s e i = refl
 one_reading [] (z ∷ zs) m k s e i = absurd s
 one_reading (p ∷ ps) [] m k s e i = absurd s

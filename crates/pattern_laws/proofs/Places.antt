@@ -5,13 +5,14 @@ use Rattle.clf_syntax.specs.declared.tree.Mode.{Mode}
 use Rattle.clf_syntax.specs.declared.tree.Head.TheVariants.{Const, Var, Meta}
 use Rattle.clf_syntax.specs.Tree.{PlainObject, PlainNeutral, PlainExpression, PlainTuple}
 use Rattle.clf_syntax.specs.TypeTree.{SimpleType, arrow, SimpleTelescope}
-use Rattle.clf_syntax.specs.Simple.{Assignment, extended, simple_modes, SimplyTyped}
+use Rattle.clf_syntax.specs.Simple.{Assignment, extended, simple_modes}
 use Rattle.clf_syntax.specs.Occurs.{occurs, occurs_neutral, occurs_expression, occurs_tuple}
 use Rattle.clf_syntax.proofs.OccursLaws.{either, not_both}
 use Rattle.hered_subst.proofs.SimpleTyping.{Typed, typed_lam, typed_pair, typed_unit, typed_monadic, typed_metavariable, typed_atomic, TypedNeutral, typed_bare, typed_app, typed_fst, typed_snd, TypedExpression, typed_step, typed_done, TypedTuple, typed_empty, typed_entry, to_typed, extended_out}
-use Rattle.pattern_laws.specs.Patterns.{Place, arrows, local_at, Distinct, Covers, inverse, SameTypes, Ends, ends_here, ends_later, IsFinal, NoForeign, functions}
-use Rattle.pattern_laws.specs.Instantiations.{Types, closed}
-use Rattle.pattern_laws.specs.Equations.{scoped, Locals}
+use Rattle.pattern_laws.specs.Patterns.{Place, arrows, local_at, Distinct, inverse, SameTypes, Ends, ends_here, ends_later, IsFinal, functions}
+use Rattle.pattern_laws.specs.Instantiations.{closed}
+use Rattle.pattern_laws.specs.Equations.{scoped}
+use Rattle.pattern_laws.specs.Laws.{SamePlaces, CoversWhereNoForeign}
 use Rattle.pattern_laws.proofs.Inverse.{inverse_there}
 use Rattle.pattern_laws.proofs.Instances.{scoped_in}
 
@@ -44,7 +45,7 @@ same_arrows (p ∷ ps) [] a c l e = absurd (omega arith)
 same_arrows (p ∷ ps) (z ∷ zs) a c l e = let (s, f) = same_arrows ps zs (arrow p.0 p.1 a) (arrow z.0 z.1 c) (omega arith) e in ((mode_of f, domain_of f, s), result_of f)
 
 -- Two lists of places of one metavariable, with results that are no functions, have the same modes and types.
-pub same_types : (ps zs : List Place) (a c : SimpleType) → IsFinal a → IsFinal c → arrows ps a ≡ arrows zs c → SameTypes ps zs × (a ≡ c)
+pub same_types : SamePlaces
 same_types ps zs a c f g e = same_arrows ps zs a c (lengths (sym (functions_of ps a) ∙ ap functions e ∙ functions_of zs c) (final_functions a f) (final_functions c g)) e
   where
     lengths : length ps + functions a ≡ length zs + functions c → functions a ≡ 0 → functions c ≡ 0 → length ps ≡ length zs
@@ -106,7 +107,7 @@ holds (Some i) j = of (nat_eq i j) (the_number i j) (λ e. ap (nat_eq i) (sym e)
     of false f g = inr (λ e. not_both (g (number e)) refl)
 
 -- Where no foreign local occurs, each variable that occurs stands at a place.
-pub covers : (constants metas : Types) (ls : Locals) (ps : List Place) (x : PlainObject) (a : SimpleType) → SimplyTyped (scoped ls (closed constants metas)) x a → NoForeign (length ls) ps 0 x → Covers ps x
+pub covers : CoversWhereNoForeign
 covers constants metas ls ps x a p f j o = let (u, e) = occurring (to_typed true (scoped ls (closed constants metas)) x a p) j o in
     ⊎_elim (λ h. (inverse (length ls) ps j, h)) (λ h. absurd (f j o (j, none j, (scoped_in constants metas metas ls j u e).0, (λ i k. h (inverse_there (length ls) ps i j k)))))
     (holds (local_at ps (inverse (length ls) ps j)) j)

@@ -19,6 +19,7 @@ use Rattle.hered_subst.proofs.SimpleTyping.{Typed, rank, typed_lam, renamed_type
 use Rattle.subst_laws.specs.Environments.{Instantiation, instant, image_or}
 use Rattle.eta_laws.specs.Eta.{eta, becoming}
 use Rattle.eta_laws.proofs.EtaLaws.{eta_kept, eta_near, all_same}
+use Rattle.pattern_laws.proofs.TypeParts.{from_type, to_type}
 use Rattle.pattern_laws.proofs.Occurrences.{target}
 use Rattle.pattern_laws.proofs.Typings.{typed_where, blank_absent}
 use Rattle.pattern_laws.specs.Instantiations.{Instantiated}
@@ -100,9 +101,6 @@ pub through_lams : (t : Instantiation) (ps : List Place) {b x : PlainObject} →
 through_lams t [] {b = b} {x = x} p = subst (λ z. Substituted z b x) (under_zero (instant t)) p
 through_lams t (q ∷ ps) {b = b} {x = x} p = through_lams t ps (through_lam (subst (λ z. Substituted z b x) (sym (under_instant (length ps) t)) p))
 
-lam_body : {m : Mode} {b c : PlainObject} → lam m b ≡ lam m c → b ≡ c
-lam_body e = cc
-
 pub of_lams : (t : Instantiation) (ps : List Place) {b y : PlainObject} → Substituted (instant t) (lams ps b) y → (x : PlainObject) × (y ≡ lams ps x) × Instantiated (length ps) t b x
 of_lams t [] {b = b} {y = y} p = (y, refl, subst (λ z. Substituted z b y) (sym (under_zero (instant t))) p)
 of_lams t (q ∷ ps) {b = b} p = let (x, e, d) = of_lams t ps p in let (w, f, c) = body d in
@@ -111,12 +109,6 @@ of_lams t (q ∷ ps) {b = b} p = let (x, e, d) = of_lams t ps p in let (w, f, c)
 -- a typed lambda's body
 lam_typed : {w : Bool} {g : Assignment} {m : Mode} {b : PlainObject} {t : SimpleType} → Typed w g (lam m b) t → (d c : SimpleType) × (t ≡ arrow m d c) × Typed w (extended d g) b c
 lam_typed (typed_lam {d = d} {c = c} p) = (d, c, refl, p)
-
-from_type : {m k : Mode} {d c e f : SimpleType} → arrow m d c ≡ arrow k e f → e ≡ d
-from_type h = cc
-
-to_type : {m k : Mode} {d c e f : SimpleType} → arrow m d c ≡ arrow k e f → f ≡ c
-to_type h = cc
 
 pub body_typed : {w : Bool} {g : Assignment} {m k : Mode} {b : PlainObject} {d c : SimpleType} → Typed w g (lam m b) (arrow k d c) → Typed w (extended d g) b c
 body_typed {w = w} {g = g} {b = b} {d = d} {c = c} p = let (e, f, h, q) = lam_typed p in subst (λ t. Typed w (extended t g) b c) (from_type h) (subst (λ t. Typed w (extended e g) b t) (to_type h) q)

@@ -1,5 +1,5 @@
 -- Metavariables by number: their simple types and solutions, and instantiations over parameters.
-use Rattle.std.specs.Prelude.{ℕ, ◌≡◌, nat_eq, if◌then◌else◌, Option, Some, None}
+use Rattle.std.specs.Prelude.{ℕ, ◌≡◌, Option, Some, None}
 use Rattle.clf_syntax.specs.declared.tree.Head.TheVariants.{Const, Var, Meta}
 use Rattle.clf_syntax.specs.Tree.{PlainObject}
 use Rattle.clf_syntax.specs.TypeTree.{SimpleType}
@@ -23,10 +23,6 @@ abbrev pub over : Types → Types → Assignment
 over constants parameters (Const c) = constants c
 over constants parameters (Var i) = parameters i
 over constants parameters (Meta m) = None
-
--- the same with one more, or with another one, at a number
-abbrev pub set : {X : Type 0} → ℕ → X → (ℕ → Option X) → ℕ → Option X
-set m o g k = if nat_eq k m then Some o else g k
 
 -- Instantiated n t o x: x is o with the objects of t put for metavariables, under n locals. The parameters are the variables after the locals.
 abbrev pub Instantiated : ℕ → Instantiation → PlainObject → PlainObject → Type 0

@@ -14,7 +14,8 @@ use Rattle.subst_laws.specs.Environments.{Instantiation, instant, TypedInstantia
 use Rattle.subst_laws.proofs.Environs.{instant_is_environment}
 use Rattle.store_laws.proofs.Numbers.{number_cases, set_there, set_else, some_none}
 use Rattle.store_laws.proofs.Closing.{no_families, Gives, gives_typed, next, composed_next, closed_again, next_gives}
-use Rattle.pattern_laws.specs.Instantiations.{Types, closed, over, set, Instantiates, Instantiated, Agrees}
+use Rattle.store_laws.specs.Additions.{set}
+use Rattle.pattern_laws.specs.Instantiations.{Types, closed, over, Instantiates, Instantiated, Agrees}
 use Rattle.pattern_laws.proofs.Instances.{keeps}
 use Rattle.unify_laws.proofs.Assign.{agrees_fewer}
 use Rattle.unify_laws.proofs.Consequences.{put_in}

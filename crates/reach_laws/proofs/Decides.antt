@@ -1,31 +1,18 @@
 -- Whether a foreign local is a head at a rigid place, whether the metavariable itself stands there, and whether foreign locals can be taken away, is decided by one walk each,
-use Rattle.std.specs.Prelude.{ℕ, Bool, true, false, suc, ◌≡◌, ◌⊎◌, ◌||◌, List, [], ◌∷◌, ◌++◌, length, Option, Some, None, refl}
-use Rattle.std.proofs.Common.{ap, sym, subst, ◌∙◌, inl, inr, ⊎_elim, append_assoc}
+use Rattle.std.specs.Prelude.{Bool, true, false, ◌≡◌, ◌⊎◌, [], ◌∷◌, ◌++◌, refl}
+use Rattle.std.proofs.Common.{sym, subst, ◌∙◌, inl, inr, ⊎_elim, append_assoc}
 use Rattle.clf_syntax.specs.declared.tree.Mode.{Mode}
 use Rattle.clf_syntax.specs.declared.tree.Head.{Head}
-use Rattle.clf_syntax.specs.declared.tree.Head.TheVariants.{Const, Var, Meta}
 use Rattle.clf_syntax.specs.Tree.{PlainObject, lam, pair, unit, monadic, atomic, hole, PlainNeutral, head_alone, app, fst, snd, head_of}
 use Rattle.clf_syntax.specs.TypeTree.{SimpleType, arrow, simple_with}
 use Rattle.clf_syntax.specs.Simple.{Assignment, extended, SimplyTyped, SimplyTypedNeutral, no_holes}
 use Rattle.hered_subst.specs.TypedEnvironments.{is_metavariable}
-use Rattle.pattern_laws.specs.Patterns.{Place, Foreign}
 use Rattle.pattern_laws.specs.Equations.{scoped, Locals}
+use Rattle.pattern_laws.proofs.TypeParts.{from_type, to_type, first_type, second_type}
 use Rattle.reach_laws.specs.Reach.{Standing, standing_here, standing_body, standing_left, standing_right, standing_below, StandingBelow, in_this, in_earlier, under_fst, under_snd}
 use Rattle.subst_laws.proofs.Variables.{neutral_has_one_type}
 
 -- where it is decided of a neutral whether it is a metavariable on distinct locals.
-
-from_type : {m k : Mode} {d c e f : SimpleType} → arrow m d c ≡ arrow k e f → e ≡ d
-from_type h = cc
-
-to_type : {m k : Mode} {d c e f : SimpleType} → arrow m d c ≡ arrow k e f → f ≡ c
-to_type h = cc
-
-first_type : {a b c d : SimpleType} → simple_with a b ≡ simple_with c d → c ≡ a
-first_type h = cc
-
-second_type : {a b c d : SimpleType} → simple_with a b ≡ simple_with c d → d ≡ b
-second_type h = cc
 
 of_body : {g : Assignment} {es : Locals} {q : PlainNeutral} {c t : SimpleType} {m : Mode} {b : PlainObject} → Standing g es q c (lam m b) t → (d e : SimpleType) × (fs : Locals) × (t ≡ arrow m d e) × (es ≡ fs ++ (m, d) ∷ []) × Standing (extended d g) fs q c b e
 of_body (standing_body {ds = fs} {d = d} {e = e} s) = (d, e, fs, refl, refl, s)

@@ -1,5 +1,5 @@
 -- Parts of an equation are typed as it is, and stay its parts when solutions are put in.
-use Rattle.std.specs.Prelude.{Bool, true, false, ◌≡◌, length, Some, None, refl}
+use Rattle.std.specs.Prelude.{true, false, ◌≡◌, length, Some, None}
 use Rattle.std.proofs.Common.{sym, subst, ◌∙◌, ⊎_elim}
 use Rattle.clf_syntax.specs.declared.tree.Mode.{Mode}
 use Rattle.clf_syntax.specs.declared.tree.Head.{Head}
@@ -18,6 +18,7 @@ use Rattle.subst_laws.proofs.Environs.{instant_is_environment}
 use Rattle.subst_laws.proofs.Variables.{neutral_has_one_type}
 use Rattle.pattern_laws.specs.Instantiations.{Types, closed, Instantiated}
 use Rattle.pattern_laws.specs.Equations.{Locals, scoped, Equation, TypedEquation}
+use Rattle.pattern_laws.proofs.TypeParts.{from_type, to_type, first_type, second_type}
 use Rattle.pattern_laws.proofs.Spines.{under_instant}
 use Rattle.pattern_laws.proofs.Instances.{typed_scoped}
 use Rattle.unify_laws.specs.Parts.{SameShape, shape_head, shape_app, shape_fst, shape_snd, PartAt, part_here, part_function, part_fst, part_snd}
@@ -28,18 +29,6 @@ use Rattle.reach_laws.specs.Rest.{IsAssignment, EquationUnder, PartOf, part_itse
 
 no_families : Families
 no_families f = None
-
-from_type : {m k : Mode} {d c e f : SimpleType} → arrow m d c ≡ arrow k e f → e ≡ d
-from_type h = cc
-
-to_type : {m k : Mode} {d c e f : SimpleType} → arrow m d c ≡ arrow k e f → f ≡ c
-to_type h = cc
-
-first_type : {a b c d : SimpleType} → simple_with a b ≡ simple_with c d → c ≡ a
-first_type h = cc
-
-second_type : {a b c d : SimpleType} → simple_with a b ≡ simple_with c d → d ≡ b
-second_type h = cc
 
 the_type : {t u : SimpleType} → Some t ≡ Some u → t ≡ u
 the_type e = cc

@@ -1,23 +1,20 @@
 -- An instantiation solves equations exactly where it solves what is left of them.
 use Rattle.std.specs.Prelude.{ℕ, ◌≡◌, ◌⊎◌, List, [], ◌∷◌, length, Option, Some, None, refl}
-use Rattle.std.proofs.Common.{sym, subst, ◌∙◌, inl, inr, ⊎_elim}
+use Rattle.std.proofs.Common.{sym, subst, inl, inr, ⊎_elim}
 use Rattle.clf_syntax.specs.Tree.{PlainObject}
 use Rattle.clf_syntax.specs.TypeTree.{SimpleType, base, arrow, simple_with}
 use Rattle.clf_syntax.specs.Simple.{SimplyTyped}
-use Rattle.hered_subst.specs.Substitution.{Substituted}
-use Rattle.trace_equal.specs.Exchange.{Joined}
 use Rattle.trace_equal.proofs.Closed.{trail}
 use Rattle.trace_equal.proofs.Joined.{joined_is_equivalence}
 use Rattle.subst_laws.specs.Environments.{Instantiation, instant}
 use Rattle.pattern_laws.specs.Instantiations.{Types, closed, Instantiates, Agrees, Instantiated}
-use Rattle.store_laws.specs.PutIn.{PutIn}
-use Rattle.pattern_laws.specs.Equations.{Locals, scoped, Equation, Solves, SolvesEach, TypedEquation, TypedEquations, Listed, listed_here, listed_later}
+use Rattle.pattern_laws.specs.Equations.{scoped, Equation, Solves, SolvesEach, TypedEquation, TypedEquations, Listed, listed_here, listed_later}
 use Rattle.pattern_laws.proofs.Instances.{instance}
-use Rattle.unify_laws.specs.Problems.{Problem, IsSolution, KeepsSolutions, WellTyped}
 use Rattle.unify_laws.proofs.Steps.{lam_part, pair_parts, neutral_part, neutral_whole, joined_solved}
 use Rattle.unify_laws.proofs.Consequences.{listed_solved, put_in, put_in_typed}
-use Rattle.reach_laws.specs.Rest.{IsAssignment, ComesDown, down_joined, down_listed, down_lam, down_pair, down_neutral, PartOf, part_itself, part_body, part_left, part_right, part_argument, EquationUnder, EachUnder, Rest}
-use Rattle.reach_laws.specs.Unified.{IsPutIn, EndsWith, Unified}
+use Rattle.reach_laws.specs.Rest.{IsAssignment, ComesDown, down_joined, down_listed, down_lam, down_pair, down_neutral, PartOf, part_itself, part_body, part_left, part_right, part_argument, EquationUnder, EachUnder}
+use Rattle.reach_laws.specs.Unified.{IsPutIn, EndsWith}
+use Rattle.reach_laws.specs.Laws.{RestSolves, LeftKeeps}
 use Rattle.reach_laws.proofs.PartsUnder.{part_typed, stays_typed}
 
 pub typed_listed : (constants metas : Types) (e : Equation) (es : List Equation) → Listed e es → TypedEquations constants metas es → TypedEquation constants metas e
@@ -48,8 +45,7 @@ down_solved constants metas parameters t i left f (down_pair {ls = ls} {l = l} {
 down_solved constants metas parameters t i left f (down_neutral {ls = ls} {r = r} {n = n} {f = a} h g) p = neutral_whole t ls (scoped ls (closed constants metas)) r n (base a) h p.0.1
     (λ o u c q. down_solved constants metas parameters t i left f (g o u c q) (part_typed constants metas (part_argument {ls = ls} {o = o} {u = u} {c = c} r n a part_itself h q) p))
 
-pub rest_solves : (constants metas parameters : Types) (t : Instantiation) → Instantiates constants metas parameters t → (es left : List Equation) → TypedEquations constants metas es → Rest constants metas es left
-    → (SolvesEach (instant t) es → SolvesEach (instant t) left) × (SolvesEach (instant t) left → SolvesEach (instant t) es)
+pub rest_solves : RestSolves
 rest_solves constants metas parameters t i es left p r = (
   (λ s. solves_listed t left (λ e l. let (d, k, q) = r.met e l in part_solved constants metas t q (listed_solved t d es k s))),
   (λ s. solves_listed t es (λ e l. down_solved constants metas parameters t i left (λ d k. listed_solved t d left k s) (r.down e l) (typed_listed constants metas e es l p))),
@@ -124,8 +120,7 @@ typed_under constants metas s f (e ∷ es) (d ∷ ds) p u = ((at d.left (stays_t
     at x q = subst (λ ls. SimplyTyped (scoped ls (closed constants metas)) x d.type) (sym u.0.locals) (subst (λ a. SimplyTyped (scoped e.locals (closed constants metas)) x a) (sym u.0.type) q)
 
 -- The solutions with the equations left have exactly the solutions that were there.
-pub left_keeps : (constants : Types) (start now : Problem) (left : List Equation) → Unified constants start now left
-    → KeepsSolutions constants start (record { metas = now.metas; given = now.given; equations = left })
+pub left_keeps : LeftKeeps
 left_keeps constants start now left u = let (s, es, e) = u.ends in (
   (λ parameters t h. let (v, g, k) = u.keeps.0 parameters t h in (v, g, (k.0, k.1, (solves s es e parameters v k.0 k.1).0 (subst (SolvesEach (instant v)) u.adds.same k.2)))),
   (λ parameters t h. u.keeps.1 parameters t (h.0, h.1, subst (SolvesEach (instant t)) (sym u.adds.same) ((solves s es e parameters t h.0 h.1).1 h.2))),

@@ -1,27 +1,23 @@
 -- What the solutions give the metavariables of the start, with all solutions put in, is tight for these.
 use Rattle.store_laws.proofs.Mentioned.{mentioned}
-use Rattle.reach_laws.specs.Unified.{HoldsUnsolved}
-use Rattle.std.specs.Prelude.{ℕ, Bool, true, false, ◌≡◌, ◌<◌, ◌⊎◌, nat_eq, List, [], ◌∷◌, ◌++◌, Option, Some, None, refl}
+use Rattle.std.specs.Prelude.{ℕ, true, ◌≡◌, ◌<◌, ◌⊎◌, nat_eq, List, [], ◌∷◌, ◌++◌, Option, Some, None, refl}
 use Rattle.std.proofs.Common.{ap, sym, subst, ◌∙◌, arith, inl, inr, ⊎_elim, append_assoc}
-use Rattle.clf_syntax.specs.declared.tree.Head.TheVariants.{Const, Var, Meta}
-use Rattle.clf_syntax.specs.Tree.{PlainObject, lam, atomic, PlainNeutral, head_alone, PlainExpression, PlainTuple}
-use Rattle.clf_syntax.specs.TypeTree.{SimpleType, arrow, SimpleTelescope}
+use Rattle.clf_syntax.specs.declared.tree.Head.TheVariants.{Var, Meta}
+use Rattle.clf_syntax.specs.Tree.{PlainObject, lam, atomic, PlainNeutral, head_alone}
+use Rattle.clf_syntax.specs.TypeTree.{SimpleType, arrow}
 use Rattle.clf_syntax.specs.Simple.{Assignment, extended, SimplyTyped}
-use Rattle.clf_syntax.proofs.OccursLaws.{either, not_both, not_true, or_first}
-use Rattle.hered_subst.proofs.SimpleTyping.{Typed, typed_lam, typed_pair, typed_unit, typed_monadic, typed_metavariable, typed_atomic, TypedNeutral, typed_bare, typed_app, typed_fst, typed_snd, TypedExpression, typed_step, typed_done, TypedTuple, typed_empty, typed_entry, to_typed}
-use Rattle.hered_subst.proofs.Total.{extended_metavariable}
-use Rattle.subst_laws.specs.Environments.{Instantiation}
+use Rattle.clf_syntax.proofs.OccursLaws.{not_both, not_true, or_first}
+use Rattle.hered_subst.proofs.SimpleTyping.{to_typed}
 use Rattle.eta_laws.specs.Eta.{eta}
-use Rattle.pattern_laws.specs.Patterns.{Place, on, lams, arrows, Fitting, Distinct, beneath, OnDistinct, masked, Ordered}
-use Rattle.pattern_laws.specs.Instantiations.{Types, closed}
+use Rattle.pattern_laws.specs.Patterns.{Place, on, lams, arrows, Fitting, Distinct, beneath, masked, Ordered}
+use Rattle.pattern_laws.specs.Instantiations.{closed}
 use Rattle.pattern_laws.specs.Equations.{scoped, Locals}
-use Rattle.store_laws.specs.Mentions.{mentions, mentions_neutral, mentions_expression, mentions_tuple}
-use Rattle.store_laws.specs.PutIn.{PutIn}
-use Rattle.unify_laws.specs.Problems.{Problem, WellTyped, Stays}
-use Rattle.unify_laws.specs.Progress.{Progress, CameFrom, Traced}
+use Rattle.store_laws.specs.Mentions.{mentions, mentions_neutral}
+use Rattle.unify_laws.specs.Progress.{CameFrom}
 use Rattle.unify_laws.proofs.Preserved.{Fits}
 use Rattle.reach_laws.specs.Reach.{Standing, standing_here, standing_body}
-use Rattle.reach_laws.specs.Rest.{IsAssignment, Tight, StandsIn}
+use Rattle.reach_laws.specs.Rest.{Tight, StandsIn}
+use Rattle.reach_laws.specs.Laws.{IsTight}
 use Rattle.reach_laws.proofs.Tightness.{new_one_stands}
 
 -- the places as locals
@@ -77,9 +73,7 @@ mentions_lams k [] b e = e
 mentions_lams k (p ∷ ps) b e = mentions_lams k ps (lam p.0 b) e
 
 -- Tight, from where the metavariables came: solutions are only added.
-pub tight : (constants : Types) (start now : Problem) → WellTyped constants start → Stays start.given now.given → Traced start.metas now.metas now.given → (s : Instantiation) → PutIn now.given s
-    → IsAssignment constants now.metas s → WellTyped constants now
-    → (list : ℕ → Bool) → HoldsUnsolved start list → Tight constants now.metas list s
+pub tight : IsTight
 tight constants start now w stays traced s all typed typed_now list holds m x k lm e h = ⊎_elim
     (λ g. ⊎_elim (λ n. inr (not_true (list k) (λ l. some_none n (holds.there k l).1), new g n)) (λ n. inl (old g n.0 n.1, all.unsolved k g)) (cases_of (start.metas k)))
     (λ g. absurd (not_both h (all.finished m x e k g.0 g.1)))

@@ -5,6 +5,7 @@ ghost use Rattle.clf_syntax.specs.PlainTypes.{plain_tele, plain_tele_entry, plai
 ghost use Rattle.clf_syntax.specs.TypeTree.{telescope_of};
 ghost use Rattle.clf_sig.specs.Signature.{plain_signature};
 ghost use Rattle.clf_printer.specs.Depth.{scope_depth, type_depth};
+ghost use Rattle.clf_printer.specs.Judgment.{judgment_text};
 ghost use Rattle.run_printer.specs.Runs as spec;
 
 use clf_printer::{object_text, type_text};
@@ -98,7 +99,7 @@ fn bound_type(
 /// The text of an object and of its type, with a colon between.
 fn judgment(alloc: Global, sig: &Signature, obj: &Obj, ty: &Ty) -> Result<Vec<u8>, AllocError>
     ensures text { IfOk result
-        (λ text. text.items ≡ spec.judgment (plain_signature sig.now) (plain_obj obj.now) (plain_ty ty.now)) }
+        (λ text. text.items ≡ judgment_text (plain_signature sig.now) (plain_obj obj.now) (plain_ty ty.now)) }
     ensures object_depth { OnOk result (scope_depth (plain_obj obj.now) < 2 ^ 64) }
     ensures type_depth { OnOk result (type_depth (plain_ty ty.now) < 2 ^ 64) }
 {

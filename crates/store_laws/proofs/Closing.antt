@@ -16,7 +16,8 @@ use Rattle.subst_laws.proofs.Results.{composition, unmoved}
 use Rattle.store_laws.specs.Mentions.{mentions}
 use Rattle.store_laws.specs.PutIn.{PutIn}
 use Rattle.store_laws.proofs.Mentioned.{mentioned, typed_where, Ordinary, Where}
-use Rattle.store_laws.proofs.Numbers.{set, number_cases, set_there, set_else, some_none}
+use Rattle.store_laws.specs.Additions.{set}
+use Rattle.store_laws.proofs.Numbers.{number_cases, set_there, set_else, some_none}
 
 -- the types without that of metavariable j
 abbrev pub dropped : ℕ → Assignment → Assignment

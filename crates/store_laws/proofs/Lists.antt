@@ -5,8 +5,7 @@ use Rattle.std.proofs.lemmas.List.{append-nil}
 use Rattle.std.specs.List.{slice_get}
 use Rattle.clf_syntax.specs.Tree.{PlainObject}
 use Rattle.clf_syntax.specs.TypeTree.{SimpleType}
-use Rattle.store_laws.specs.Additions.{Addition, new, solved, meta_types, given}
-use Rattle.store_laws.proofs.Numbers.{set}
+use Rattle.store_laws.specs.Additions.{Addition, new, solved, meta_types, set, given}
 
 -- What holds of the empty list and is kept where a list grows holds of each list.
 pub by_end : {X : Type 0} (P : List X → Type 0) → P [] → ((xs : List X) (x : X) → P xs → P (xs ++ x ∷ [])) → (xs : List X) → P xs

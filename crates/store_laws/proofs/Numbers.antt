@@ -1,9 +1,7 @@
 -- One more value at a number.
 use Rattle.std.specs.Prelude.{ℕ, ◌≡◌, ◌⊎◌, nat_eq, if◌then◌else◌, Bool, true, false, Option, Some, None, refl}
 use Rattle.std.proofs.Common.{ap, sym, inl, inr, ⊎_elim, ◌∙◌, arith}
-
-abbrev pub set : {X : Type 0} → ℕ → X → (ℕ → Option X) → ℕ → Option X
-set m o g k = if nat_eq k m then Some o else g k
+use Rattle.store_laws.specs.Additions.{set}
 
 same_number : (i v : ℕ) → nat_eq i v ≡ true → i ≡ v
 same_number i v e = grind arith

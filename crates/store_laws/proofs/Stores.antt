@@ -18,12 +18,12 @@ use Rattle.hered_subst.proofs.TypedResults.{typed_has_result, result_is_typed}
 use Rattle.subst_laws.specs.Environments.{Instantiation, instant, TypedInstantiation}
 use Rattle.subst_laws.proofs.Environs.{instant_is_environment}
 use Rattle.store_laws.specs.Mentions.{mentions}
-use Rattle.store_laws.specs.Additions.{Addition, new, solved, meta_types, given, heads_of}
+use Rattle.store_laws.specs.Additions.{Addition, new, solved, meta_types, set, given, heads_of}
 use Rattle.store_laws.specs.PutIn.{PutIn, IsClosed}
 use Rattle.store_laws.specs.Store.{MaySolve, IsStore}
 use Rattle.store_laws.specs.Laws.{StoreIsPutIn, StoreGrows, StoreIsCut}
 use Rattle.store_laws.proofs.Mentioned.{typed_where, Ordinary, Where}
-use Rattle.store_laws.proofs.Numbers.{set, number_cases, set_there, set_else, some_none}
+use Rattle.store_laws.proofs.Numbers.{number_cases, set_there, set_else, some_none}
 use Rattle.store_laws.proofs.Closing.{dropped, without, silent, Gives, gives_typed, no_families, next, closed_again, next_gives, at_false}
 use Rattle.store_laws.proofs.Lists.{by_end, get-front, types-append, given-new, given-solved}
 

@@ -18,6 +18,10 @@ meta_types [] = []
 meta_types (new t ∷ zs) = t ∷ meta_types zs
 meta_types (solved m o ∷ zs) = meta_types zs
 
+-- what stands at each number, with one more, or with another one, at a number
+abbrev pub set : {X : Type 0} → ℕ → X → (ℕ → Option X) → ℕ → Option X
+set m o g k = if nat_eq k m then Some o else g k
+
 -- The solutions, as they were given: the metavariables in them may have solutions in turn.
 abbrev pub given : List Addition → Instantiation
 given [] m = None

@@ -1,7 +1,6 @@
 -- The comparison along spines, tuples and steps.
-use Rattle.std.specs.Prelude.{ℕ, suc, ◌+◌, ◌-◌, ◌<◌, ◌≡◌, ◌⊎◌, Bool, true, false, ◌&&◌, nat_eq, List, [], ◌∷◌, ◌++◌, length, map, refl, reverse}
-use Rattle.std.proofs.Common.{ap, sym, ◌∙◌, arith, inl, inr, ⊎_elim, append_assoc, drop, get_or, take}
-use Rattle.std.proofs.lemmas.List.{reverse-append, take_more}
+use Rattle.std.specs.Prelude.{ℕ, suc, ◌+◌, ◌-◌, ◌<◌, ◌≡◌, ◌⊎◌, Bool, true, false, ◌&&◌, nat_eq, List, [], ◌∷◌, ◌++◌, length, map, refl}
+use Rattle.std.proofs.Common.{ap, sym, ◌∙◌, arith, inl, inr, ⊎_elim, append_assoc, drop, get_or}
 use Rattle.clf_syntax.specs.declared.tree.Head.{Head}
 use Rattle.clf_syntax.specs.declared.tree.Mode.{Mode}
 use Rattle.clf_syntax.specs.Tree.{PlainElimination, PlainNeutral, PlainObject, app, arg, eliminated, first, fst, head_alone, second, snd, spine_on, tuple_of}
@@ -13,7 +12,7 @@ use Rattle.trace_equal.proofs.Bijections.{sucs}
 use Rattle.trace_equal.proofs.Fronts.{halves}
 use Rattle.trace_equal.specs.declared.tables.Run.{Run}
 use Rattle.trace_equal.specs.Places.{from_on}
-use Rattle.trace_equal.specs.Comparing.{count_from, place_in, run_of, runs_from, compared, compared_elimination, compared_entry, compared_head, compared_neutral, compared_spine, compared_tuple}
+use Rattle.trace_equal.specs.Comparing.{count_from, run_of, runs_from, compared, compared_elimination, compared_entry, compared_head, compared_neutral, compared_spine, compared_tuple}
 use Rattle.clf_syntax.specs.Modes.{same_mode, same_modes}
 
 -- ---- tests
@@ -161,8 +160,6 @@ from_on-push i n whole before after h e f = e ∙ ap (λ l. before ++ l) (from_o
 pub ruleset number_laws = (from_on-none)
 
 -- ---- runs
-pub place-next : (runs : List Run) (n i : ℕ) (r : Run) → n < length runs → r ≡ get_or runs n r → place_in (reverse (take (n + 1) runs)) i ≡ place_in (r ∷ reverse (take n runs)) i
-place-next runs n i r h e = ap (λ rs. place_in (reverse rs) i) (take_more runs n r h ∙ ap (λ x. take n runs ++ x ∷ []) (sym e)) ∙ ap (λ rs. place_in rs i) (reverse-append (take n runs) (r ∷ []))
 
 pub runs_from-push : (d n k i : ℕ) (whole before after : List Run) (s : Step) (xs : List Step) → i < length xs → s ≡ get_or xs i s → whole ≡ before ++ runs_from d n (map plain_step (drop i xs))
     → after ≡ before ++ run_of d n ∷ [] → k ≡ n + length s.modes → whole ≡ after ++ runs_from d k (map plain_step (drop (i + 1) xs))

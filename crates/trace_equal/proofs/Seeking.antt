@@ -215,14 +215,6 @@ stands_back p b s z choice next a t h k e f g = from h.frames h.leads (h.took �
         later : y.took ∷ map (λ (f : Frame). f.took) fs ≡ t ∷ reverse next.taken → map (λ (f : Frame). f.took) fs ≡ reverse next.taken
         later m = cc
 
--- Nothing is left to be tried.
-pub stands_end : (p : Problem) (b s : Tables) (choice : Choice) (a : ℕ) → (h : Stands p b s choice a) → open_at p (length choice.taken) s h.used a ≡ None → choice.taken ≡ [] → (sought_at p 0 b [] ≡ None) × (s ≡ b)
-stands_end p b s choice a h k e = from h.frames h.leads (h.took ∙ ap reverse e) (h.answer ∙ ap (resumed p h.frames) k)
-  where
-    from : (fs : List Frame) → Leads b fs s h.used → map (λ (f : Frame). f.took) fs ≡ [] → sought_at p 0 b [] ≡ resumed p fs None → (sought_at p 0 b [] ≡ None) × (s ≡ b)
-    from [] l m n = (n, l.0)
-    from (y ∷ fs) l m n = absurd (cc)
-
 abbrev places : List Taken → List ℕ
 places ts = map (λ (t : Taken). t.place) ts
 

@@ -86,8 +86,6 @@ pub spines_differ : (s : Tables) (es fs : List Elim) → (length es ≡ length f
 spines_differ s es fs h = sym (spines_of_two_lengths s (map plain_elim es) (map plain_elim fs) (λ e. h (sym (map_length plain_elim es) ∙ e ∙ map_length plain_elim fs)))
 
 -- ---- a place that is tried
-pub served-used : (s : Tables) (marks : List Bool) (l : List Mode × PlainNeutral) (ys : List Right) (j : ℕ) → is_free marks j ≡ false → None ≡ served_at s marks l ys j
-served-used s marks l ys j e = sym (ap (λ b. if b then step_served s l (slice_get ys j) else None) e)
 
 served-free : (s : Tables) (marks : List Bool) (l : List Mode × PlainNeutral) (ys : List Right) (j : ℕ) → is_free marks j ≡ true → served_at s marks l ys j ≡ step_served s l (slice_get ys j)
 served-free s marks l ys j e = ap (λ b. if b then step_served s l (slice_get ys j) else None) e

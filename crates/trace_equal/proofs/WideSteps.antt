@@ -98,13 +98,6 @@ back_there (pulled_later {p = p} {q = q} {e = e} h k l u) i = ap (lifted (size e
 rest_size : (r : Renumbering) (e f : PlainExpression) → f ≡ ren_expression r e → size f ≡ size e
 rest_size r e f h = ap size h ∙ size_ren r e
 
-pub size_pull : {q : List Mode} {v : PlainNeutral} {e f : PlainExpression} → Pulled q v e f → size f ≡ size e + length q
-size_pull pulled_here = refl
-size_pull (pulled_later {p = p} {q = q} {e = e} {f = f} {g = g} h k l u) = sums (size_pull u) (rest_size (crossed (length p) (length q)) e f l)
-  where
-    sums : size g ≡ size e + length q → size f ≡ size e → size g + length p ≡ size f + length p + length q
-    sums a b = omega arith
-
 -- the variables outside
 pub outer : {q : List Mode} {v : PlainNeutral} {e f : PlainExpression} (u : Pulled q v e f) (i : ℕ) → there u (i + (size e + length q)) ≡ i + size f
 outer pulled_here i = refl

@@ -8,8 +8,8 @@ use Rattle.clf_syntax.specs.declared.tree.Mode.{Mode}
 use Rattle.trace_equal.specs.declared.tables.Run.{Run}
 use Rattle.trace_equal.specs.declared.tables.Tables.{Tables}
 use Rattle.trace_equal.specs.declared.choice.Taken.{Taken}
-use Rattle.trace_equal.specs.declared.compare.Turn.{Turn}
-use Rattle.trace_equal.specs.declared.compare.Turn.TheVariants.{Complete, Take, Back}
+use Rattle.trace_equal.specs.declared.backtracking.Turn.{Turn}
+use Rattle.trace_equal.specs.declared.backtracking.Turn.TheVariants.{Complete, Take, Back}
 use Rattle.trace_equal.specs.Choosing.{is_free}
 use Rattle.trace_equal.specs.Comparing.{Right, compared_neutral, compared_tuple, sought, step_served, taken, with_left, with_right, zipped}
 use Rattle.trace_equal.specs.Places.{chosen, each, is_absent, or_else}

@@ -5,7 +5,8 @@ ghost use Rattle.trace_equal.specs.Bijection.{IsFirstMatching};
 ghost use Rattle.trace_equal.specs.Difference.{IsFirstDifference};
 ghost use Rattle.trace_equal.specs.Exchange.{IsIndependent, Joined};
 
-use crate::compare::{first_matching, joined_object};
+use crate::backtracking::first_matching;
+use crate::objects::joined_object;
 use crate::tables::Tables;
 use clf_syntax::{Expr, Obj, Step};
 use sqlite_items::Items;

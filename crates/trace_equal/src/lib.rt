@@ -1,12 +1,14 @@
 //! Trees up to exchange of independent steps.
 #![tactic(auto)]
 
+mod backtracking;
 mod choice;
-mod compare;
 mod equality;
 mod laws;
 mod modes;
+mod objects;
 mod rights;
+mod serving;
 mod tables;
 
 pub use equality::{equal, first_difference, independent, matching};

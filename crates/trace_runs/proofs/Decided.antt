@@ -13,7 +13,7 @@ use Rattle.clf_rules.specs.Explained.{ExplainedInNeutral, MaySynthesize}
 use Rattle.clf_rules.proofs.OneType.{type_is_one}
 use Rattle.clf_rules.proofs.UsedParts.{some-part}
 use Rattle.clf_decision.specs.Hereditary.{hereditary}
-use Rattle.clf_decision.specs.Laws.{IsDecided, InferredIs, NeutralsAreDecided}
+use Rattle.clf_decision.specs.Laws.{InferredIs, NeutralsAreDecided}
 use Rattle.clf_decision.specs.Starts.{Starts}
 use Rattle.clf_decision.proofs.Decisions.{neutrals_are_decided}
 use Rattle.clf_decision.proofs.Hereditary.{are_puts}

@@ -16,7 +16,7 @@ use Rattle.clf_syntax.specs.Plain.{plain_neutral, plain_obj, plain_step, plain-s
 use Rattle.clf_syntax.specs.PlainTypes.{plain_ty, plain-Fam, plain-Fun, plain-Top, plain-With}
 use Rattle.clf_syntax.specs.Tree.{PlainNeutral}
 use Rattle.clf_syntax.specs.TypeTree.{PlainType, family, function, both, top, monad, PlainTelescope}
-use Rattle.clf_syntax.specs.Wide.{IsWant, IsWide, wanting}
+use Rattle.clf_syntax.specs.Wide.{IsWant, wanting}
 use Rattle.use_contexts.specs.Context.{modes, telescope_modes}
 use Rattle.use_contexts.specs.Rows.{Leftover}
 use Rattle.clf_sig.specs.Entry.{PlainSignature}
@@ -36,11 +36,11 @@ use Rattle.clf_decision.proofs.Tests.{other-number}
 use Rattle.clf_kernel.specs.declared.refusal.Inferred.{Inferred}
 use Rattle.clf_kernel.specs.declared.refusal.Refusal.{Refusal}
 use Rattle.clf_kernel.specs.Answers.{plain_cause}
-use Rattle.clf_kernel.specs.Exact.{InfersNeutral}
+use Rattle.clf_kernel.specs.Exact.{ChecksPattern, InfersNeutral}
 use Rattle.trace_runs.specs.Refused.{RefusesPattern, other_width, other_mode, RefusesStep, in_right_side, at_pattern, RefusesAt, RefusesRun}
 use Rattle.trace_runs.specs.Replay.{Replays}
 use Rattle.trace_runs.specs.Run.{IsRun, PlainState, TakesStep}
-use Rattle.trace_runs.specs.Steps.{Answers, IsBehind, IsRefused, Steps, StepsAt}
+use Rattle.trace_runs.specs.Steps.{IsBehind, IsRefused, Steps, StepsAt}
 use Rattle.trace_runs.proofs.Decided.{refused-behind, refused-run}
 use Rattle.trace_runs.proofs.RunLaws.{runs_in_turn}
 
@@ -65,12 +65,6 @@ module _ (ms : List Mode) (u : PlainTelescope) (path : List ℕ) (why : Cause) w
   pub misfits : pattern_left ms u ≡ refused path why → (path ≡ []) × RefusesPattern (telescope_modes u) ms why
   misfits q = misfits_by (length ms == telescope_width u) refl (first_other_mode (telescope_modes u) ms) refl q
 
--- ---- answers
-pub refusal-answers : (want : Outcome (Unit {0})) (path : List ℕ) (why : Cause) (r : OrWide Refusal) → IsRefused path why r → want ≡ refused path why → Answers want (Err r)
-refusal-answers want path why (Fault r) p e = e ∙ ap (λ l. refused l why) (sym p.0) ∙ ap (λ k. refused r.path.items k) (sym p.1)
-refusal-answers want path why NoMemory p e = tt
-refusal-answers want path why (TooFar w) p e = p
-
 -- ---- one step
 module _ (sig : PlainSignature) (x : List Mode × PlainNeutral) (s : PlainState) where
   -- The right side is refused.
@@ -84,7 +78,7 @@ module _ (sig : PlainSignature) (x : List Mode × PlainNeutral) (s : PlainState)
   may-have a l found = some-part (modes s.context) s.holding l (λ p. Synthesizes sig s.context p x.1 a) found.0
 
   -- The pattern is refused.
-  pub pattern-is-refused : (u : PlainTelescope) → MaySynthesize sig s.context s.holding x.1 (monad u) → (r : OrWide Refusal) → Answers (pattern_left x.0 u) (Err r) → Steps sig x s (Err r)
+  pub pattern-is-refused : (u : PlainTelescope) → MaySynthesize sig s.context s.holding x.1 (monad u) → (r : OrWide Refusal) → ChecksPattern x.0 u (Err r) → Steps sig x s (Err r)
   pattern-is-refused u may (Fault r) e =
       let p = misfits x.0 u r.path.items (plain_cause r.cause) e in
       subst (λ path. RefusesStep sig s x.0 x.1 path (plain_cause r.cause)) (sym p.0) (at_pattern u may p.1)
@@ -119,8 +113,8 @@ module _ (sig : PlainSignature) (step : Step) (s : PlainState) where
       subst (λ n. InferredIs sig s.context s.holding n (b, l)) (sym (plain-step-rhs step))
       (subst (λ (c : PlainType). InferredIs sig s.context s.holding (plain_neutral (out-Step step).rhs) (c, l)) e found)
 
-  pub at-modes : (ms : List Mode) (u : PlainTelescope) (r : Result (Unit {0}) (OrWide Refusal)) → ms ≡ step.modes → Answers (pattern_left ms u) r → Answers (pattern_left (plain_step step).0 u) r
-  at-modes ms u r e p = subst (λ ks. Answers (pattern_left ks u) r) (e ∙ sym (plain-step-modes step)) p
+  pub at-modes : (ms : List Mode) (u : PlainTelescope) (r : Result (Unit {0}) (OrWide Refusal)) → ms ≡ step.modes → ChecksPattern ms u r → ChecksPattern (plain_step step).0 u r
+  at-modes ms u r e p = subst (λ ks. ChecksPattern ks u r) (e ∙ sym (plain-step-modes step)) p
 
 monad_is : (t : PlainType) (a : PlainType) → t ≡ a → ((u : PlainTelescope) → a ≡ monad u → ⊥) → IsNoMonad t
 monad_is t a e f u q = f u (sym e ∙ q)

@@ -2,9 +2,9 @@
 use Rattle.std.proofs.Common.{◌≡◌, ◌∙◌, List, refl, sym, ap, subst}
 use Rattle.clf_syntax.specs.declared.tree.Mode.{Mode}
 use Rattle.clf_syntax.specs.Tree.{PlainNeutral}
-use Rattle.clf_syntax.specs.TypeTree.{PlainType, PlainTelescope, monad}
+use Rattle.clf_syntax.specs.TypeTree.{PlainTelescope, monad}
 use Rattle.use_contexts.specs.Context.{modes, telescope_modes}
-use Rattle.use_contexts.specs.Holding.{Holding, Split, WellMarked}
+use Rattle.use_contexts.specs.Holding.{Split, WellMarked}
 use Rattle.use_contexts.specs.Rows.{Leftover}
 use Rattle.clf_sig.specs.Entry.{PlainSignature}
 use Rattle.clf_rules.specs.Explained.{MaySynthesize}

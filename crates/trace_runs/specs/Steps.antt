@@ -1,5 +1,5 @@
 -- Inner: what the functions inside of the replay answer. No public call names these definitions.
-use Rattle.std.specs.Prelude.{ℕ, ◌≡◌, List, [], ◌∷◌, Result, Ok, Err}
+use Rattle.std.specs.Prelude.{ℕ, ◌≡◌, List, ◌∷◌, Result, Ok, Err}
 use Rattle.clf_syntax.specs.declared.fault.OrWide.{OrWide}
 use Rattle.clf_syntax.specs.declared.fault.OrWide.TheVariants.{Fault, NoMemory, TooFar}
 use Rattle.clf_syntax.specs.declared.tree.Mode.{Mode}
@@ -8,7 +8,6 @@ use Rattle.clf_syntax.specs.Wide.{IsWide}
 use Rattle.use_contexts.specs.declared.holding.State.{State}
 use Rattle.clf_sig.specs.Entry.{PlainSignature}
 use Rattle.clf_rules.specs.Refusal.{Cause}
-use Rattle.clf_decision.specs.Outcome.{Outcome, passed, refused}
 use Rattle.clf_kernel.specs.declared.refusal.Refusal.{Refusal}
 use Rattle.clf_kernel.specs.Answers.{plain_cause}
 use Rattle.trace_runs.specs.Refused.{RefusesStep}
@@ -25,13 +24,6 @@ abbrev pub IsBehind : ℕ → OrWide Refusal → OrWide Refusal → Type 0
 IsBehind place (Fault r) whole = IsRefused (place ∷ r.path.items) (plain_cause r.cause) whole
 IsBehind place NoMemory whole = whole ≡ NoMemory
 IsBehind place (TooFar w) whole = whole ≡ TooFar w
-
--- An outcome is answered.
-abbrev pub Answers : Outcome (Unit {0}) → Result (Unit {0}) (OrWide Refusal) → Type 0
-Answers want (Ok x) = want ≡ passed tt
-Answers want (Err (Fault r)) = want ≡ refused r.path.items (plain_cause r.cause)
-Answers want (Err NoMemory) = Unit {0}
-Answers want (Err (TooFar w)) = IsWide w
 
 -- One step is taken, or refused.
 abbrev pub Steps : PlainSignature → List Mode × PlainNeutral → PlainState → Result State (OrWide Refusal) → Type 0

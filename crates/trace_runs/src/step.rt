@@ -1,21 +1,19 @@
 //! The replay of steps from a state.
 ghost use Rattle.std.specs.Prelude.{◌≡◌, [], ◌∷◌, IfOk, IfErr, map};
 ghost use Rattle.clf_syntax.specs.Plain.{plain_step};
-ghost use Rattle.clf_syntax.specs.PlainTypes.{plain_tele};
 ghost use Rattle.clf_syntax.specs.Wide.{IsWant};
 ghost use Rattle.clf_sig.specs.Signature.{plain_signature};
 ghost use Rattle.use_contexts.specs.Marks.{context, marks};
-ghost use Rattle.clf_decision.specs.Checking.{pattern_left};
 ghost use Rattle.clf_decision.specs.Starts.{Starts};
 ghost use Rattle.clf_kernel.specs.Answers.{plain_cause};
 ghost use Rattle.trace_runs.specs.Replay.{Replays};
 ghost use Rattle.trace_runs.specs.Run.{plain_state};
-ghost use Rattle.trace_runs.specs.Steps.{Answers, IsBehind, IsRefused, Steps, StepsAt};
+ghost use Rattle.trace_runs.specs.Steps.{IsBehind, IsRefused, Steps, StepsAt};
 
 use crate::state::entered;
-use clf_kernel::{Cause, Inferred, Refusal, infer};
+use clf_kernel::{Cause, Inferred, Refusal, check_pattern, infer};
 use clf_sig::Signature;
-use clf_syntax::{Mode, OrWide, Step, Tele, Ty, Want, is_same_mode};
+use clf_syntax::{OrWide, Step, Ty, Want};
 use std::alloc::Global;
 use use_contexts::State;
 
@@ -69,33 +67,13 @@ fn take_step(
     let Inferred { ty, left } = infer(alloc, sig, &state.ctx, &state.holding, &step.rhs)?;
     match ty {
         Ty::Monad { tele } => {
-            fit(alloc, step.modes.as_slice(), &tele)?;
+            check_pattern(alloc, step.modes.as_slice(), &tele)?;
             Ok(entered(alloc, state.ctx, left.row, tele)?)
         }
         found @ (Ty::Fam { .. } | Ty::Fun { .. } | Ty::With { .. } | Ty::Top) => {
             Err(refuse(alloc, Cause::NotMonad { found }))
         }
     }
-}
-
-/// Whether a pattern has as many modes as a telescope has entries, and the same.
-fn fit(alloc: Global, modes: &[Mode], tele: &Tele) -> Result<(), OrWide<Refusal>>
-    ensures { Answers (pattern_left modes.now (plain_tele tele.now)) result }
-{
-    let entries = tele.entries.as_slice();
-    if modes.len() != entries.len() {
-        let wanted = count(alloc, entries.len())?;
-        let found = count(alloc, modes.len())?;
-        return Err(refuse(alloc, Cause::Width { wanted, found }));
-    }
-    for at in 0..modes.len() {
-        let wanted = entries[at].mode;
-        let found = modes[at];
-        if !is_same_mode(found, wanted) {
-            return Err(refuse(alloc, Cause::ModeDiffers { wanted, found }));
-        }
-    }
-    Ok(())
 }
 
 /// A count of parts as a number of 32 bits.

@@ -185,10 +185,6 @@ or_else : (b : Bool) → (b ≡ false → ⊥) → b ≡ true
 or_else true f = refl
 or_else false f = absurd (f refl)
 
-one_side : (y z : Bool) → true ≡ y || z → (y ≡ false → z ≡ false → ⊥)
-one_side true z e f g = tf f
-one_side false z e f g = tf (e ∙ g)
-
 -- a tree that a linear variable goes into: it goes to one side
 sides : (y z a b : Bool) → true ≡ y || z → (y ≡ true → a ≡ true) → (z ≡ true → b ≡ true) → a || b ≡ true
 sides true z a b e f g = or_left a b (f refl)

@@ -1,18 +1,16 @@
 -- The step that solves a metavariable on distinct locals by the other side.
 use Rattle.store_laws.proofs.Numbers.{number_cases, set_there, set_else}
-use Rattle.std.specs.Prelude.{ℕ, Bool, true, false, ◌≡◌, ◌⊎◌, nat_eq, if◌then◌else◌, List, [], length, Option, Some, None, refl}
-use Rattle.std.proofs.Common.{ap, sym, subst, ◌∙◌, arith, inl, inr, ⊎_elim}
-use Rattle.clf_syntax.specs.Tree.{PlainObject, atomic, PlainNeutral}
-use Rattle.clf_syntax.specs.TypeTree.{SimpleType}
-use Rattle.clf_syntax.specs.Simple.{SimplyTyped}
+use Rattle.std.specs.Prelude.{ℕ, false, ◌≡◌, ◌⊎◌, nat_eq, length, Option, Some, None, refl}
+use Rattle.std.proofs.Common.{ap, sym, subst, ◌∙◌, ⊎_elim}
+use Rattle.clf_syntax.specs.Tree.{PlainObject}
 use Rattle.hered_subst.specs.Substitution.{Substituted}
 use Rattle.subst_laws.specs.Environments.{Instantiation, instant}
 use Rattle.trace_equal.specs.Exchange.{Joined}
-use Rattle.pattern_laws.specs.Patterns.{Place, OnDistinct, Covers, inverted, OnLocals, LacksMisfits}
-use Rattle.pattern_laws.specs.Instantiations.{Types, closed, Agrees, set}
-use Rattle.pattern_laws.specs.Equations.{scoped, Equation, Locals}
+use Rattle.pattern_laws.specs.Patterns.{inverted}
+use Rattle.store_laws.specs.Additions.{set}
+use Rattle.pattern_laws.specs.Instantiations.{Agrees}
 use Rattle.inversion_laws.proofs.Cores.{solution_forced, solution_found}
-use Rattle.unify_laws.specs.Problems.{KeepsSolutions, Consequence}
+use Rattle.unify_laws.specs.Laws.{AssignKeeps, AssignSettles}
 
 -- What is there already is another number.
 pub another : {X : Type 0} (m k : ℕ) (g : ℕ → Option X) (s : X) → g m ≡ None → g k ≡ Some s → nat_eq k m ≡ false
@@ -35,18 +33,13 @@ pub agrees_fewer : (t given : Instantiation) (m : ℕ) (s : PlainObject) → giv
 agrees_fewer t given m s n f k u e = f k u (set_else m k s given (another m k given u n e) ∙ e)
 
 -- The metavariable of an equation is given the other side, inverted. The equation follows from those of the problem, which stay.
-pub assign_step : (constants metas : Types) (given : Instantiation) (es : List Equation) (ls : Locals) (r : PlainNeutral) (m : ℕ) (ps qs : List Place) (a : SimpleType) (x : PlainObject)
-    → Consequence constants (record { metas = metas; given = given; equations = es }) (record { locals = ls; left = atomic r; right = x; type = a })
-    → OnLocals (scoped ls (closed constants metas)) r m ps qs a → LacksMisfits ps qs x → given m ≡ None
-    → KeepsSolutions constants (record { metas = metas; given = given; equations = es }) (record { metas = metas; given = set m (inverted (length ls) ps x) given; equations = es })
+pub assign_step : AssignKeeps
 assign_step constants metas given es ls r m ps qs a x con d l n = (
   (λ parameters t s. (t, (λ k b e. refl), (s.0, agrees_more t given m (inverted (length ls) ps x) s.1 (solution_forced constants metas parameters t s.0 ls r m ps qs a d x l (con parameters t s)), s.2))),
   (λ parameters t s. (s.0, agrees_fewer t given m (inverted (length ls) ps x) n s.1, s.2)),
 )
 
 -- After it the equation holds by the solutions alone, where each variable of the other side stands at a place.
-pub assign_done : (constants metas : Types) (given : Instantiation) (ls : Locals) (r : PlainNeutral) (m : ℕ) (ps qs : List Place) (a : SimpleType) (x : PlainObject)
-    → OnLocals (scoped ls (closed constants metas)) r m ps qs a → SimplyTyped (scoped ls (closed constants metas)) x a → LacksMisfits ps qs x → Covers ps x
-    → Consequence constants (record { metas = metas; given = set m (inverted (length ls) ps x) given; equations = [] }) (record { locals = ls; left = atomic r; right = x; type = a })
+pub assign_done : AssignSettles
 assign_done constants metas given ls r m ps qs a x d tx l cov parameters t s = let (o, w, e, p, j) = s.1 m (inverted (length ls) ps x) (set_there m (inverted (length ls) ps x) given) in
     solution_found constants metas parameters t s.0 ls r m ps qs a d x tx l cov o w e p j

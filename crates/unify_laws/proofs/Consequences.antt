@@ -1,33 +1,27 @@
 -- What follows from a problem's equations: their parts, and what becomes of them when solutions are put in.
 use Rattle.joined_laws.proofs.Environs.{joined_instances}
-use Rattle.std.specs.Prelude.{ℕ, suc, false, ◌≡◌, ◌⊎◌, List, [], ◌∷◌, length, Option, Some, None, refl}
+use Rattle.std.specs.Prelude.{ℕ, ◌≡◌, ◌⊎◌, List, length, Option, Some, None, refl}
 use Rattle.std.proofs.Common.{sym, subst, ◌∙◌, inl, inr, true}
-use Rattle.clf_syntax.specs.declared.tree.Mode.{Mode}
 use Rattle.clf_syntax.specs.declared.tree.Head.TheVariants.{Meta}
-use Rattle.clf_syntax.specs.Tree.{PlainObject, lam, pair, atomic, PlainNeutral, head_of}
+use Rattle.clf_syntax.specs.Tree.{PlainObject}
 use Rattle.clf_syntax.specs.TypeTree.{SimpleType}
-use Rattle.clf_syntax.specs.Simple.{Families, extended, SimplyTyped}
+use Rattle.clf_syntax.specs.Simple.{Families, SimplyTyped}
 use Rattle.hered_subst.specs.Substitution.{under, Substituted}
-use Rattle.hered_subst.proofs.SimpleTyping.{under_zero}
-use Rattle.hered_subst.specs.TypedEnvironments.{is_metavariable, TypedEnvironment}
-use Rattle.hered_subst.proofs.TypedEnvironments.{keeps_bound}
+use Rattle.hered_subst.specs.TypedEnvironments.{TypedEnvironment}
 use Rattle.hered_subst.proofs.TypedResults.{result_is_typed}
 use Rattle.subst_laws.specs.Environments.{Instantiation, instant, Composed, ComposedInstantiation, TypedInstantiation}
 use Rattle.subst_laws.proofs.Environs.{instant_is_environment}
-use Rattle.subst_laws.proofs.Compose.{composed_bound}
 use Rattle.subst_laws.proofs.Results.{composition}
 use Rattle.trace_equal.specs.Exchange.{stop, Joined}
 use Rattle.trace_equal.proofs.Closed.{trail}
 use Rattle.trace_equal.proofs.Joined.{joined_is_equivalence}
 use Rattle.joined_laws.specs.Environments.{JoinedEnvironment, JoinedInstantiation}
-use Rattle.joined_laws.proofs.Respect.{joined_bound}
 use Rattle.joined_laws.proofs.Results.{respects_all}
 use Rattle.pattern_laws.specs.Instantiations.{Instantiated, Types, closed, over, Instantiates, Agrees}
-use Rattle.pattern_laws.specs.Equations.{scoped, Equation, Solves, SolvesEach, TypedEquation, Listed, listed_here, listed_later, Locals}
-use Rattle.pattern_laws.proofs.Spines.{under_instant}
+use Rattle.pattern_laws.specs.Equations.{scoped, Equation, Solves, SolvesEach, Listed, listed_here, listed_later, Locals}
 use Rattle.pattern_laws.proofs.Instances.{keeps as keeps_closed, keeps_under, instance, composed_scoped, joined_scoped, typed_scoped}
-use Rattle.unify_laws.specs.Problems.{Problem, KeepsSolutions, HasNone, WellTyped, Consequence}
-use Rattle.unify_laws.specs.Parts.{PartAt, part_here, SameShape}
+use Rattle.unify_laws.specs.Problems.{Problem, KeepsSolutions, Consequence}
+use Rattle.unify_laws.specs.Laws.{LamsFollow, PairsFollow, PartsFollow, NeutralsClash, PutInFollows}
 use Rattle.unify_laws.proofs.Steps.{lam_part, pair_parts, neutral_clash, neutral_part}
 
 pub listed_solved : (t : Instantiation) (e : Equation) (es : List Equation) → Listed e es → SolvesEach (instant t) es → Solves (instant t) e
@@ -42,20 +36,17 @@ of_listed constants p e l parameters t s = listed_solved t e p.equations l s.2
 pub of_flipped : (constants : Types) (p : Problem) (ls : Locals) (o u : PlainObject) (a : SimpleType) → Consequence constants p (record { locals = ls; left = o; right = u; type = a }) → Consequence constants p (record { locals = ls; left = u; right = o; type = a })
 of_flipped constants p ls o u a c parameters t s = let (x, y, i, k, j) = c parameters t s in (y, x, k, i, joined_is_equivalence.1 x y j)
 
-pub of_lam : (constants : Types) (p : Problem) (ls : Locals) (d : SimpleType) (m : Mode) (b c : PlainObject) (a e : SimpleType) → Consequence constants p (record { locals = ls; left = lam m b; right = lam m c; type = a }) → Consequence constants p (record { locals = (m, d) ∷ ls; left = b; right = c; type = e })
+pub of_lam : LamsFollow
 of_lam constants p ls d m b c a e f parameters t s = (lam_part t ls d m b c a e).0 (f parameters t s)
 
-pub of_pair : (constants : Types) (p : Problem) (ls : Locals) (l k r s : PlainObject) (a c d : SimpleType) → Consequence constants p (record { locals = ls; left = pair l r; right = pair k s; type = a })
-    → Consequence constants p (record { locals = ls; left = l; right = k; type = c }) × Consequence constants p (record { locals = ls; left = r; right = s; type = d })
+pub of_pair : PairsFollow
 of_pair constants p ls l k r s a c d f = ((λ parameters t u. ((pair_parts t ls l k r s a c d).0 (f parameters t u)).0), (λ parameters t u. ((pair_parts t ls l k r s a c d).0 (f parameters t u)).1))
 
-pub of_part : (constants : Types) (p : Problem) (ls : Locals) (r n : PlainNeutral) (a : SimpleType) → SameShape r n → (o u : PlainObject) (c : SimpleType) → PartAt (scoped ls (closed constants p.metas)) o u c r n
-    → Consequence constants p (record { locals = ls; left = atomic r; right = atomic n; type = a }) → Consequence constants p (record { locals = ls; left = o; right = u; type = c })
+pub of_part : PartsFollow
 of_part constants p ls r n a h o u c q f parameters t s = neutral_part t ls (scoped ls (closed constants p.metas)) r n a h (f parameters t s) o u c q
 
 -- Heads or shapes that differ.
-pub none_of_neutrals : (constants : Types) (p : Problem) (ls : Locals) (r n : PlainNeutral) (a : SimpleType) → is_metavariable (head_of r) ≡ false → is_metavariable (head_of n) ≡ false → (SameShape r n → ⊥)
-    → Consequence constants p (record { locals = ls; left = atomic r; right = atomic n; type = a }) → HasNone constants p
+pub none_of_neutrals : NeutralsClash
 none_of_neutrals constants p ls r n a f g h c parameters t s = neutral_clash t ls r n a f g h (c parameters t s)
 
 -- What follows stays so when steps are taken.
@@ -133,9 +124,7 @@ module _ (constants metas parameters : Types) (given t : Instantiation) (f : Ins
   put_in_typed ls o x a p i = (result_is_typed true no_families (scoped ls (closed constants metas)) (scoped ls (closed constants metas)) (under (length ls) (instant given)) (keeps_given ls)).object o x a p i
 
 -- An equation into which solutions were put follows as the equation does.
-pub of_given : (constants : Types) (p : Problem) → WellTyped constants p → (ls : Locals) (o u x y : PlainObject) (a : SimpleType) → TypedEquation constants p.metas (record { locals = ls; left = o; right = u; type = a })
-    → Instantiated (length ls) p.given o x → Instantiated (length ls) p.given u y
-    → Consequence constants p (record { locals = ls; left = o; right = u; type = a }) → Consequence constants p (record { locals = ls; left = x; right = y; type = a })
+pub of_given : PutInFollows
 of_given constants p typed ls o u x y a q i k c parameters t s = let (v, w, g, h, j) = c parameters t s in
     let (v', g', _) = instance constants p.metas parameters t s.0 ls x a (put_in_typed constants p.metas parameters p.given t s.0 s.1 typed.1 ls o x a q.0 i) in
     let (w', h', _) = instance constants p.metas parameters t s.0 ls y a (put_in_typed constants p.metas parameters p.given t s.0 s.1 typed.1 ls u y a q.1 k) in (

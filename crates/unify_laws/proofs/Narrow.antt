@@ -14,7 +14,8 @@ use Rattle.hered_subst.proofs.SimpleTyping.{Typed}
 use Rattle.subst_laws.specs.Environments.{Instantiation, instant, image_or}
 use Rattle.subst_laws.proofs.Results.{agreement}
 use Rattle.trace_equal.specs.Exchange.{stop}
-use Rattle.pattern_laws.specs.Instantiations.{Instantiated, Types, closed, over, Instantiates, Agrees, set}
+use Rattle.store_laws.specs.Additions.{set}
+use Rattle.pattern_laws.specs.Instantiations.{Instantiated, Types, closed, over, Instantiates, Agrees}
 use Rattle.pattern_laws.specs.Patterns.{Place, on, lams, arrows, Fitting, local_at, Distinct, beneath, inverted}
 use Rattle.pattern_laws.specs.Equations.{scoped, Equation, SolvesEach, TypedEquations, Locals}
 use Rattle.pattern_laws.proofs.Inverse.{Within}

@@ -1,6 +1,6 @@
 -- Steps keep a problem simply typed.
 use Rattle.store_laws.proofs.Numbers.{number_cases, set_there, set_else}
-use Rattle.std.specs.Prelude.{ℕ, Bool, true, false, zero, suc, ◌≡◌, ◌<◌, ◌⊎◌, List, [], ◌∷◌, Some, None, refl}
+use Rattle.std.specs.Prelude.{ℕ, Bool, true, false, zero, suc, ◌≡◌, ◌⊎◌, List, [], ◌∷◌, Some, None, refl}
 use Rattle.std.proofs.Common.{ap, sym, subst, ◌∙◌, inl, inr, ⊎_elim}
 use Rattle.clf_syntax.specs.declared.tree.Head.{Head}
 use Rattle.clf_syntax.specs.declared.tree.Head.TheVariants.{Const, Var, Meta}
@@ -12,14 +12,16 @@ use Rattle.subst_laws.specs.Environments.{Instantiation}
 use Rattle.eta_laws.specs.Eta.{eta}
 use Rattle.eta_laws.proofs.EtaTyped.{eta_is_typed}
 use Rattle.pattern_laws.specs.Patterns.{Place, on, lams, arrows, beneath, masked, IsFinal, HasFinalResult}
-use Rattle.pattern_laws.specs.Instantiations.{Types, closed, set}
+use Rattle.store_laws.specs.Additions.{set}
+use Rattle.pattern_laws.specs.Instantiations.{Types, closed}
 use Rattle.pattern_laws.specs.Equations.{scoped, Equation, TypedEquations, Locals}
 use Rattle.pattern_laws.proofs.Inverse.{lams_typed}
-use Rattle.unify_laws.specs.Problems.{Problem, KeepsSolutions, Grows, WellTyped}
-use Rattle.unify_laws.specs.Progress.{Progress, CameFrom}
+use Rattle.unify_laws.specs.Problems.{Grows, WellTyped}
+use Rattle.unify_laws.specs.Progress.{CameFrom}
 use Rattle.unify_laws.proofs.Assign.{another}
 use Rattle.unify_laws.proofs.Steps.{keeps_same, keeps_then}
 use Rattle.unify_laws.specs.Narrowing.{narrowed_by}
+use Rattle.unify_laws.specs.Laws.{ProgressStarts, AssignProgresses, NarrowProgresses}
 
 -- z gives each head that has a type in g the same type
 abbrev More : Assignment → Assignment → Type 0
@@ -162,7 +164,7 @@ final_new : (metas : Types) (k : ℕ) (a : SimpleType) → HasFinalResult a → 
 final_new metas k a f g m b e = ⊎_elim (λ h. subst HasFinalResult (one_simple (sym (set_there k a metas) ∙ sym (ap (set k a metas) h) ∙ e)) f) (λ h. g m b (sym (set_else k m a metas h) ∙ e)) (number_cases m k)
 
 -- At the start.
-pub progress_start : (constants : Types) (p : Problem) → WellTyped constants p → Progress constants p p
+pub progress_start : ProgressStarts
 progress_start constants p w = record { same = refl; typed = w; grows = (λ m a e. e); stays = (λ m o e. e); keeps = keeps_same constants p; traced = (λ k a e. inl (a, e)) }
 
 traced_set : (metas more : Types) (given : Instantiation) (m : ℕ) (s : PlainObject) (k j : ℕ) → Grows metas more → given m ≡ None → CameFrom metas given k j → CameFrom more (set m s given) k j
@@ -178,10 +180,7 @@ traced_set metas more given m s k j g n c = record {
 }
 
 -- A metavariable is solved.
-pub progress_assign : (constants : Types) (start : Problem) (metas : Types) (given : Instantiation) (es : List Equation) (m : ℕ) (s : PlainObject) (a : SimpleType)
-    → Progress constants start (record { metas = metas; given = given; equations = es }) → given m ≡ None → metas m ≡ Some a → SimplyTyped (closed constants metas) s a
-    → KeepsSolutions constants (record { metas = metas; given = given; equations = es }) (record { metas = metas; given = set m s given; equations = es })
-    → Progress constants start (record { metas = metas; given = set m s given; equations = es })
+pub progress_assign : AssignProgresses
 progress_assign constants start metas given es m s a p n e t k = record {
   same = p.same;
   typed = typed_set constants metas given es m s a p.typed e t;
@@ -192,10 +191,7 @@ progress_assign constants start metas given es m s a p n e t k = record {
 }
 
 -- A metavariable becomes a new one on some of its arguments.
-pub progress_narrow : (constants : Types) (start : Problem) (metas : Types) (given : Instantiation) (es : List Equation) (k k' : ℕ) (bs : List Bool) (ps : List Place) (a : SimpleType)
-    → Progress constants start (record { metas = metas; given = given; equations = es }) → given k ≡ None → metas k ≡ Some (arrows ps a) → metas k' ≡ None → k < k' → IsFinal a
-    → KeepsSolutions constants (record { metas = metas; given = given; equations = es }) (narrowed_by metas given es k k' bs ps a)
-    → Progress constants start (narrowed_by metas given es k k' bs ps a)
+pub progress_narrow : NarrowProgresses
 progress_narrow constants start metas given es k k' bs ps a p n e f l may q = record {
   same = p.same;
   typed = typed_set constants (set k' (arrows (masked 0 bs ps) a) metas) given es k (lams ps (atomic (on (masked 0 bs ps) (head_alone (Meta k'))))) (arrows ps a)

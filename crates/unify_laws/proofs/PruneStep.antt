@@ -1,24 +1,18 @@
 -- The steps that take arguments from a metavariable, and the clashes, as steps of problems.
-use Rattle.std.specs.Prelude.{ℕ, Bool, true, false, ◌+◌, ◌≡◌, ◌<◌, ◌⊎◌, List, length, Some, None}
+use Rattle.std.specs.Prelude.{ℕ, Bool, true, false, ◌≡◌, ◌<◌, ◌⊎◌, List, length, Some}
 use Rattle.std.proofs.Common.{sym, ◌∙◌, inl, inr, ⊎_elim}
-use Rattle.clf_syntax.specs.declared.tree.Head.TheVariants.{Var}
-use Rattle.clf_syntax.specs.Tree.{PlainObject, atomic, PlainNeutral, head_of}
+use Rattle.clf_syntax.specs.Tree.{PlainObject}
 use Rattle.clf_syntax.specs.TypeTree.{SimpleType}
 use Rattle.clf_syntax.specs.Occurs.{occurs}
 use Rattle.clf_syntax.proofs.OccursLaws.{not_both}
 use Rattle.hered_subst.proofs.SimpleTyping.{Typed}
-use Rattle.hered_subst.specs.TypedEnvironments.{is_metavariable}
-use Rattle.subst_laws.specs.Environments.{Instantiation}
-use Rattle.pattern_laws.specs.Patterns.{Place, local_at, OnDistinct, beneath, SameTypes, Foreign, Ends, masked, filled, mask_at, OnLocals, LacksMisfits}
+use Rattle.pattern_laws.specs.Patterns.{Place, local_at, beneath, masked, filled, mask_at}
 use Rattle.pattern_laws.specs.Instantiations.{Types, closed, over}
-use Rattle.pattern_laws.specs.Equations.{scoped, Equation, Locals}
 use Rattle.pattern_laws.proofs.Inverse.{place_cases, lams_typed}
 use Rattle.pattern_laws.proofs.Typings.{blank_absent}
 use Rattle.pattern_laws.proofs.Instances.{scoped_meta}
 use Rattle.inversion_laws.proofs.Masks.{masked_within, masked_distinct, masked_fitting, kept_place}
-use Rattle.unify_laws.specs.Rigid.{Stands, StandsBelow}
-use Rattle.unify_laws.specs.Problems.{KeepsSolutions, HasNone, WellTyped, Consequence}
-use Rattle.unify_laws.specs.Narrowing.{narrowed_by}
+use Rattle.unify_laws.specs.Laws.{PruneKeeps, SameKeeps, HeadClashes, InsideClashes}
 use Rattle.unify_laws.proofs.Narrow.{narrow_step}
 use Rattle.unify_laws.proofs.Spared.{foreign_unused, ends_unused, head_clash, inside_clash}
 
@@ -31,16 +25,7 @@ unused_spared constants parameters bs ps b a t f j h o = ⊎_elim
     (place_cases ps (over constants parameters) j h)
 
 -- Pruning: at a rigid place of the side of `?m ys` another metavariable stands on distinct locals. Arguments that are foreign locals are taken from it.
-pub prune_step : (constants metas : Types) (given : Instantiation) (es : List Equation) (ls : Locals) (r : PlainNeutral) (m : ℕ) (ps qs : List Place) (a : SimpleType) (x : PlainObject)
-    → Consequence constants (record { metas = metas; given = given; equations = es }) (record { locals = ls; left = atomic r; right = x; type = a })
-    → WellTyped constants (record { metas = metas; given = given; equations = es })
-    → OnLocals (scoped ls (closed constants metas)) r m ps qs a → LacksMisfits ps qs x
-    → (inner : Locals) (n : ℕ) (q : PlainNeutral) (k k' : ℕ) (zs : List Place) (c : SimpleType) (bs : List Bool)
-    → length inner ≡ length ls + n → OnDistinct (scoped inner (closed constants metas)) q k zs c → Stands n q x
-    → given k ≡ None → metas k' ≡ None
-    → ((u w : ℕ) → local_at zs u ≡ Some w → Foreign (length ls) ps n w ⊎ (mask_at bs u ≡ true))
-    → KeepsSolutions constants (record { metas = metas; given = given; equations = es })
-    (narrowed_by metas given es k k' bs zs c)
+pub prune_step : PruneKeeps
 prune_step constants metas given es ls r m ps qs a x con typed d lacks inner n q k k' zs c bs l e st open_ new sorted =
     narrow_step constants metas given es k k' zs (masked 0 bs zs) c typed (sym (scoped_meta inner (closed constants metas) k) ∙ e.type) open_ new
     (λ parameters. masked_fitting (over constants parameters) bs zs) (masked_distinct bs zs) (masked_within bs zs)
@@ -48,14 +33,7 @@ prune_step constants metas given es ls r m ps qs a x con typed d lacks inner n q
     (λ u w h. ⊎_elim (λ f. inl (foreign_unused constants metas parameters t s.0 ls r m ps qs a d x lacks (con parameters t s) inner n q k zs c l e st u w h f b g (lams_typed zs p))) (λ f. inr f) (sorted u w h)))
 
 -- The same metavariable on both sides: arguments from which the way comes to an end are taken from it.
-pub same_step : (constants metas : Types) (given : Instantiation) (es : List Equation) (ls : Locals) (r r' : PlainNeutral) (m : ℕ) (ps qs zs ws : List Place) (a : SimpleType)
-    → Consequence constants (record { metas = metas; given = given; equations = es }) (record { locals = ls; left = atomic r; right = atomic r'; type = a })
-    → WellTyped constants (record { metas = metas; given = given; equations = es })
-    → OnLocals (scoped ls (closed constants metas)) r m ps qs a → OnLocals (scoped ls (closed constants metas)) r' m zs ws a → LacksMisfits ps qs (atomic r') → LacksMisfits zs ws (atomic r) → SameTypes ps zs
-    → (m' : ℕ) (bs : List Bool) → given m ≡ None → metas m' ≡ None
-    → ((u w : ℕ) → local_at ps u ≡ Some w → Ends ps zs u ⊎ (mask_at bs u ≡ true))
-    → KeepsSolutions constants (record { metas = metas; given = given; equations = es })
-    (narrowed_by metas given es m m' bs ps a)
+pub same_step : SameKeeps
 same_step constants metas given es ls r r' m ps qs zs ws a con typed d d' lacks lacks' same m' bs open_ new sorted =
     narrow_step constants metas given es m m' ps (masked 0 bs ps) a typed (sym (scoped_meta ls (closed constants metas) m) ∙ d.type) open_ new
     (λ parameters. masked_fitting (over constants parameters) bs ps) (masked_distinct bs ps) (masked_within bs ps)
@@ -63,17 +41,9 @@ same_step constants metas given es ls r r' m ps qs zs ws a con typed d d' lacks 
     (λ u w h. ⊎_elim (λ f. inl (ends_unused constants metas parameters t s.0 ls r r' m ps qs zs ws a d d' lacks lacks' same (con parameters t s) b g (lams_typed ps p) p f)) (λ f. inr f) (sorted u w h)))
 
 -- A foreign local is a head at a rigid place: no solution.
-pub head_clash_step : (constants metas : Types) (given : Instantiation) (es : List Equation) (ls : Locals) (r : PlainNeutral) (m : ℕ) (ps qs : List Place) (a : SimpleType) (x : PlainObject)
-    → Consequence constants (record { metas = metas; given = given; equations = es }) (record { locals = ls; left = atomic r; right = x; type = a })
-    → OnLocals (scoped ls (closed constants metas)) r m ps qs a → LacksMisfits ps qs x → (n : ℕ) (q : PlainNeutral) (w : ℕ) → Stands n q x → head_of q ≡ Var w → Foreign (length ls) ps n w
-    → HasNone constants (record { metas = metas; given = given; equations = es })
+pub head_clash_step : HeadClashes
 head_clash_step constants metas given es ls r m ps qs a x con d lacks n q w st e f parameters t s = head_clash constants metas parameters t s.0 ls r m ps qs a d x lacks (con parameters t s) n q w st e f
 
 -- The metavariable stands on distinct locals at a rigid place below another head: no solution.
-pub inside_clash_step : (constants metas : Types) (given : Instantiation) (es : List Equation) (ls : Locals) (r : PlainNeutral) (m : ℕ) (ps qs : List Place) (a : SimpleType) (q0 : PlainNeutral)
-    → Consequence constants (record { metas = metas; given = given; equations = es }) (record { locals = ls; left = atomic r; right = atomic q0; type = a })
-    → OnLocals (scoped ls (closed constants metas)) r m ps qs a → LacksMisfits ps qs (atomic q0)
-    → (inner : Locals) (n : ℕ) (q : PlainNeutral) (zs : List Place) → length inner ≡ length ls + n → OnDistinct (scoped inner (closed constants metas)) q m zs a → SameTypes ps zs
-    → is_metavariable (head_of q0) ≡ false → StandsBelow n q q0
-    → HasNone constants (record { metas = metas; given = given; equations = es })
+pub inside_clash_step : InsideClashes
 inside_clash_step constants metas given es ls r m ps qs a q0 con d lacks inner n q zs l e same i st parameters t s = inside_clash constants metas parameters t s.0 ls r m ps qs a d q0 lacks (con parameters t s) inner n q zs l e same i st

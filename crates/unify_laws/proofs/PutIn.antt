@@ -1,27 +1,24 @@
 -- All solutions put in: a pass is absorbed, and where no solved metavariable is mentioned nothing changes. And equations without metavariables.
 use Rattle.pattern_laws.proofs.Instances.{typed_scoped, composed_scoped}
-use Rattle.std.specs.Prelude.{suc, ◌≡◌, List, [], ◌∷◌, length, Option, Some, None, refl}
-use Rattle.std.proofs.Common.{sym, subst, inl, inr, ⊎_elim, true}
+use Rattle.std.specs.Prelude.{◌≡◌, [], ◌∷◌, length, Option, Some, None, refl}
+use Rattle.std.proofs.Common.{subst, inl, inr, ⊎_elim, true}
 use Rattle.clf_syntax.specs.declared.tree.Head.{Head}
 use Rattle.clf_syntax.specs.declared.tree.Head.TheVariants.{Const, Var, Meta}
 use Rattle.clf_syntax.specs.Tree.{PlainObject}
 use Rattle.clf_syntax.specs.TypeTree.{SimpleType}
-use Rattle.clf_syntax.specs.Simple.{Families, extended, SimplyTyped}
+use Rattle.clf_syntax.specs.Simple.{Families, SimplyTyped}
 use Rattle.hered_subst.specs.Substitution.{keep, under}
 use Rattle.hered_subst.proofs.Determined.{determined}
-use Rattle.hered_subst.proofs.SimpleTyping.{under_zero}
 use Rattle.hered_subst.specs.TypedEnvironments.{TypedEnvironment}
-use Rattle.hered_subst.proofs.TypedEnvironments.{keeps_bound}
 use Rattle.subst_laws.specs.Environments.{Instantiation, instant, Composed, ComposedInstantiation, TypedInstantiation}
 use Rattle.subst_laws.proofs.Environs.{instant_is_environment}
-use Rattle.subst_laws.proofs.Compose.{composed_bound}
 use Rattle.subst_laws.proofs.Results.{composition, unmoved}
 use Rattle.trace_equal.specs.Exchange.{Joined}
-use Rattle.joined_laws.proofs.Respect.{joined_bound}
 use Rattle.pattern_laws.specs.Instantiations.{Instantiated, Types, closed}
-use Rattle.pattern_laws.specs.Equations.{scoped, Solves, Locals}
+use Rattle.pattern_laws.specs.Equations.{scoped, Locals}
 use Rattle.store_laws.specs.PutIn.{PutIn}
-use Rattle.pattern_laws.proofs.Spines.{under_instant, keeps_variables}
+use Rattle.pattern_laws.proofs.Spines.{keeps_variables}
+use Rattle.unify_laws.specs.Laws.{GroundClashes}
 
 no_families : Families
 no_families f = None
@@ -61,7 +58,6 @@ left_as_is constants t ls o a p = (unmoved no_families (scoped ls (closed consta
         none (d ∷ ls) e = none ls e
 
 -- Clash: sides without metavariables that are not joined.
-pub ground_clash : (constants : Types) (t : Instantiation) (ls : Locals) (o u : PlainObject) (a : SimpleType) → SimplyTyped (scoped ls (closed constants (λ m. None))) o a → SimplyTyped (scoped ls (closed constants (λ m. None))) u a
-    → (Joined o u → ⊥) → Solves (instant t) (record { locals = ls; left = o; right = u; type = a }) → ⊥
+pub ground_clash : GroundClashes
 ground_clash constants t ls o u a p q h s = let (x, y, i, k, j) = s in
     h (subst (λ z. Joined z u) (determined i (left_as_is constants t ls o a p)) (subst (λ z. Joined x z) (determined k (left_as_is constants t ls u a q)) j))

@@ -1,24 +1,25 @@
 -- Steps that keep the solutions: the order of steps, and the parts of an equation.
 use Rattle.clf_syntax.specs.Simple.{Assignment, SimplyTypedNeutral}
-use Rattle.std.specs.Prelude.{◌≡◌, false, List, [], ◌∷◌, length, refl}
+use Rattle.std.specs.Prelude.{◌≡◌, false, List, ◌∷◌, length, refl}
 use Rattle.std.proofs.Common.{sym, subst, ◌∙◌}
 use Rattle.clf_syntax.specs.declared.tree.Mode.{Mode}
 use Rattle.clf_syntax.specs.declared.tree.Head.{Head}
 use Rattle.clf_syntax.specs.Tree.{PlainObject, lam, pair, atomic, PlainNeutral, head_alone, app, fst, snd, head_of}
 use Rattle.clf_syntax.specs.TypeTree.{SimpleType, arrow, simple_with}
-use Rattle.hered_subst.specs.Substitution.{Image, keep, Environment, under, Substituted, through_lam, through_pair, through_kept, KeepsHead, kept_bare, kept_app, kept_fst, kept_snd}
+use Rattle.hered_subst.specs.Substitution.{Image, keep, Environment, Substituted, through_lam, through_pair, through_kept, KeepsHead, kept_bare, kept_app, kept_fst, kept_snd}
 use Rattle.hered_subst.specs.TypedEnvironments.{is_metavariable}
 use Rattle.subst_laws.specs.Environments.{Instantiation, instant}
 use Rattle.trace_equal.specs.Exchange.{in_lam, in_left, in_right, Joined}
 use Rattle.trace_equal.specs.Matching.{Matches, match_atomic, MatchesNeutral, match_bare, match_app, match_fst, match_snd}
 use Rattle.trace_equal.proofs.Closed.{carried, trail, joined, like_to, alike}
 use Rattle.joined_laws.proofs.Respect.{bodies, firsts}
-use Rattle.pattern_laws.specs.Instantiations.{Instantiated, Types, Instantiates}
-use Rattle.pattern_laws.specs.Equations.{Equation, Solves, SolvesEach, TypedEquation, Locals}
+use Rattle.pattern_laws.specs.Instantiations.{Types, Instantiates}
+use Rattle.pattern_laws.specs.Equations.{Equation, Solves, SolvesEach, Locals}
 use Rattle.pattern_laws.proofs.Spines.{under_instant, body}
 use Rattle.pattern_laws.proofs.Instances.{instance, respected}
-use Rattle.unify_laws.specs.Problems.{Problem, KeepsSolutions, HasNone, Grows}
+use Rattle.unify_laws.specs.Problems.{Problem, KeepsSolutions, Grows}
 use Rattle.unify_laws.specs.Parts.{SameShape, shape_head, shape_app, shape_fst, shape_snd, PartAt, part_here, part_function, part_fst, part_snd}
+use Rattle.unify_laws.specs.Laws.{NoneBack, JoinedSolved}
 use Rattle.unify_laws.proofs.RigidPlaces.{parts, keeps_head, KeepsOthers, keeps_others}
 
 pub keeps_same : (constants : Types) (p : Problem) → KeepsSolutions constants p p
@@ -31,7 +32,7 @@ keeps_then constants p q r g k l = (
 )
 
 -- What comes of a problem without solutions had none.
-pub none_back : (constants : Types) (p q : Problem) → KeepsSolutions constants p q → HasNone constants q → HasNone constants p
+pub none_back : NoneBack
 none_back constants p q k h parameters t s = let (v, e, u) = k.0 parameters t s in h parameters v u
 
 -- Where only equations change, it is enough that each instantiation solves the one list exactly where it solves the other.
@@ -144,6 +145,6 @@ neutral_clash t ls r n a f g h s = let (x, y, p, q, j) = s in let (u, e, k) = ke
     h (kept_match (matched e i j) k l (keeps_others (length ls) t) f g)
 
 -- Joined sides are solved by each instantiation.
-pub joined_solved : (constants metas parameters : Types) (t : Instantiation) → Instantiates constants metas parameters t → (e : Equation) → TypedEquation constants metas e → Joined e.left e.right → Solves (instant t) e
+pub joined_solved : JoinedSolved
 joined_solved constants metas parameters t f e ty j = let (x, p, _) = instance constants metas parameters t f e.locals e.left e.type ty.0 in let (y, q, _) = instance constants metas parameters t f e.locals e.right e.type ty.1 in
     (x, y, p, q, respected constants metas parameters t f e.locals e.left e.right e.type ty.0 j x y p q)

@@ -5,9 +5,11 @@ use Rattle.std.proofs.Common.{ap, sym, ◌∙◌, arith, ⊎_elim}
 use Rattle.clf_syntax.specs.Tree.{PlainObject}
 use Rattle.clf_syntax.specs.TypeTree.{SimpleType}
 use Rattle.subst_laws.specs.Environments.{Instantiation}
-use Rattle.pattern_laws.specs.Instantiations.{Types, set}
+use Rattle.store_laws.specs.Additions.{set}
+use Rattle.pattern_laws.specs.Instantiations.{Types}
 use Rattle.pattern_laws.specs.Patterns.{functions}
 use Rattle.unify_laws.specs.Weight.{weight_of, weight}
+use Rattle.unify_laws.specs.Laws.{AssignIsLighter, NarrowIsLighter}
 
 other_number : (m n : ℕ) → m < n → nat_eq m n ≡ false
 other_number m n h = grind arith
@@ -55,12 +57,11 @@ weight_solved metas given m s a e f (suc n) h = ⊎_elim
     past i p = let q = weights {x = metas n} refl (set_else m n s given (other_way m n i)) in omega (arith, p, q)
 
 -- The step that gives a solution makes the weight smaller.
-pub weight_assign : (metas : Types) (given : Instantiation) (m : ℕ) (s : PlainObject) (a : SimpleType) (n : ℕ) → metas m ≡ Some a → given m ≡ None → m < n → weight metas (set m s given) n < weight metas given n
+pub weight_assign : AssignIsLighter
 weight_assign metas given m s a n e f h = let p = weight_solved metas given m s a e f n h in omega (arith, p)
 
 -- The step that takes arguments, at least one, makes the weight smaller.
-pub weight_narrow : (metas : Types) (given : Instantiation) (k : ℕ) (s : PlainObject) (a b : SimpleType) (n : ℕ) → metas k ≡ Some a → given k ≡ None → given n ≡ None → k < n → functions b < functions a
-    → weight (set n b metas) (set k s given) (suc n) < weight metas given n
+pub weight_narrow : NarrowIsLighter
 weight_narrow metas given k s a b n e f g h l = let p = weight_solved metas given k s a e f n h in
     let q = weights (set_there n b metas) (set_else k n s given (other_way k n h) ∙ g) in
     let r = unchanged_types metas (set k s given) n b n (omega arith) in omega (arith, p, q, r, l)

@@ -8,7 +8,8 @@ use Rattle.clf_syntax.specs.Simple.{SimplyTyped}
 use Rattle.hered_subst.specs.TypedEnvironments.{is_metavariable}
 use Rattle.trace_equal.specs.Exchange.{Joined}
 use Rattle.subst_laws.specs.Environments.{Instantiation, instant}
-use Rattle.pattern_laws.specs.Instantiations.{Types, closed, set, Instantiates, Instantiated}
+use Rattle.store_laws.specs.Additions.{set}
+use Rattle.pattern_laws.specs.Instantiations.{Types, closed, Instantiates, Instantiated}
 use Rattle.pattern_laws.specs.Equations.{Locals, scoped, Equation, Solves, TypedEquation}
 use Rattle.pattern_laws.specs.Patterns.{IsFinal, functions, Place, arrows, local_at, OnDistinct, OnLocals, LacksMisfits, Covers, inverted, SameTypes, Foreign, Ends, mask_at}
 use Rattle.unify_laws.specs.Problems.{Problem, KeepsSolutions, HasNone, WellTyped, Consequence}

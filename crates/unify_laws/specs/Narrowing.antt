@@ -4,7 +4,8 @@ use Rattle.clf_syntax.specs.declared.tree.Head.TheVariants.{Meta}
 use Rattle.clf_syntax.specs.Tree.{atomic, head_alone}
 use Rattle.clf_syntax.specs.TypeTree.{SimpleType}
 use Rattle.subst_laws.specs.Environments.{Instantiation}
-use Rattle.pattern_laws.specs.Instantiations.{Types, set}
+use Rattle.store_laws.specs.Additions.{set}
+use Rattle.pattern_laws.specs.Instantiations.{Types}
 use Rattle.pattern_laws.specs.Equations.{Equation}
 use Rattle.pattern_laws.specs.Patterns.{Place, on, lams, arrows, masked}
 use Rattle.unify_laws.specs.Problems.{Problem}

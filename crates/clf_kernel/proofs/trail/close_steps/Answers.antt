@@ -1,6 +1,7 @@
 use Rattle.std.proofs.Common.{◌≡◌, ℕ, suc, ◌+◌, ◌-◌, ◌<◌, ◌≤◌, List, length, take, get_or, Err, ap, sym, subst, ◌∙◌, arith}
 use Rattle.std.proofs.Math.Seq.{take-length}
 use Rattle.std.proofs.lemmas.Result.{err_from_is_err_and}
+use Rattle.use_contexts.specs.Marks.{marks}
 use Rattle.use_contexts.specs.Rows.{Leftover}
 use Rattle.clf_decision.specs.Outcome.{passed, at_part, and_then}
 use Rattle.clf_decision.specs.Checking.{with_slack}
@@ -30,53 +31,55 @@ module _ (os : List Opened) (at older : ℕ) (x : Opened) (l : 0 < at) (k : at �
       → Stops (closed_steps older (opened_by (take at os)) (passed y)) s
   stop y s p = subst (λ j. Stops (closed_steps older (opened_by (take j os)) (passed y)) s) one_fewer (steps_end os (at - 1) older x there e y s p)
 
-pub close_step-requires-clause-numbered : goal.close_step-requires-clause-numbered
-close_step-requires-clause-numbered c = c.loop-place.invariant.2
-
-pub close_step-requires-clause-width : goal.close_step-requires-clause-width
-close_step-requires-clause-width c =
-    let v = c.loop-place.invariant in
-    let a = v.1 in
-    let w = width_here c.args.opened.now c.loop-place.place c.args.older c.index-opened-place.result c.loop-place-test.true v.0 c.index-opened-place.is in
-    omega (arith, a, w)
-
 pub loop-place-init : goal.loop-place-init
 loop-place-init c =
     let t = take-length c.args.opened.now in (
       omega arith,
-      c.requires.marked ∙ ap (λ os. opened_width (opened_by os) + c.args.older) (sym t),
-      (let a = c.requires.marked in let b = c.requires.numbered in omega (arith, a, b)),
-      ap (λ os. closed_steps c.args.older (opened_by os) (passed (plain_left c.args.left))) (sym t),
+      (λ n r. (r ∙ ap (λ os. opened_width (opened_by os) + n) (sym t), ap (λ os. closed_steps n (opened_by os) (passed (plain_left c.args.left))) (sym t))),
     )
 
 pub loop-place-preserved : goal.loop-place-preserved
 loop-place-preserved c =
-    let v = c.loop-place.invariant in
-    let a = v.1 in
-    let b = v.2 in
-    let m = c.in_ok-left.ensures.marked in
-    let x = c.index-opened-place.result in
-    let os = c.args.opened.now in
-    let at = c.loop-place.place in
-    let w = width_here os at c.args.older x c.loop-place-test.true v.0 c.index-opened-place.is in
-    let n = opened_width (opened_by (take (at - 1) os)) + c.args.older in (
-      omega (arith, v.0),
-      omega (arith, a, m, w),
-      omega (arith, b, m),
-      v.3 ∙ more os at c.args.older x c.loop-place-test.true v.0 c.index-opened-place.is (plain_left c.loop-place.left) (plain_left c.in_ok-left.left) (c.in_ok-left.ensures.outcome n (omega (arith, a, w))),
+    let i = c.loop-place.invariant in (
+      omega (arith, i.0),
+      (λ older r.
+          let v = i.1 older r in
+          let x = c.index-opened-place.result in
+          let os = c.args.opened.now in
+          let at = c.loop-place.place in
+          let w = width_here os at older x c.loop-place-test.true i.0 c.index-opened-place.is in
+          let n = opened_width (opened_by (take (at - 1) os)) + older in
+          let m : length (marks c.loop-place.left.row) ≡ n + length x.modes = let a = v.0 in omega (arith, a, w) in (
+            c.in_ok-left.ensures.marked n m,
+            v.1 ∙ more os at older x c.loop-place-test.true i.0 c.index-opened-place.is (plain_left c.loop-place.left) (plain_left c.in_ok-left.left) (c.in_ok-left.ensures.outcome n m),
+          )),
     )
 
 pub returns-in_err-left-clause-outcome : goal.returns-in_err-left-clause-outcome
-returns-in_err-left-clause-outcome c =
-    let v = c.loop-place.invariant in
-    let a = v.1 in
+returns-in_err-left-clause-outcome c = λ older r.
+    let i = c.loop-place.invariant in
+    let v = i.1 older r in
     let x = c.index-opened-place.result in
     let os = c.args.opened.now in
     let at = c.loop-place.place in
-    let w = width_here os at c.args.older x c.loop-place-test.true v.0 c.index-opened-place.is in
-    let n = opened_width (opened_by (take (at - 1) os)) + c.args.older in
+    let w = width_here os at older x c.loop-place-test.true i.0 c.index-opened-place.is in
+    let n = opened_width (opened_by (take (at - 1) os)) + older in
+    let m : length (marks c.loop-place.left.row) ≡ n + length x.modes = let a = v.0 in omega (arith, a, w) in
     let p = err_from_is_err_and c.from_residual.result c.from_residual.ensures.1 in
     let e : c.from_residual.result ≡ Err c.in_err-left.field-0.0 = cc (p.1, p.2) in
-    subst (λ r. Gives plain_left (closed_steps c.args.older (opened_by os) (passed (plain_left c.args.left))) r) (sym e)
-    (subst (λ o. Stops o c.in_err-left.field-0.0) (sym v.3)
-    (stop os at c.args.older x c.loop-place-test.true v.0 c.index-opened-place.is (plain_left c.loop-place.left) c.in_err-left.field-0.0 (c.in_err-left.ensures.outcome n (omega (arith, a, w)))))
+    subst (λ q. Gives plain_left (closed_steps older (opened_by os) (passed (plain_left c.args.left))) q) (sym e)
+    (subst (λ o. Stops o c.in_err-left.field-0.0) (sym v.1)
+    (stop os at older x c.loop-place-test.true i.0 c.index-opened-place.is (plain_left c.loop-place.left) c.in_err-left.field-0.0 (c.in_err-left.ensures.outcome n m)))
+
+pub returns-clause-outcome : goal.returns-clause-outcome
+returns-clause-outcome c = λ older r.
+    let v = c.loop-place.invariant.1 older r in
+    let z : c.loop-place.place ≡ 0 = omega (arith, c.loop-place-test.false) in
+    v.1 ∙ ap (λ j. closed_steps older (opened_by (take j c.args.opened.now)) (passed (plain_left c.loop-place.left))) z
+
+pub returns-clause-marked : goal.returns-clause-marked
+returns-clause-marked c = λ older r.
+    let v = c.loop-place.invariant.1 older r in
+    let z : c.loop-place.place ≡ 0 = omega (arith, c.loop-place-test.false) in
+    let m = v.0 ∙ ap (λ j. opened_width (opened_by (take j c.args.opened.now)) + older) z in
+    omega (arith, m)

@@ -13,7 +13,12 @@ use Rattle.hered_put.specs.Environments.{environment_of}
 use Rattle.hered_put.specs.Outcomes.{plain_outcome, plain_coming, plain_rest}
 use Rattle.hered_put.specs.Pieces.{object_of, neutral_of, eliminated_of, expression_of, entries_of, entry_of, step_of, in_front, join_all, join_of, joined_of, flattened_of, binders_of}
 use Rattle.hered_put.proofs.Answered.{erred, fails-through}
-use Rattle.hered_put.proofs.Pieces.{lam-under, lams, lams-made, lams-untyped, lams-too_far, spined, spined-next, spined-untyped, spined-too_far, one_more, entries-next, in_front-untyped, in_front-too_far, in_front-more, pushed, join_next, join_next-untyped, join_next-too_far, join_next-made, join_all-more, join_all-untyped, join_all-too_far, joined-all, join-staying, steps-next, steps-ended, dones, dones-made, steps_before, steps_before-made, steps_before-untyped, steps_before-too_far, flattened-in}
+use Rattle.hered_put.proofs.ObjectPieces.{lam-under, lams, lams-made, lams-untyped, lams-too_far}
+use Rattle.hered_put.proofs.SpinePieces.{spined, spined-next, spined-untyped, spined-too_far}
+use Rattle.hered_put.proofs.TuplePieces.{one_more, entries-next, in_front-untyped, in_front-too_far, in_front-more, pushed}
+use Rattle.hered_put.proofs.StepPieces.{join_next, join_next-untyped, join_next-too_far, join_next-made, join_all-more, join_all-untyped, join_all-too_far, joined-all, join-staying}
+use Rattle.hered_put.proofs.ExpressionPieces.{steps-next, steps-ended, dones, dones-made}
+use Rattle.hered_put.proofs.FlatPieces.{steps_before, steps_before-made, steps_before-untyped, steps_before-too_far, flattened-in}
 use Rattle.hered_put.proofs.object.+put.Goals as goal
 
 -- ---- lambdas

@@ -8,7 +8,7 @@ use Rattle.hered_put.specs.Environments.{environment_of}
 use Rattle.hered_put.specs.Outcomes.{plain_outcome, plain_coming, plain_rest}
 use Rattle.hered_put.specs.Pieces.{neutral_of, expression_of, entries_of, in_front, join_all, joined_of}
 use Rattle.hered_put.proofs.Measure.{left}
-use Rattle.hered_put.proofs.Pieces.{spined}
+use Rattle.hered_put.proofs.SpinePieces.{spined}
 use Rattle.hered_put.proofs.object.+put.Given as goal
 
 abbrev pub decreases-put_object : goal.decreases-put_object

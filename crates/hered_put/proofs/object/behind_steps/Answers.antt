@@ -5,7 +5,7 @@ use Rattle.clf_syntax.specs.declared.tree.Step.{Step}
 use Rattle.clf_syntax.specs.declared.tree.Expr.{out-Expr}
 use Rattle.clf_syntax.specs.Tree.{PlainNeutral, PlainExpression, steps_on, done, tuple_of}
 use Rattle.clf_syntax.specs.Plain.{plain_step, plain_entry, plain-expr, plain-Expr}
-use Rattle.hered_put.proofs.Pieces.{steps-behind}
+use Rattle.hered_put.proofs.ExpressionPieces.{steps-behind}
 use Rattle.hered_put.proofs.object.behind_steps.Goals as goal
 
 pub returns : goal.returns

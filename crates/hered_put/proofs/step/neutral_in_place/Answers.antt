@@ -1,7 +1,7 @@
 use Rattle.std.proofs.Common.{ap, sym, ◌∙◌, ⊎_elim}
 use Rattle.clf_syntax.specs.Plain.{plain_neutral}
 use Rattle.hered_put.specs.Function.{made}
-use Rattle.hered_put.proofs.Pieces.{head-plain, neutral-meta, neutral-const, neutral-var}
+use Rattle.hered_put.proofs.StepPieces.{head-plain, neutral-meta, neutral-const, neutral-var}
 use Rattle.hered_put.proofs.step.neutral_in_place.Goals as goal
 
 pub returns-in_ok-stays-in-Meta : goal.returns-in_ok-stays-in-Meta

@@ -8,7 +8,7 @@ use Rattle.hered_put.specs.Function.{made}
 use Rattle.hered_put.specs.Environments.{environment_of}
 use Rattle.hered_put.specs.TypePieces.{type_of, tele_of, tele_entry_of}
 use Rattle.hered_put.proofs.Answered.{erred, fails-through}
-use Rattle.hered_put.proofs.Pieces.{pushed}
+use Rattle.hered_put.proofs.TuplePieces.{pushed}
 use Rattle.hered_put.proofs.TypePieces.{function-under, functions, functions-made, functions-right_untyped, functions-right_too_far, tele-next, bind_next, entries_before, entries_before-more, entries_before-untyped, entries_before-too_far}
 use Rattle.hered_put.proofs.types.+put_type.Goals as goal
 

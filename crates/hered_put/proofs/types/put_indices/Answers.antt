@@ -5,7 +5,7 @@ use Rattle.hered_put.specs.Environments.{environment_of}
 use Rattle.hered_put.specs.Pieces.{object_of, in_front}
 use Rattle.hered_put.specs.TypePieces.{indices_of}
 use Rattle.hered_put.proofs.Answered.{erred, fails-through}
-use Rattle.hered_put.proofs.Pieces.{one_more, in_front-untyped, in_front-too_far, in_front-more, pushed}
+use Rattle.hered_put.proofs.TuplePieces.{one_more, in_front-untyped, in_front-too_far, in_front-more, pushed}
 use Rattle.hered_put.proofs.TypePieces.{indices-next}
 use Rattle.hered_put.proofs.types.put_indices.Goals as goal
 

@@ -6,7 +6,7 @@ use Rattle.hered_put.specs.Environments.{environment_of}
 use Rattle.hered_put.specs.Pieces.{in_front}
 use Rattle.hered_put.specs.TypePieces.{type_of, kind_of}
 use Rattle.hered_put.proofs.Answered.{erred, fails-through}
-use Rattle.hered_put.proofs.Pieces.{one_more, in_front-untyped, in_front-too_far, in_front-more, pushed}
+use Rattle.hered_put.proofs.TuplePieces.{one_more, in_front-untyped, in_front-too_far, in_front-more, pushed}
 use Rattle.hered_put.proofs.TypePieces.{kind-next}
 use Rattle.hered_put.proofs.types.put_kind_args.Goals as goal
 

@@ -1,10 +1,11 @@
 -- What is done of a list is what becomes of its front; an expression is done from its end. A part has more to do than its own parts.
-use Rattle.std.proofs.Common.{◌≡◌, ◌≤◌, drop, take, length, map}
+use Rattle.std.proofs.Common.{◌≤◌, drop, take, length, map}
 use Rattle.clf_syntax.specs.declared.tree.Expr.{out-Expr}
 use Rattle.clf_syntax.specs.Tree.{head_alone, spine_on, steps_on, done, tuple_of}
 use Rattle.clf_syntax.specs.Plain.{plain_elim, plain_step, plain_entry}
 use Rattle.metavars.specs.Becoming as becoming
-use Rattle.metavars.specs.Outcomes.{BecomesOutcome, plain_rest}
+use Rattle.metavars.specs.Outcomes.{BecomesOutcome}
+use Rattle.hered_put.specs.Outcomes.{plain_rest}
 use Rattle.metavars.proofs.Measure.{left}
 use Rattle.metavars.proofs.instantiate.+put.Given as goal
 

@@ -5,7 +5,8 @@ use Rattle.clf_syntax.specs.Plain.{plain_expr, plain_obj}
 use Rattle.clf_syntax.specs.PlainTypes.{plain_tele, plain_ty}
 use Rattle.clf_sig.specs.Signature.{plain_signature}
 use Rattle.clf_printer.specs.Depth.{scope_depth, type_depth}
-use Rattle.run_printer.specs.Runs.{run_object, run_type, judgment}
+use Rattle.clf_printer.specs.Judgment.{judgment_text}
+use Rattle.run_printer.specs.Runs.{run_object, run_type}
 use Rattle.run_printer.proofs.Binding.{whole}
 use Rattle.run_printer.proofs.text.run_text.Goals as goal
 
@@ -19,8 +20,8 @@ pub returns-clause-text : goal.returns-clause-text
 returns-clause-text c =
     let sig = plain_signature c.args.sig.now in
     let a = run_type (plain_tele c.args.start.now) (plain_tele c.args.finish.now) in
-    subst (λ (n : PlainObject). IfOk c.judgment-text.result (λ text. text.items ≡ judgment sig n a)) (object c)
-    (subst (λ (x : PlainType). IfOk c.judgment-text.result (λ text. text.items ≡ judgment sig (plain_obj c.in_ok-obj.obj) x)) (type c) c.judgment-text.ensures.text)
+    subst (λ (n : PlainObject). IfOk c.judgment-text.result (λ text. text.items ≡ judgment_text sig n a)) (object c)
+    (subst (λ (x : PlainType). IfOk c.judgment-text.result (λ text. text.items ≡ judgment_text sig (plain_obj c.in_ok-obj.obj) x)) (type c) c.judgment-text.ensures.text)
 
 pub returns-clause-object_depth : goal.returns-clause-object_depth
 returns-clause-object_depth c = subst (λ (n : PlainObject). OnOk c.judgment-text.result (scope_depth n < 2 ^ 64)) (object c) c.judgment-text.ensures.object_depth

@@ -4,7 +4,6 @@ use Rattle.clf_syntax.specs.Plain.{plain_step}
 use Rattle.clf_syntax.specs.PlainTypes.{plain_tele, plain_ty, plain-Monad}
 use Rattle.clf_syntax.specs.TypeTree.{monad}
 use Rattle.clf_sig.specs.Signature.{plain_signature}
-use Rattle.use_contexts.specs.Marks.{context, marks}
 use Rattle.clf_rules.specs.Refusal.{not_monad}
 use Rattle.clf_kernel.specs.Answers.{plain_left}
 use Rattle.trace_runs.specs.Refused.{at_no_monad}
@@ -22,18 +21,18 @@ returns-in_err-ty c =
       exact = right-side-refused sig (plain_step c.args.step.now) s c.in_err-ty.field-0.0 (at-right-side sig c.args.step.now s (Err c.in_err-ty.field-0.0) c.in_err-ty.ensures.exact);
     })
 
-pub returns-in_err-fit-in-Monad : goal.returns-in_err-fit-in-Monad
-returns-in_err-fit-in-Monad c =
+pub returns-in_err-check_pattern-in-Monad : goal.returns-in_err-check_pattern-in-Monad
+returns-in_err-check_pattern-in-Monad c =
     let sig = plain_signature c.args.sig.now in
     let s = plain_state c.args.state in
     let x = plain_step c.args.step.now in
     let u = plain_tele c.in-Monad.tele in
     let left = plain_left c.in_ok-ty.field-0.left in
     let found = at-type sig c.args.step.now s (plain_ty c.in_ok-ty.field-0.ty) (monad u) left c.in_ok-ty.ensures.exact (ap plain_ty c.in-Monad.is ∙ plain-Monad c.in-Monad.tele) in
-    let p = err_from_is_err_and c.from_residual-in_err-fit-in-Monad.result c.from_residual-in_err-fit-in-Monad.ensures.1 in
+    let p = err_from_is_err_and c.from_residual-in_err-check_pattern-in-Monad.result c.from_residual-in_err-check_pattern-in-Monad.ensures.1 in
     rw (p.1, p.2) (record {
-      exact = pattern-is-refused sig x s u (may-have sig x s (monad u) left found) c.in_err-fit-in-Monad.field-0.0
-          (at-modes sig c.args.step.now s c.as_slice.result.now u (Err c.in_err-fit-in-Monad.field-0.0) c.as_slice.ensures c.in_err-fit-in-Monad.ensures);
+      exact = pattern-is-refused sig x s u (may-have sig x s (monad u) left found) c.in_err-check_pattern-in-Monad.field-0.0
+          (at-modes sig c.args.step.now s c.as_slice.result.now u (Err c.in_err-check_pattern-in-Monad.field-0.0) c.as_slice.ensures c.in_err-check_pattern-in-Monad.ensures.exact);
     })
 
 pub returns-in_ok-entered-in-Monad : goal.returns-in_ok-entered-in-Monad
@@ -44,7 +43,7 @@ returns-in_ok-entered-in-Monad c =
     let u = plain_tele c.in-Monad.tele in
     let left = plain_left c.in_ok-ty.field-0.left in
     let found = at-type sig c.args.step.now s (plain_ty c.in_ok-ty.field-0.ty) (monad u) left c.in_ok-ty.ensures.exact (ap plain_ty c.in-Monad.is ∙ plain-Monad c.in-Monad.tele) in
-    let pattern = at-modes sig c.args.step.now s c.as_slice.result.now u (Ok tt) c.as_slice.ensures c.in_ok-fit-in-Monad.ensures in
+    let pattern = at-modes sig c.args.step.now s c.as_slice.result.now u (Ok tt) c.as_slice.ensures c.in_ok-check_pattern-in-Monad.ensures.exact in
     record {
       exact = subst (λ (a : PlainState). TakesStep sig x.0 x.1 s a) (sym c.in_ok-entered-in-Monad.ensures.state) (step-of sig x.0 x.1 s u left c.requires.starts.marked found (fits x.0 u pattern));
     }

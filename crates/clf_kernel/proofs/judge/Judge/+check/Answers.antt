@@ -1,4 +1,4 @@
-use Rattle.std.proofs.Common.{◌≡◌, ◌<◌, ◌^◌, ◌+◌, ◌-◌, [], ◌∷◌, ◌++◌, suc, true, length, map, drop, get_or, ap, sym, subst, refl, ◌∙◌, Result, Ok, Err, OnOk, arith, add-one}
+use Rattle.std.proofs.Common.{◌≡◌, ◌+◌, ◌-◌, [], ◌∷◌, ◌++◌, suc, true, length, map, drop, get_or, ap, sym, subst, refl, ◌∙◌, Result, Ok, Err, OnOk, arith, add-one}
 use Rattle.std.proofs.lemmas.List.{drop_all, length_push}
 use Rattle.std.proofs.lemmas.Result.{err_from_is_err_and}
 use Rattle.clf_syntax.specs.declared.tree.Step.{out-Step}
@@ -47,15 +47,10 @@ on_ok : {X E P : Type 0} (r : Result X E) → P → OnOk r P
 on_ok (Ok x) p = p
 on_ok (Err e) p = tt
 
-pub check_body-close_scope-requires-clause-marked : goal.check_body-close_scope-requires-clause-marked
-check_body-close_scope-requires-clause-marked t c =
+pub check_body-close_scope-requires : goal.check_body-close_scope-requires
+check_body-close_scope-requires t c =
     let k = left_scope c.args.self.now c.enter.new.self c.check_part.new.self c.leave.new.self c.in_ok-inner.ensures.entry c.in_ok-left.ensures.kept c.leave.ensures in
-    c.in_ok-left.ensures.marked ∙ ap length c.in_ok-inner.ensures.context ∙ ap (λ x. suc (length (context_of x))) (sym k)
-
-pub check_body-close_scope-requires-clause-numbered : goal.check_body-close_scope-requires-clause-numbered
-check_body-close_scope-requires-clause-numbered t c =
-    let k = left_scope c.args.self.now c.enter.new.self c.check_part.new.self c.leave.new.self c.in_ok-inner.ensures.entry c.in_ok-left.ensures.kept c.leave.ensures in
-    subst (λ n. n < 2 ^ 32) (ap length c.in_ok-inner.ensures.context ∙ ap (λ x. suc (length (context_of x))) (sym k)) c.in_ok-inner.ensures.numbered
+    record { marked = c.in_ok-left.ensures.marked ∙ ap length c.in_ok-inner.ensures.context ∙ ap (λ x. suc (length (context_of x))) (sym k) }
 
 pub check_body-returns-clause-outcome : goal.check_body-returns-clause-outcome
 check_body-returns-clause-outcome t c =
@@ -131,14 +126,20 @@ check_expression-returns-clause-outcome t c =
     let w = c.in_ok-trail.ensures.width in
     let n = c.len-older.ensures in
     let k = c.len.ensures in
+    let m = c.in_ok-left.ensures.marked ∙ w ∙ ap (λ os. opened_width (opened_by os) + length (context_of c.args.self.now)) (sym c.as_slice-2.ensures) in
     subst (λ w. Gives plain_left w c.close_steps.result)
     (sym (expression_closed hereditary (signature_of c.args.self.now) c.args.expr.now c.as_slice.result.now c.as_slice.ensures c.as_slice-entries.result.now c.as_slice-entries.ensures
     (context_of c.args.self.now) (context_of c.open_steps.new.self) (marks c.args.row) (marks c.in_ok-trail.trail.row) c.in_ok-trail.trail.opened c.in_ok-types.types (plain_tele c.args.tele.now)
-    (c.len.result - c.len-older.result) c.len-steps.result c.len-older.result c.in_ok-trail.ensures.outcome c.in_ok-types.ensures.raised (omega (arith, w, n, k)) (c.len-steps.ensures ∙ sym (ap length c.as_slice.ensures)) n
-    ∙ ap (closed_steps c.len-older.result ds)
+    (c.len.result - c.len-older.result) c.len-steps.result (length (context_of c.args.self.now)) c.in_ok-trail.ensures.outcome c.in_ok-types.ensures.raised (omega (arith, w, n, k)) (c.len-steps.ensures ∙ sym (ap length c.as_slice.ensures)) refl
+    ∙ ap (closed_steps (length (context_of c.args.self.now)) ds)
     (subst (λ s. checked_tuple hereditary s (context_of c.open_steps.new.self) (marks c.in_ok-trail.trail.row) c.len-steps.result 0 (tuple_of (map plain_entry c.as_slice-entries.result.now)) (telescope_of (map plain_tele_entry (out-Tele c.in_ok-types.types).entries)) ≡ passed (plain_left c.in_ok-left.left))
     (same_signature c.args.self.now c.open_steps.new.self c.in_ok-trail.ensures.grown) c.in_ok-left.ensures.outcome)))
-    (subst (λ os. Gives plain_left (closed_steps c.len-older.result (opened_by os) (passed (plain_left c.in_ok-left.left))) c.close_steps.result) c.as_slice-2.ensures c.close_steps.ensures.outcome)
+    (subst (λ os. Gives plain_left (closed_steps (length (context_of c.args.self.now)) (opened_by os) (passed (plain_left c.in_ok-left.left))) c.close_steps.result) c.as_slice-2.ensures (c.close_steps.ensures.outcome (length (context_of c.args.self.now)) m))
+
+pub check_expression-returns-clause-marked : goal.check_expression-returns-clause-marked
+check_expression-returns-clause-marked t c =
+    c.close_steps.ensures.marked (length (context_of c.args.self.now))
+    (c.in_ok-left.ensures.marked ∙ c.in_ok-trail.ensures.width ∙ ap (λ os. opened_width (opened_by os) + length (context_of c.args.self.now)) (sym c.as_slice-2.ensures))
 
 pub check_expression-returns-clause-kept : goal.check_expression-returns-clause-kept
 check_expression-returns-clause-kept t c =
@@ -250,7 +251,6 @@ open_steps-loop-step-init t c =
       not_grown c.args.self.now,
       (let w = ap (λ os. opened_width (opened_by os)) c.new-opened.ensures in omega (arith, w)),
       c.requires.marked,
-      c.requires.numbered,
       (λ u s. none_opened hereditary (signature_of c.args.self.now) c.new-opened.result c.new-opened.ensures (context_of c.args.self.now) (marks c.args.row) (length (context_of c.args.self.now)) (steps_on (map plain_step c.args.steps.now) (done u)) s),
     )
 
@@ -260,7 +260,7 @@ open_steps-returns-in_err-entered-clause-outcome t c =
     let p = err_from_is_err_and c.from_residual.result c.from_residual.ensures.1 in
     let e : c.from_residual.result ≡ Err c.in_err-entered.field-0.0 = cc (p.1, p.2) in
     subst (λ r. OpensSteps hereditary (signature_of c.args.self.now) (map plain_step c.args.steps.now) (context_of c.args.self.now) (marks c.args.row) (context_of c.open_step.new.self) r) (sym e)
-    (λ u s. subst (λ w. Stops w c.in_err-entered.field-0.0) (sym (v.6 u s))
+    (λ u s. subst (λ w. Stops w c.in_err-entered.field-0.0) (sym (v.5 u s))
     (open_stops hereditary (signature_of c.args.self.now) c.args.steps.now c.loop-step.step-index c.step-item.result (omega (arith, c.loop-step-test.true)) c.step-item.is (context_of c.loop-step.self) (marks c.loop-step.row) (length (context_of c.args.self.now)) c.loop-step.opened c.in_err-entered.field-0.0
     (subst (λ n. (x : PlainExpression) (s : PlainTelescope) → Stops (checked_expression hereditary (signature_of c.args.self.now) (context_of c.loop-step.self) (marks c.loop-step.row) n (steps_on (plain_step c.step-item.result ∷ []) x) s) c.in_err-entered.field-0.0) v.0
     (subst (λ sg. (x : PlainExpression) (s : PlainTelescope) → Stops (checked_expression hereditary sg (context_of c.loop-step.self) (marks c.loop-step.row) c.loop-step.place (steps_on (plain_step c.step-item.result ∷ []) x) s) c.in_err-entered.field-0.0)
@@ -287,9 +287,8 @@ open_steps-loop-step-preserved t c =
       grown_again c.args.self.now c.loop-step.self c.open_step.new.self v.2 c.in_ok-entered.ensures.grown,
       omega (arith, w, k, m, j),
       c.in_ok-entered.ensures.marked,
-      c.in_ok-entered.ensures.numbered,
       (λ u s.
-          v.6 u s
+          v.5 u s
           ∙ open_more hereditary (signature_of c.args.self.now) c.args.steps.now c.loop-step.step-index c.step-item.result (omega (arith, c.loop-step-test.true)) c.step-item.is (context_of c.loop-step.self) (context_of c.open_step.new.self) (marks c.loop-step.row) (marks c.in_ok-entered.entered.row)
           (length (context_of c.args.self.now)) os o v.1 v.3 c.in_ok-entered.ensures.outcome.0 x u s
           ∙ ap (λ n. closed_steps (length (context_of c.args.self.now)) (opened_by (os ++ o ∷ [])) (checked_expression hereditary (signature_of c.args.self.now) (context_of c.open_step.new.self) (marks c.in_ok-entered.entered.row) n (steps_on (map plain_step (drop n c.args.steps.now)) (done u)) (ren_telescope (up (opened_width (opened_by (os ++ o ∷ [])))) s))) (sym (add-one c.loop-step.step-index))

@@ -23,7 +23,7 @@ form_telescope-returns-in_err-form_entry-clause-formed t c =
     let p = err_from_is_err_and c.from_residual.result c.from_residual.ensures.1 in
     let e : c.from_residual.result ≡ Err c.in_err-form_entry.field-0.0 = cc (p.1, p.2) in
     subst (λ r. Gives (λ x. x) (telescope_formed hereditary (signature_of c.args.self.now) (context_of c.args.self.now) 0 (telescope_of (map plain_tele_entry c.args.entries.now))) r) (sym e)
-    (subst (λ w. Stops w c.in_err-form_entry.field-0.0) (sym v.3)
+    (subst (λ w. Stops w c.in_err-form_entry.field-0.0) (sym v.2)
     (entries_stop hereditary (signature_of c.args.self.now) c.args.entries.now c.loop-entry.entry-index c.entry-item.result (omega (arith, c.loop-entry-test.true)) c.entry-item.is (context_of c.loop-entry.self) c.in_err-form_entry.field-0.0 o))
 
 pub form_telescope-loop-entry-preserved : goal.form_telescope-loop-entry-preserved
@@ -34,8 +34,7 @@ form_telescope-loop-entry-preserved t c =
     (subst (λ s. at_part c.loop-entry.place (type_formed hereditary s (context_of c.loop-entry.self) (plain_ty (out-TeleEntry c.entry-item.result).ty)) ≡ passed tt) (same_signature c.args.self.now c.loop-entry.self v.1) c.in_ok-form_entry.ensures.formed) in (
       ap (λ n. n + 1) v.0,
       grown_again c.args.self.now c.loop-entry.self c.form_entry.new.self v.1 (grown_by_one c.loop-entry.self c.form_entry.new.self n),
-      c.in_ok-form_entry.ensures.numbered,
-      v.3 ∙ entries_more hereditary (signature_of c.args.self.now) c.args.entries.now c.loop-entry.entry-index c.entry-item.result (omega (arith, c.loop-entry-test.true)) c.entry-item.is (context_of c.loop-entry.self) (context_of c.form_entry.new.self) o c.in_ok-form_entry.ensures.context,
+      v.2 ∙ entries_more hereditary (signature_of c.args.self.now) c.args.entries.now c.loop-entry.entry-index c.entry-item.result (omega (arith, c.loop-entry-test.true)) c.entry-item.is (context_of c.loop-entry.self) (context_of c.form_entry.new.self) o c.in_ok-form_entry.ensures.context,
     )
 
 pub form_type-returns-in_ok-form_part-in-Fun-clause-kept : goal.form_type-returns-in_ok-form_part-in-Fun-clause-kept

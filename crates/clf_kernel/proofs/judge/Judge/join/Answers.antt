@@ -4,10 +4,10 @@ use Rattle.clf_kernel.proofs.RowSteps.{difference_within, length_in_both}
 use Rattle.clf_kernel.specs.Judge.{context_of}
 use Rattle.clf_kernel.proofs.judge.Judge.join.Goals as goal
 
-pub level-requires-clause-there : goal.level-requires-clause-there
-level-requires-clause-there c =
+pub level-requires : goal.level-requires
+level-requires c =
     let l = difference_within (context_of c.args.self.now) (marks c.args.first.row) c.args.first.slack (marks c.args.second.row) c.args.second.slack _ c.in-Err.ensures.differ in
-    omega (arith, l)
+    record { there = omega (arith, l) }
 
 pub returns-in-Ok-clause-marked : goal.returns-in-Ok-clause-marked
 returns-in-Ok-clause-marked c =

@@ -1,5 +1,5 @@
 -- The tables tell the front of the list that they told.
-use Rattle.std.proofs.Common.{◌≤◌, length}
+use Rattle.std.proofs.Common.{length}
 use Rattle.metavars.proofs.TablesLaws.{IsFront}
 use Rattle.metavars.proofs.tables.Tables.cut.Given as goal
 

@@ -1,0 +1,10 @@
+pub mod Spines
+pub mod Candidates
+pub mod LongForms
+pub mod Growing
+pub mod Arguments
+pub mod Located
+pub mod Told
+pub mod Meeting
+pub mod Arranged
+pub mod InScope

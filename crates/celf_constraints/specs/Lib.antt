@@ -1,0 +1,16 @@
+pub use Rattle.clf_syntax.specs.Tree
+pub use Rattle.clf_syntax.specs.TypeTree
+pub use Rattle.clf_syntax.specs.Simple
+pub use Rattle.clf_syntax.specs.Plain
+pub use Rattle.clf_syntax.specs.PlainSimple
+pub use Rattle.eta_laws.specs.Eta
+pub use Rattle.store_laws.specs.Mentions
+pub use Rattle.pattern_laws.specs.Equations
+pub use Rattle.pattern_laws.specs.Patterns
+pub mod Equated
+pub mod Woken
+pub mod Parts
+pub mod Candidate
+pub mod Reading
+pub mod Read
+pub mod Ended

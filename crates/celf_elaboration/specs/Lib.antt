@@ -1,0 +1,11 @@
+pub use Rattle.clf_sig.specs.Core
+pub use Rattle.celf_sugar.specs.PlainTree
+pub use Rattle.gathering.specs.Gather
+pub mod Fillings
+pub mod Names
+pub mod Readings
+pub mod Items
+pub mod Declarations
+pub mod Directives
+pub mod Binders
+pub mod Laws

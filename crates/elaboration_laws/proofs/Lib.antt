@@ -1,0 +1,3 @@
+pub mod General
+pub mod Composites
+pub mod InFronts

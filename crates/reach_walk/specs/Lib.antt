@@ -1,0 +1,11 @@
+pub use Rattle.pattern_laws.specs.Instantiations
+pub use Rattle.pattern_laws.specs.Equations
+pub use Rattle.pattern_laws.specs.Patterns
+pub use Rattle.reach_laws.specs.Reach
+pub mod Somewhere
+pub mod Answers
+pub mod Premises
+pub mod Marks
+pub mod Fits
+pub mod Walked
+pub mod Laws

@@ -1,0 +1,153 @@
+-- The work of unification begins, goes on with each step, and ends.
+use Rattle.std.specs.Prelude.{◌≡◌, List, [], ◌∷◌, ◌++◌, length, None, refl}
+use Rattle.std.proofs.Common.{ap, sym, subst, ◌∙◌, inl, inr, ⊎_elim}
+use Rattle.std.specs.List.{slice_get}
+use Rattle.clf_syntax.specs.declared.tree.Head.TheVariants.{Meta}
+use Rattle.clf_syntax.specs.Tree.{PlainObject, atomic, head_alone}
+use Rattle.clf_syntax.specs.TypeTree.{SimpleType}
+use Rattle.subst_laws.specs.Environments.{Instantiation}
+use Rattle.store_laws.specs.Additions.{Addition, new, meta_types, given, set}
+use Rattle.store_laws.specs.PutIn.{IsClosed}
+use Rattle.pattern_laws.specs.Instantiations.{Types}
+use Rattle.pattern_laws.specs.Equations.{Equation, Listed}
+use Rattle.pattern_laws.specs.Patterns.{on, lams, arrows, masked}
+use Rattle.unify_laws.specs.Problems.{Problem, Grows, WellTyped}
+use Rattle.unify_laws.proofs.Preserved.{progress_start, grows_new}
+use Rattle.unify_laws.proofs.Steps.{none_back}
+use Rattle.reach_laws.specs.Rest.{part_itself, EachUnder}
+use Rattle.reach_laws.specs.Unified.{OnlyAdds}
+use Rattle.reach_laws.proofs.Tight.{tight}
+use Rattle.answer_laws.proofs.InTurn.{listed_back}
+use Rattle.solver_laws.specs.Solving.{Solving, InHand, problem_of, Ready, ArePutIn, Working}
+use Rattle.solver_laws.specs.Steps.{assigned_more, narrowed_more}
+use Rattle.solver_laws.specs.Laws.{MayNarrow, WorkStarts, WorkBegins, WorkAssigns, WorkNarrows, WorkReduces, WorkEnds, WorkClashes}
+use Rattle.solver_laws.proofs.Grown.{some_none}
+use Rattle.solver_laws.proofs.Hands.{solving_gives, hand_open, hand_follows, part_in_hand, hand_moves}
+use Rattle.solver_laws.proofs.Taking.{problem, Goes, solving_assigns, solving_narrows}
+use Rattle.solver_laws.proofs.Stores.{types_in, types_new, types_solved, given_new, given_solved, no_type_yet, Whole, whole}
+use Rattle.solver_laws.proofs.Allowed.{gives_closed, assign_is_allowed, narrow_is_allowed}
+
+well_typed : (constants : List SimpleType) (zs : List Addition) (es : List Equation) → Ready constants zs es → WellTyped (slice_get constants) (problem_of zs es)
+well_typed constants zs es ready = (ready.typed, (whole constants zs ready.store).given_types, ready.final)
+
+pub work_starts : WorkStarts
+work_starts constants zs es ready = (
+  w.all_in,
+  record {
+    progress = progress_start (slice_get constants) (problem_of zs es) (well_typed constants zs es ready);
+    put_in = w.put_in;
+    sources = (λ m o n f. absurd (some_none n f));
+  },
+)
+  where
+    w : Whole constants zs
+    w = whole constants zs ready.store
+
+solving_closed : (constants : Types) (start now : Problem) (s : Instantiation) → Solving constants start now s → IsClosed s
+solving_closed constants start now s solving = gives_closed constants now.metas s (solving_gives constants start now s solving)
+
+pub work_begins : WorkBegins
+work_begins constants before zs es ready s solving ds put = (under, record { solving = solving; hands = hands })
+  where
+    under : EachUnder s es ds
+    under = put s solving.put_in.put_in (solving_closed (slice_get constants) (problem_of before es) (problem_of zs es) s solving)
+
+    hands : (d : Equation) → Listed d ds → InHand (slice_get constants) (problem_of before es) (problem_of zs es) s d
+    hands d l = let (e, k, u) = listed_back s d l es under in record { equation = e; after = d; listed = k; is_under = u; is_part = part_itself }
+
+pub work_reduces : WorkReduces
+work_reduces constants before zs es ws us s working f = record {
+  solving = working.solving;
+  hands = (λ e l. let (d, k, p) = f e l in part_in_hand (slice_get constants) (problem_of before es) (problem_of zs es) s working.solving d e (working.hands d k) p);
+}
+
+-- A step goes on with what is in hand.
+goes_on : (constants : List SimpleType) (before zs more : List Addition) (es ws : List Equation) (s : Instantiation) → Working constants before zs es s ws → Grows (types_in zs) (types_in more)
+    → Goes (slice_get constants) (problem_of before es) (problem_of more es) s → (us : List Equation) → ArePutIn more ws us → (v : Instantiation) × Working constants before more es v us
+goes_on constants before zs more es ws s working grows goes us put = (goes.then, record { solving = goes.solving; hands = hands })
+  where
+    under : EachUnder goes.then ws us
+    under = put goes.then goes.solving.put_in.put_in (solving_closed (slice_get constants) (problem_of before es) (problem_of more es) goes.then goes.solving)
+
+    hands : (d : Equation) → Listed d us → InHand (slice_get constants) (problem_of before es) (problem_of more es) goes.then d
+    hands d l = let (e, k, u) = listed_back goes.then d l ws under in
+        hand_moves (slice_get constants) (problem_of before es) (problem_of zs es) (problem_of more es) s goes.then working.solving goes.solving grows goes.both goes.earlier e d (working.hands e k) u
+
+same_problem : {metas more : Types} {given then : Instantiation} (es : List Equation) → metas ≡ more → given ≡ then → problem metas given es ≡ problem more then es
+same_problem es e f = rw (e, f) refl
+
+grows_same : {metas more : Types} → metas ≡ more → Grows more metas
+grows_same e m a f = ap (λ h. h m) e ∙ f
+
+pub work_assigns : WorkAssigns
+work_assigns constants before zs es ws ready s working e l m o c us put = goes_on constants before zs (assigned_more zs m o) es ws s working
+    (grows_same (types_solved zs m o))
+    (subst (λ p. Goes (slice_get constants) (problem_of before es) p s) (sym (same_problem es (types_solved zs m o) (given_solved zs m o unsolved)))
+    (solving_assigns (slice_get constants) (problem_of before es) (types_in zs) (given zs) es s working.solving e (working.hands e l) m o c)) us put
+  where
+    unsolved : given zs m ≡ None
+    unsolved = (assign_is_allowed constants zs es ready e (hand_open (slice_get constants) (problem_of before es) (problem_of zs es) s working.solving e (working.hands e l)) m o c).unsolved
+
+pub work_narrows : WorkNarrows
+work_narrows constants before zs es ws ready s working e l k mask ps c h us put = goes_on constants before zs (narrowed_more zs k mask ps c) es ws s working
+    (λ m a f. grows_same types m a (grows_new (types_in zs) (length (meta_types zs)) (arrows (masked 0 mask ps) c) (no_type_yet zs) m a f))
+    (subst (λ p. Goes (slice_get constants) (problem_of before es) p s) (sym (same_problem es types solutions))
+    (solving_narrows (slice_get constants) (problem_of before es) (types_in zs) (given zs) es s working.solving e (working.hands e l) k (length (meta_types zs)) mask ps c h (no_type_yet zs) allowed.there)) us put
+  where
+    allowed : MayNarrow constants zs k mask ps c es
+    allowed = narrow_is_allowed constants zs es ready e (hand_open (slice_get constants) (problem_of before es) (problem_of zs es) s working.solving e (working.hands e l)) k mask ps c h
+
+    solution : PlainObject
+    solution = lams ps (atomic (on (masked 0 mask ps) (head_alone (Meta (length (meta_types zs))))))
+
+    types : types_in (narrowed_more zs k mask ps c) ≡ set (length (meta_types zs)) (arrows (masked 0 mask ps) c) (types_in zs)
+    types = types_solved (zs ++ new (arrows (masked 0 mask ps) c) ∷ []) k solution ∙ types_new zs (arrows (masked 0 mask ps) c)
+
+    solutions : given (narrowed_more zs k mask ps c) ≡ set k solution (given zs)
+    solutions = given_solved (zs ++ new (arrows (masked 0 mask ps) c) ∷ []) k solution allowed.still ∙ ap (set k solution) (given_new zs (arrows (masked 0 mask ps) c))
+
+only_adds : (constants : Types) (start now : Problem) (s : Instantiation) → Solving constants start now s → OnlyAdds constants start now
+only_adds constants start now s solving = record { same = solving.progress.same; grows = solving.progress.grows; stays = solving.progress.stays; typed = solving.progress.typed }
+
+pub work_ends : WorkEnds
+work_ends constants before zs es ready s solving ds left under rest = record {
+  adds = only_adds (slice_get constants) (problem_of before es) (problem_of zs es) s solving;
+  keeps = solving.progress.keeps;
+  traced = solving.progress.traced;
+  ends = (
+    s,
+    ds,
+    record {
+      put_in = solving.put_in;
+      under = under;
+      rest = rest;
+      tight = (λ list holds. tight (slice_get constants) (problem_of before es) (problem_of zs es) (well_typed constants before es ready) solving.progress.stays solving.progress.traced s solving.put_in.put_in solving.put_in.assigns solving.progress.typed list holds);
+      sources = (λ m o n f. ⊎_elim (λ p. inl p) (λ p. inr p.from) (solving.sources m o n f));
+    },
+  );
+}
+
+pub work_clashes : WorkClashes
+work_clashes constants before zs es ws s working e p l part clash = record {
+  adds = only_adds (slice_get constants) (problem_of before es) (problem_of zs es) s working.solving;
+  none = none_back (slice_get constants) (problem_of before es) (problem_of zs es) working.solving.progress.keeps
+      (λ parameters t sol. clash.unsolved parameters t sol.0 (hand_follows (slice_get constants) (problem_of before es) (problem_of zs es) s working.solving p hand parameters t sol));
+  at = record {
+    assignment = s;
+    assigns = working.solving.put_in.assigns;
+    equation = hand.equation;
+    after = hand.after;
+    part = p;
+    listed = hand.listed;
+    is_under = hand.is_under;
+    is_part = hand.is_part;
+    no_further = clash.no_further;
+    binders = refl;
+    is_left = refl;
+    is_right = refl;
+    unsolved = clash.unsolved;
+  };
+}
+  where
+    hand : InHand (slice_get constants) (problem_of before es) (problem_of zs es) s p
+    hand = part_in_hand (slice_get constants) (problem_of before es) (problem_of zs es) s working.solving e p (working.hands e l) part

@@ -1,0 +1,9 @@
+pub use Rattle.pattern_laws.specs.Instantiations
+pub use Rattle.pattern_laws.specs.Equations
+pub use Rattle.pattern_laws.specs.Patterns
+pub use Rattle.reach_laws.specs.Rest
+pub use Rattle.reach_laws.specs.Unified
+pub mod Solving
+pub mod Steps
+pub mod Reduced
+pub mod Laws

@@ -1,9 +1,0 @@
--- The modes before this place are the same.
-use Rattle.std.proofs.Common.{◌≡◌, drop}
-use Rattle.clf_syntax.specs.declared.tree.Tele.{out-Tele}
-use Rattle.clf_decision.specs.Checking.{first_other_mode}
-use Rattle.clf_kernel.proofs.Patterns.{wanted_modes}
-use Rattle.trace_runs.proofs.step.fit.Given as goal
-
-abbrev pub invariant-loop-at : goal.invariant-loop-at
-invariant-loop-at l = first_other_mode (wanted_modes (out-Tele l.fn.tele).entries) l.fn.modes ≡ first_other_mode (wanted_modes (drop l.at (out-Tele l.fn.tele).entries)) (drop l.at l.fn.modes)
