@@ -1,15 +1,14 @@
 -- What has been noted one after the other is what a round adds.
-use Rattle.std.specs.Prelude.{ℕ, ◌≡◌, Bool, true, false, not, nat_lt, if◌then◌else◌, List, [], ◌∷◌, ◌++◌, map, Option, Some, None, refl}
+use Rattle.std.specs.Prelude.{ℕ, ◌≡◌, Bool, true, false, nat_lt, List, [], ◌∷◌, ◌++◌, map, Option, Some, None, refl}
 use Rattle.std.specs.List.{fold, filter, find, filter_map, cons_option}
 use Rattle.std.proofs.Common.{ap, sym, ◌∙◌, append-nil, append_assoc}
-use Rattle.clf_syntax.specs.Word.{same_bytes}
 use Rattle.celf_sugar.specs.Earliest.{sooner, earliest}
 use Rattle.celf_sugar.proofs.EarliestLaws.{sooner_assoc}
 use Rattle.celf_implicit.specs.declared.variable.Variable.{Variable}
 use Rattle.celf_implicit.specs.Variables.{PlainImplicit, has_name, is_among}
 use Rattle.celf_implicit.specs.Occurrences.{Occurrence}
 use Rattle.celf_implicit.specs.Rounds.{start, begins, standing, determined_by, is_open, is_other, first_of_each}
-use Rattle.celf_implicit.specs.Noting.{PlainNotes, nothing_noted, earlier, with_one, with_any, note, note_open, noted}
+use Rattle.celf_implicit.specs.Noting.{PlainNotes, nothing_noted, with_one, note, note_open, noted}
 use Rattle.celf_implicit.proofs.Names.{same_name, name_same, first_named}
 
 -- ---- the first one of a name, and the others, with one more

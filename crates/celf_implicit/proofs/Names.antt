@@ -1,7 +1,7 @@
 -- The names of variables in lists.
-use Rattle.std.specs.Prelude.{ℕ, ◌≡◌, Bool, true, false, not, ◌||◌, nat_lt, if◌then◌else◌, List, [], ◌∷◌, ◌++◌, Option, Some, None, refl}
-use Rattle.std.specs.List.{list_any, filter, find, cons_option}
-use Rattle.std.proofs.Common.{ap, sym, ◌∙◌}
+use Rattle.std.specs.Prelude.{ℕ, ◌≡◌, Bool, true, false, ◌||◌, nat_lt, if◌then◌else◌, List, [], ◌∷◌, ◌++◌, Option, Some, None, refl}
+use Rattle.std.specs.List.{filter, find}
+use Rattle.std.proofs.Common.{ap, ◌∙◌}
 use Rattle.clf_syntax.specs.Word.{same_bytes}
 use Rattle.clf_sig.proofs.Names.{same_bytes-Decides}
 use Rattle.celf_sugar.specs.Earliest.{sooner}

@@ -1,5 +1,5 @@
 -- What a round comes to, from what has been noted in it.
-use Rattle.std.specs.Prelude.{ℕ, suc, ◌≡◌, ◌<◌, true, List, [], ◌∷◌, ◌++◌, length, map, ◌⊎◌, Option, Some, None, Result, Ok, Err, refl}
+use Rattle.std.specs.Prelude.{ℕ, suc, ◌≡◌, ◌<◌, true, List, [], ◌∷◌, ◌++◌, map, ◌⊎◌, Option, Some, None, Result, refl}
 use Rattle.std.specs.List.{find}
 use Rattle.std.proofs.Common.{ap, sym, ◌∙◌, inl, inr}
 use Rattle.std.proofs.lemmas.List.{map-append}
@@ -11,7 +11,7 @@ use Rattle.celf_implicit.specs.declared.variable.Variable.{Variable}
 use Rattle.celf_implicit.specs.Variables.{PlainImplicit, has_name}
 use Rattle.celf_implicit.specs.Occurrences.{occurrences}
 use Rattle.celf_implicit.specs.Rounds.{start, begins, standing, open_occurrences, found, first_of_each, round, after_rounds, determined, undetermined}
-use Rattle.celf_implicit.specs.Answers.{plain_implicit, AreAll, IsOutcome, unless_left}
+use Rattle.celf_implicit.specs.Answers.{plain_implicit, IsOutcome, unless_left}
 use Rattle.celf_implicit.specs.Noting.{PlainNotes, nothing_noted, noted}
 use Rattle.celf_implicit.proofs.Names.{first_named}
 use Rattle.celf_implicit.proofs.Firsts.{noted_firsts, noted_first}

@@ -1,5 +1,5 @@
 -- A variable among those that are noted, in place of a later occurrence of it, or at the end.
-use Rattle.std.specs.Prelude.{ℕ, zero, suc, ◌≡◌, ◌<◌, Bool, true, false, ◌||◌, nat_lt, if◌then◌else◌, List, [], ◌∷◌, ◌++◌, map, length, take, get_or, Option, Some, None, refl}
+use Rattle.std.specs.Prelude.{ℕ, zero, suc, ◌≡◌, ◌<◌, Bool, true, false, ◌||◌, nat_lt, List, [], ◌∷◌, ◌++◌, map, length, take, get_or, Some, None, refl}
 use Rattle.std.specs.List.{slice_set}
 use Rattle.std.proofs.Common.{ap, sym, ◌∙◌, arith, ltb-true, lt-ltb}
 use Rattle.celf_implicit.specs.declared.variable.Implicit.{Implicit}

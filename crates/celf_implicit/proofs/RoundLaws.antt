@@ -1,6 +1,6 @@
 -- The rounds come to the least closed set.
-use Rattle.std.specs.Prelude.{ℕ, zero, suc, ◌+◌, ◌-◌, ◌≡◌, ◌<◌, Bool, true, false, not, ◌||◌, ◌⊎◌, if◌then◌else◌, List, [], ◌∷◌, ◌++◌, length, map, Option, Some, None, is_some, refl}
-use Rattle.std.specs.List.{list_any, filter, filter_map, cons_option, AllZip}
+use Rattle.std.specs.Prelude.{ℕ, zero, suc, ◌+◌, ◌-◌, ◌≡◌, ◌<◌, Bool, true, false, not, ◌||◌, ◌⊎◌, if◌then◌else◌, List, [], ◌∷◌, length, map, Option, Some, None, is_some, refl}
+use Rattle.std.specs.List.{list_any, filter, filter_map, AllZip}
 use Rattle.std.proofs.Common.{◌≤◌, ap, sym, ◌∙◌, arith, append-nil, inl, inr}
 use Rattle.clf_syntax.specs.Word.{same_bytes}
 use Rattle.clf_sig.specs.Entry.{PlainSignature}

@@ -1,7 +1,7 @@
 -- Binders of the same names: the same names are those of implicit variables, and the same occurrences are at distinct locals.
-use Rattle.std.specs.Prelude.{ℕ, ◌+◌, ◌≡◌, Bool, true, false, not, ◌==◌, ◌&&◌, ◌||◌, if◌then◌else◌, List, [], ◌∷◌, map, Option, Some, None, is_some, is_none, option_map, option_and_then, refl}
+use Rattle.std.specs.Prelude.{ℕ, ◌+◌, ◌≡◌, Bool, true, false, if◌then◌else◌, List, [], ◌∷◌, map, Option, Some, None, is_some, is_none, option_map, option_and_then, refl}
 use Rattle.std.specs.List.{list_any}
-use Rattle.std.proofs.Common.{ap, sym, ◌∙◌}
+use Rattle.std.proofs.Common.{sym, ◌∙◌}
 use Rattle.clf_syntax.specs.declared.tree.Head.{Head}
 use Rattle.clf_syntax.specs.declared.tree.Head.TheVariants.{Var}
 use Rattle.clf_syntax.specs.declared.tree.Mode.{Mode}
@@ -12,14 +12,12 @@ use Rattle.celf_sugar.specs.declared.plain.PName.{PName}
 use Rattle.celf_sugar.specs.declared.plain.PBinder.{PBinder}
 use Rattle.celf_sugar.specs.PlainTree as plain
 use Rattle.celf_sugar.specs.PlainTree.{DesugaredSpine, DesugaredAct, DesugaredType}
-use Rattle.celf_names.specs.Names.{constant_named, begins_with_capital}
 use Rattle.celf_places.specs.Combined.{combined}
 use Rattle.celf_places.specs.Places.{marked, next_part}
 use Rattle.celf_places.specs.Heads.{Local, Typed, is_named, local_from}
-use Rattle.celf_places.specs.SimpleTypes.{local_of}
 use Rattle.celf_implicit.specs.Scopes.{Binders, bind, bind_pattern}
 use Rattle.celf_implicit.specs.Variables.{is_variable}
-use Rattle.celf_implicit.specs.Occurrences.{AppliedLocal, number_of, applied_local, local_named, local_argument, locals_applied_to, has_number, are_distinct, where_distinct, distinct_locals}
+use Rattle.celf_implicit.specs.Occurrences.{AppliedLocal, applied_local, local_argument, locals_applied_to, has_number, are_distinct, where_distinct, distinct_locals}
 
 abbrev pub name_of : Local → Option (List ℕ)
 name_of l = l.0

@@ -1,10 +1,8 @@
 -- Spines of some acts, and pairs.
-use Rattle.std.specs.Prelude.{ℕ, ◌≡◌, List, [], ◌∷◌, map, None, refl}
-use Rattle.std.proofs.Common.{ap}
+use Rattle.std.specs.Prelude.{◌≡◌, List, [], ◌∷◌, map, None, refl}
 use Rattle.celf_surface.specs.declared.surface.SMode.{SMode}
 use Rattle.celf_surface.specs.declared.surface.Span.{Span}
 use Rattle.celf_sugar.specs.declared.plain.PName.{PName}
-use Rattle.celf_sugar.specs.declared.plain.PElim.{PElim}
 use Rattle.celf_sugar.specs.PlainTree.{DesugaredAct, atomic, spine_of}
 use Rattle.celf_implicit.specs.Scopes.{Binders}
 use Rattle.celf_implicit.specs.Occurrences.{local_named}

@@ -1,5 +1,5 @@
 -- Over more variables the same occurrences stand in an item, and at least as many of them are checked.
-use Rattle.std.specs.Prelude.{ℕ, ◌≡◌, Bool, true, false, not, ◌&&◌, if◌then◌else◌, List, [], ◌∷◌, ◌++◌, Option, Some, None, is_some, refl}
+use Rattle.std.specs.Prelude.{ℕ, ◌≡◌, Bool, true, false, not, ◌&&◌, if◌then◌else◌, List, [], ◌∷◌, ◌++◌, Option, None, is_some, refl}
 use Rattle.std.specs.List.{AllZip}
 use Rattle.clf_syntax.specs.declared.tree.Mode.{Mode}
 use Rattle.clf_syntax.specs.TypeTree.{SimpleType}
@@ -12,7 +12,7 @@ use Rattle.celf_names.specs.Names.{family_named}
 use Rattle.celf_places.specs.Places.{Place, marked, function_parts, pair_parts, entries_at, next_part, behind_act, behind_spine}
 use Rattle.celf_places.specs.Heads.{Local}
 use Rattle.celf_places.specs.SimpleTypes.{simple_type, local_of}
-use Rattle.celf_implicit.specs.Scopes.{Binders, Scope, outermost, under, bind_pattern}
+use Rattle.celf_implicit.specs.Scopes.{Scope, outermost, under}
 use Rattle.celf_implicit.specs.Variables.{PlainImplicit, is_variable, is_among, head_place}
 use Rattle.celf_implicit.specs.Occurrences.{AppliedLocal, Occurrence, distinct_locals, written_parts, inside, at_head, after_step, after_steps, in_object, in_spine, in_act, in_steps, in_tuple, in_indices, in_type, in_telescope, in_class, occurrences}
 use Rattle.celf_implicit.proofs.SameNames.{name_of, SameNames, same_variable, same_distinct, same_bound, same_bound_pattern}
@@ -39,7 +39,6 @@ still_checked false d v x y f g h = absurd (cc)
 still_checked true d false x y f g h = rw (f refl) refl
 still_checked true d true true y f g h = rw (f refl, g refl) refl
 still_checked true d true false y f g h = absurd (cc)
-
 
 module _ (sig : PlainSignature) (xs ys : List PlainImplicit) (more : (n : List ℕ) → is_among xs n ≡ true → is_among ys n ≡ true) where
   around_inside : (s t : Scope) (n : PName) → Around s t → Around (inside sig xs s n) (inside sig ys t n)

@@ -23,7 +23,7 @@ use Rattle.celf_implicit.specs.declared.applied.AppliedLocal.{AppliedLocal as De
 use Rattle.celf_implicit.specs.Scopes.{Binders, Scope, under}
 use Rattle.celf_implicit.specs.Variables.{PlainImplicit, has_name, is_among, head_place}
 use Rattle.celf_implicit.specs.Occurrences.{AppliedLocal, applied_local, local_argument, locals_applied_to, Occurrence, inside, at_head, after_step, after_steps, in_object, in_spine, in_act, in_steps, in_tuple, in_indices, in_type, in_telescope}
-use Rattle.celf_implicit.specs.Rounds.{start, begins, standing, argument_of, from_locals, determined_by}
+use Rattle.celf_implicit.specs.Rounds.{begins, standing, argument_of, from_locals, determined_by}
 use Rattle.celf_implicit.specs.Answers.{plain_implicit}
 
 -- the variables that a round determines so far, and the first one that is not among those before it

@@ -1,6 +1,6 @@
 -- The occurrences of implicit variables in an item, over variables that are determined: each with what is wanted of it, what it is
 -- applied to, and whether it is checked.
-use Rattle.std.specs.Prelude.{ℕ, Bool, true, false, not, ◌==◌, ◌&&◌, if◌then◌else◌, List, [], ◌∷◌, ◌++◌, drop, get_or, Option, Some, None, option_map, option_and_then}
+use Rattle.std.specs.Prelude.{ℕ, Bool, true, not, ◌==◌, ◌&&◌, if◌then◌else◌, List, [], ◌∷◌, ◌++◌, drop, get_or, Option, Some, None, option_map, option_and_then}
 use Rattle.std.specs.List.{list_any}
 use Rattle.clf_syntax.specs.declared.tree.Mode.{Mode}
 use Rattle.clf_syntax.specs.declared.tree.Mode.TheVariants.{Linear}
@@ -15,7 +15,7 @@ use Rattle.celf_sugar.specs.PlainTree.{DesugaredObject, lam, pair, unit, monadic
 use Rattle.celf_names.specs.Names.{family_named}
 use Rattle.celf_places.specs.Combined.{combined}
 use Rattle.celf_places.specs.Places.{Place, marked, function_parts, pair_parts, entries_at, next_part, behind_act, behind_spine}
-use Rattle.celf_places.specs.Heads.{Local, Typed, local_from, arguments_of}
+use Rattle.celf_places.specs.Heads.{Typed, local_from, arguments_of}
 use Rattle.celf_places.specs.SimpleTypes.{simple_type, local_of}
 use Rattle.celf_implicit.specs.Scopes.{Binders, Scope, outermost, under, bind_pattern}
 use Rattle.celf_implicit.specs.Variables.{PlainImplicit, is_variable, is_open_name, head_place, left_out}

@@ -1,6 +1,6 @@
 -- Implicit variables are determined in rounds. In a round each variable is determined of which some checked occurrence is at distinct locals;
 -- what is checked is read with the variables of the earlier rounds alone.
-use Rattle.std.specs.Prelude.{ℕ, zero, suc, Bool, not, ◌≡◌, if◌then◌else◌, List, [], ◌∷◌, ◌++◌, length, map, Option, Some, None, Result, Ok, Err}
+use Rattle.std.specs.Prelude.{ℕ, zero, suc, Bool, not, if◌then◌else◌, List, [], ◌∷◌, ◌++◌, length, map, Option, Some, None}
 use Rattle.std.specs.List.{filter, find, filter_map, cons_option}
 use Rattle.clf_syntax.specs.TypeTree.{arrow}
 use Rattle.clf_sig.specs.Entry.{PlainSignature}

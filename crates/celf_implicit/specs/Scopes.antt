@@ -1,5 +1,5 @@
 -- Where a part of an item stands: the local binders around it, and whether what stands there is checked.
-use Rattle.std.specs.Prelude.{ℕ, Bool, true, List, [], ◌∷◌}
+use Rattle.std.specs.Prelude.{Bool, true, List, [], ◌∷◌}
 use Rattle.clf_syntax.specs.declared.tree.Mode.{Mode}
 use Rattle.clf_syntax.specs.TypeTree.{SimpleType}
 use Rattle.celf_sugar.specs.declared.plain.PBinder.{PBinder}

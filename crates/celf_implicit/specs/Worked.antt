@@ -1,19 +1,17 @@
 -- Some items with their implicit variables, worked out by hand, over these entries, by their places:
 --   0 nat : type.  1 z : nat.  2 s : nat -> nat.  3 p : nat -> type.  4 f : (nat -> nat) -> type.  5 q : ((nat -> nat) -> nat) -> type.
-use Rattle.std.specs.Prelude.{ℕ, ◌≡◌, false, List, [], ◌∷◌, map, Option, None, Some, codes}
+use Rattle.std.specs.Prelude.{ℕ, ◌≡◌, false, List, [], ◌∷◌, map, None, Some, codes}
 use Rattle.clf_syntax.specs.declared.tree.Mode.{Mode}
 use Rattle.clf_syntax.specs.declared.tree.Mode.TheVariants.{Persistent, Affine, Linear}
 use Rattle.clf_syntax.specs.TypeTree as core_type
 use Rattle.clf_syntax.specs.TypeTree.{SimpleType, base, arrow}
 use Rattle.clf_sig.specs.Entry.{PlainEntry, family_of, constant_of, PlainSignature}
-use Rattle.celf_surface.specs.declared.surface.SMode.{SMode}
 use Rattle.celf_surface.specs.declared.surface.SMode.TheVariants.{Bare, Affine as WrittenAffine}
 use Rattle.celf_surface.specs.declared.surface.Span.{Span}
 use Rattle.celf_sugar.specs.declared.plain.PName.{PName}
 use Rattle.celf_sugar.specs.PlainTree.{DesugaredObject, lam, monadic, atomic, DesugaredAct, argument, first, spine_of, no_steps, step, end_of_tuple, entry, DesugaredType, family, function, top, monad, end, binding, of_constant, DesugaredBody, declare, check}
 use Rattle.celf_places.specs.Places.{Place}
 use Rattle.celf_implicit.specs.declared.variable.Argument.{Argument}
-use Rattle.celf_implicit.specs.declared.variable.Variable.{Variable}
 use Rattle.celf_implicit.specs.Variables.{PlainImplicit}
 use Rattle.celf_implicit.specs.Rounds.{determined, undetermined}
 

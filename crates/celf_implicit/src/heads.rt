@@ -100,13 +100,7 @@ pub fn left_out(sig: &Signature, dollar: bool, place: u32) -> u32
     ensures { result ≡ spec.left_out dollar (entry_at (plain_signature sig.now) place) }
 {
     match sig.entry(place) {
-        Some(entry) => {
-            if dollar {
-                0
-            } else {
-                entry.implicit
-            }
-        }
+        Some(entry) => { if dollar { 0 } else { entry.implicit } }
         None => 0,
     }
 }
@@ -130,7 +124,10 @@ fn constant_place<'a>(sig: &'a Signature, dollar: bool, constant: u32) -> Option
     ensures { plain_place (option_copied result)
         ≡ spec.constant_place (plain_signature sig.now) dollar constant }
 {
-    after_arguments(left_out(sig, dollar, constant), sig.simples().get(constant as usize))
+    after_arguments(
+        left_out(sig, dollar, constant),
+        sig.simples().get(constant as usize),
+    )
 }
 
 /// The entries from a number on.

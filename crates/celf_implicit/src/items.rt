@@ -12,8 +12,8 @@ ghost use Rattle.celf_implicit.specs.Noting.{nothing_noted, plain_notes, noted};
 use crate::binders::Binders;
 use crate::notes::Notes;
 use crate::objects::note_object;
-use crate::variable::Implicit;
 use crate::types::{note_telescope, note_type, place_of};
+use crate::variable::Implicit;
 use celf_places::{boxed, simple_of};
 use celf_sugar::{PClass, PObj, PTy, PlainBody};
 use clf_sig::Signature;
@@ -98,7 +98,16 @@ fn note_alone<'a>(
         (desugared_object obj.now))) }
 {
     let binders = Binders::new(alloc);
-    note_object(obj, alloc, sig, found, &binders, true, place_of(simple), notes)
+    note_object(
+        obj,
+        alloc,
+        sig,
+        found,
+        &binders,
+        true,
+        place_of(simple),
+        notes,
+    )
 }
 
 /// Notes those in what is declared.

@@ -16,7 +16,9 @@ use crate::binders::Binders;
 use crate::heads::{head_place, is_open};
 use crate::notes::Notes;
 use crate::variable::Implicit;
-use celf_places::{behind_act, behind_spine, entries_at, function_parts, marked, next_part, pair_parts};
+use celf_places::{
+    behind_act, behind_spine, entries_at, function_parts, marked, next_part, pair_parts,
+};
 use celf_sugar::{PElim, PExpr, PMarked, PName, PObj, PObjForm, PStep};
 use clf_sig::Signature;
 use clf_syntax::{Shortage, Simple, SimpleEntry};
@@ -47,7 +49,8 @@ pub fn note_object<'a>(
             note_object(
                 body.get(),
                 alloc,
-                sig, found,
+                sig,
+                found,
                 &inner,
                 checked,
                 parts.codomain,
@@ -56,18 +59,65 @@ pub fn note_object<'a>(
         }
         PObjForm::Pair { left, right } => {
             let parts = pair_parts(place);
-            note_object(left.get(), alloc, sig, found, binders, checked, parts.left, notes)?;
-            note_object(right.get(), alloc, sig, found, binders, checked, parts.right, notes)
+            note_object(
+                left.get(),
+                alloc,
+                sig,
+                found,
+                binders,
+                checked,
+                parts.left,
+                notes,
+            )?;
+            note_object(
+                right.get(),
+                alloc,
+                sig,
+                found,
+                binders,
+                checked,
+                parts.right,
+                notes,
+            )
         }
         PObjForm::Mon { expr } => {
-            note_expression(expr, alloc, sig, found, binders, checked, entries_at(place), notes)
+            note_expression(
+                expr,
+                alloc,
+                sig,
+                found,
+                binders,
+                checked,
+                entries_at(place),
+                notes,
+            )
         }
         PObjForm::At { head, spine } => {
             let spine = spine.as_slice();
             let loose = is_open(sig, found, binders, head)?;
-            note_head(alloc, sig, found, binders, checked, loose, head, Some(spine), place, notes)?;
+            note_head(
+                alloc,
+                sig,
+                found,
+                binders,
+                checked,
+                loose,
+                head,
+                Some(spine),
+                place,
+                notes,
+            )?;
             let own = head_place(sig, found, binders, head)?;
-            note_spine(spine, alloc, sig, found, binders, checked && !loose, own, notes)
+            note_spine(
+                spine,
+                alloc,
+                sig,
+                found,
+                binders,
+                checked && !loose,
+                own,
+                notes,
+            )
         }
         PObjForm::Unit | PObjForm::Hole => Ok(()),
     }
@@ -155,7 +205,16 @@ fn note_act<'a>(
 {
     match act {
         PElim::Arg { mode: _, obj } => {
-            note_object(obj, alloc, sig, found, binders, checked, function_parts(place).domain, notes)
+            note_object(
+                obj,
+                alloc,
+                sig,
+                found,
+                binders,
+                checked,
+                function_parts(place).domain,
+                notes,
+            )
         }
         PElim::First | PElim::Second => Ok(()),
     }
@@ -188,7 +247,16 @@ fn note_expression<'a>(
     for step in expr.steps.as_slice() {
         checked = note_step(step, alloc, sig, found, &mut binders, checked, notes)?;
     }
-    note_tuple(expr.result.as_slice(), alloc, sig, found, &binders, checked, wanted, notes)
+    note_tuple(
+        expr.result.as_slice(),
+        alloc,
+        sig,
+        found,
+        &binders,
+        checked,
+        wanted,
+        notes,
+    )
 }
 
 /// Notes the occurrences in a step, whose pattern is bound. It answers whether what stands after it is checked.
@@ -210,10 +278,24 @@ fn note_step<'a>(
 {
     let spine = step.spine.as_slice();
     let loose = is_open(sig, found, binders, &step.head)?;
-    note_head(alloc, sig, found, binders, checked, loose, &step.head, None, None, notes)?;
+    note_head(
+        alloc, sig, found, binders, checked, loose, &step.head, None, None, notes,
+    )?;
     let own = head_place(sig, found, binders, &step.head)?;
-    note_spine(spine, alloc, sig, found, binders, checked && !loose, own, notes)?;
-    binders.bind_pattern(entries_at(behind_spine(own, spine)), step.pattern.as_slice())?;
+    note_spine(
+        spine,
+        alloc,
+        sig,
+        found,
+        binders,
+        checked && !loose,
+        own,
+        notes,
+    )?;
+    binders.bind_pattern(
+        entries_at(behind_spine(own, spine)),
+        step.pattern.as_slice(),
+    )?;
     Ok(checked && !loose)
 }
 
@@ -236,7 +318,9 @@ fn note_tuple<'a>(
     let mut wanted = wanted;
     for entry in tuple {
         let next = next_part(wanted);
-        note_entry(entry, alloc, sig, found, binders, checked, next.place, notes)?;
+        note_entry(
+            entry, alloc, sig, found, binders, checked, next.place, notes,
+        )?;
         wanted = next.later;
     }
     Ok(())
@@ -260,5 +344,7 @@ fn note_entry<'a>(
         (plain_scope binders.now checked) (plain_place (option_copied place.entry))
         (desugared_marked entry.now).1)) }
 {
-    note_object(&entry.obj, alloc, sig, found, binders, checked, place, notes)
+    note_object(
+        &entry.obj, alloc, sig, found, binders, checked, place, notes,
+    )
 }

@@ -53,7 +53,17 @@ pub fn note_type<'a>(
             note_type(dom.get(), alloc, sig, found, binders, notes)?;
             let simple = bound_simple(alloc, sig, name, dom.get())?;
             let inner = binders.copy(alloc)?;
-            note_under(cod.get(), alloc, sig, found, *mode, name, &simple, inner, notes)
+            note_under(
+                cod.get(),
+                alloc,
+                sig,
+                found,
+                *mode,
+                name,
+                &simple,
+                inner,
+                notes,
+            )
         }
         PTyForm::With { left, right } => {
             note_type(left.get(), alloc, sig, found, binders, notes)?;
@@ -118,7 +128,16 @@ fn note_family<'a>(
             let wanted = arguments_of(alloc, sig, family)?;
             let left_out = left_out(sig, head.dollar, family);
             let inner = binders.copy(alloc)?;
-            note_indices(indices, alloc, sig, found, wanted.as_slice(), left_out, inner, notes)
+            note_indices(
+                indices,
+                alloc,
+                sig,
+                found,
+                wanted.as_slice(),
+                left_out,
+                inner,
+                notes,
+            )
         }
         None => {
             let inner = binders.copy(alloc)?;

@@ -1,4 +1,4 @@
-use Rattle.std.proofs.Common.{◌∙◌, sym, arith}
+use Rattle.std.proofs.Common.{sym, arith}
 use Rattle.std.proofs.lemmas.Bool.Decides.{nat_tests}
 use Rattle.celf_names.proofs.ScopeLaws.{any_here, any_next}
 use Rattle.celf_implicit.specs.Occurrences.{has_number}

@@ -18,9 +18,10 @@ returns-then-is_empty c =
 pub loop-found-preserved : goal.loop-found-preserved
 loop-found-preserved c =
     let all : plain_notes c.in_ok-determined.field-0 ≡ noted (map plain_implicit c.loop-found.found) nothing_noted (occurrences (plain_signature c.args.sig.now) (map plain_implicit c.loop-found.found) (body_of c.args.body.now)) =
-    rw (← c.as_slice.ensures) c.in_ok-determined.ensures in
-    (suc c.loop-found.invariant.0,
-    next_is (plain_signature c.args.sig.now) (body_of c.args.body.now) c.loop-found.found (plain_notes c.in_ok-determined.field-0) all c.loop-found.invariant.0 c.append.new.self c.in_ok-determined.field-0.determined c.loop-found.invariant.1 c.in_ok-append.ensures refl)
+    rw (← c.as_slice.ensures) c.in_ok-determined.ensures in (
+      suc c.loop-found.invariant.0,
+      next_is (plain_signature c.args.sig.now) (body_of c.args.body.now) c.loop-found.found (plain_notes c.in_ok-determined.field-0) all c.loop-found.invariant.0 c.append.new.self c.in_ok-determined.field-0.determined c.loop-found.invariant.1 c.in_ok-append.ensures refl,
+    )
 
 pub loop-found-smaller : goal.loop-found-smaller
 loop-found-smaller c =
@@ -32,9 +33,10 @@ loop-found-smaller c =
 pub loop-found-preserved-in_ok-append : goal.loop-found-preserved-in_ok-append
 loop-found-preserved-in_ok-append c =
     let all : plain_notes c.in_ok-determined.field-0 ≡ noted (map plain_implicit c.loop-found.found) nothing_noted (occurrences (plain_signature c.args.sig.now) (map plain_implicit c.loop-found.found) (body_of c.args.body.now)) =
-    rw (← c.as_slice.ensures) c.in_ok-determined.ensures in
-    (suc c.loop-found.invariant.0,
-    next_is (plain_signature c.args.sig.now) (body_of c.args.body.now) c.loop-found.found (plain_notes c.in_ok-determined.field-0) all c.loop-found.invariant.0 c.append.new.self c.in_ok-determined.field-0.determined c.loop-found.invariant.1 c.in_ok-append.ensures refl)
+    rw (← c.as_slice.ensures) c.in_ok-determined.ensures in (
+      suc c.loop-found.invariant.0,
+      next_is (plain_signature c.args.sig.now) (body_of c.args.body.now) c.loop-found.found (plain_notes c.in_ok-determined.field-0) all c.loop-found.invariant.0 c.append.new.self c.in_ok-determined.field-0.determined c.loop-found.invariant.1 c.in_ok-append.ensures refl,
+    )
 
 pub loop-found-smaller-in_ok-append : goal.loop-found-smaller-in_ok-append
 loop-found-smaller-in_ok-append c =
