@@ -1,0 +1,15 @@
+pub use Rattle.clf_syntax.specs.Word
+pub use Rattle.clf_sig.specs.Entry
+pub use Rattle.celf_sugar.specs.Plain
+pub use Rattle.celf_names.specs.Names
+pub use Rattle.celf_places.specs.Places
+pub use Rattle.celf_places.specs.Heads
+pub use Rattle.celf_places.specs.SimpleTypes
+pub mod Scopes
+pub mod Variables
+pub mod Occurrences
+pub mod Rounds
+pub mod Answers
+pub mod Noting
+pub mod Laws
+pub mod Worked

@@ -1,0 +1,17 @@
+//! The implicit variables of an item: which of them its text determines, in what order, and their simple types.
+#![tactic(auto)]
+
+mod applied;
+mod binders;
+mod heads;
+mod items;
+mod laws;
+mod notes;
+mod objects;
+mod rounds;
+mod types;
+mod variable;
+
+pub use laws::{least_closed, worked_variables};
+pub use rounds::implicit_variables;
+pub use variable::{Argument, Implicit, Variable};
