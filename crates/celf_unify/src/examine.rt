@@ -1,7 +1,7 @@
 //! One equation is looked at.
 ghost use Rattle.std.specs.Prelude.{◌≡◌, [], ◌∷◌, map, IfErr, IfOk};
 ghost use Rattle.clf_syntax.specs.Plain.{plain_obj};
-ghost use Rattle.clf_syntax.specs.PlainSimple.{plain_simple_entry};
+ghost use Rattle.clf_syntax.specs.PlainSimple.{plain_simple};
 ghost use Rattle.trace_equal.specs.Exchange.{Joined};
 ghost use Rattle.clf_syntax.specs.Wide.{IsWant};
 ghost use Rattle.celf_constraints.specs.Equated.{plain_equation, plain_locals};
@@ -12,7 +12,7 @@ use crate::answer::Clash;
 use crate::step::Step;
 use crate::put_in::{copy_locals, with_equation};
 use celf_constraints::Equation;
-use clf_syntax::{Obj, Simple, SimpleEntry, Want};
+use clf_syntax::{Mode, Obj, Simple, SimpleEntry, Want};
 use metavars::Store;
 use std::alloc::{AllocError, Global};
 use trace_equal::equal;
@@ -62,12 +62,8 @@ fn take_apart(alloc: Global, store: &Store, equation: Equation) -> Result<Examin
             },
             Simple::Fun { mode: _, dom, cod },
         ) => {
-            let local = SimpleEntry {
-                mode,
-                ty: dom.into_inner(),
-            };
             let body = Equation {
-                locals: with_local(locals, local)?,
+                locals: with_local(locals, mode, dom.into_inner())?,
                 left: left.into_inner(),
                 right: right.into_inner(),
                 ty: cod.into_inner(),
@@ -122,11 +118,16 @@ fn both(alloc: Global, first: Equation, second: Equation) -> Result<Vec<Equation
 }
 
 /// One local more, the newest.
-fn with_local(locals: Vec<SimpleEntry>, local: SimpleEntry) -> Result<Vec<SimpleEntry>, AllocError>
-    ensures { IfOk result (λ more. plain_locals more.items ≡ plain_simple_entry local ∷ plain_locals locals.items) }
+#[tactic(auto, using(clf_syntax::specs::PlainSimple::plain_simple_laws))]
+fn with_local(
+    locals: Vec<SimpleEntry>,
+    mode: Mode,
+    ty: Simple,
+) -> Result<Vec<SimpleEntry>, AllocError>
+    ensures { IfOk result (λ more. plain_locals more.items ≡ (mode, plain_simple ty) ∷ plain_locals locals.items) }
 {
     let mut more = locals;
-    more.push(local)?;
+    more.push(SimpleEntry { mode, ty })?;
     Ok(more)
 }
 
