@@ -27,7 +27,7 @@ pub fn take(store: &mut Store, step: Step) -> Result<(), Want>
     }
 }
 
-/// A metavariable becomes a new one on the arguments of the mask.
+/// A metavariable becomes a new one on the arguments of the mask. Not built yet.
 fn narrow(store: &mut Store, meta: u32, mask: &[bool]) -> Result<(), Want>
     requires may { HasArguments store.old meta }
     ensures taken { OnOk result (NarrowedTo store.old meta mask.now store.new) }
