@@ -1,6 +1,6 @@
 -- An equation and its parts.
-use Rattle.std.specs.Prelude.{ℕ, suc, ◌+◌, ◌≡◌, ◌<◌, ◌⊎◌, List, [], ◌∷◌, length, refl}
-use Rattle.std.proofs.Common.{ap, sym, subst, ◌∙◌, arith, ⊎_elim}
+use Rattle.std.specs.Prelude.{◌≡◌, List, [], ◌∷◌, refl}
+use Rattle.std.proofs.Common.{ap, sym, subst, ◌∙◌, arith}
 use Rattle.clf_syntax.specs.declared.tree.Mode.{Mode}
 use Rattle.clf_syntax.specs.Tree.{PlainObject, lam, pair}
 use Rattle.clf_syntax.specs.TypeTree.{SimpleType, arrow, simple_with}
@@ -8,9 +8,8 @@ use Rattle.clf_syntax.specs.Simple.{SimplyTyped}
 use Rattle.trace_equal.specs.Exchange.{Joined}
 use Rattle.pattern_laws.specs.Instantiations.{Types, closed}
 use Rattle.pattern_laws.specs.Equations.{Locals, scoped, Equation, Listed, listed_here, listed_later, TypedEquation}
-use Rattle.unify_laws.specs.Rigid.{size}
 use Rattle.reach_laws.specs.Rest.{ComesDown, down_joined, down_listed, down_lam, down_pair, PartOf, part_itself, part_body, part_left, part_right}
-use Rattle.solver_laws.specs.Reduced.{Reduced, work_size}
+use Rattle.solver_laws.specs.Reduced.{Reduced}
 use Rattle.celf_unify.specs.Examined.{TakenApart}
 
 the_one : {x e : Equation} → Listed x (e ∷ []) → e ≡ x

@@ -1,24 +1,22 @@
 -- The loop that takes equations apart.
-use Rattle.std.specs.Prelude.{ℕ, suc, ◌+◌, ◌≡◌, ◌<◌, ◌⊎◌, List, [], ◌∷◌, ◌++◌, length, map, refl}
-use Rattle.std.proofs.Common.{ap, sym, subst, ◌∙◌, arith, ⊎_elim, append_assoc}
-use Rattle.std.proofs.lemmas.List.{map-append, append-nil}
-use Rattle.clf_syntax.specs.Plain.{plain_obj}
+use Rattle.std.specs.Prelude.{◌+◌, ◌≡◌, ◌<◌, List, [], ◌∷◌, ◌++◌, map, refl}
+use Rattle.std.proofs.Common.{ap, sym, subst, ◌∙◌, arith, ⊎_elim}
+use Rattle.std.proofs.lemmas.List.{map-append}
 use Rattle.pattern_laws.specs.Instantiations.{Types}
 use Rattle.pattern_laws.specs.Equations.{Equation, Listed, listed_here, listed_later, TypedEquation, TypedEquations}
-use Rattle.unify_laws.specs.Rigid.{size}
-use Rattle.reach_laws.specs.Rest.{PartOf, Rest}
-use Rattle.reach_laws.proofs.Down.{listed_more, listed_behind}
+use Rattle.reach_laws.specs.Rest.{Rest}
+use Rattle.reach_laws.proofs.Down.{listed_behind}
 use Rattle.reach_laws.proofs.PartsUnder.{part_typed}
 use Rattle.reach_laws.proofs.Rests.{typed_listed}
 use Rattle.answer_laws.proofs.InTurn.{listed_cases}
-use Rattle.solver_laws.specs.Reduced.{Reduced, LeftOver, Clashes, work_size}
+use Rattle.solver_laws.specs.Reduced.{Reduced, LeftOver, work_size}
 use Rattle.solver_laws.proofs.Reducing.{work_is_reduced}
 use Rattle.celf_constraints.specs.declared.equation.Equation.{Equation as Declared}
 use Rattle.celf_constraints.specs.Equated.{plain_equation}
 use Rattle.celf_unify.specs.declared.answer.Clash.{Clash}
 use Rattle.celf_unify.specs.declared.step.Step.{Step}
 use Rattle.celf_unify.specs.Gathered.{PartIn, ClashIn, StepOf, StepIn}
-use Rattle.celf_unify.specs.Examined.{TakenApart, ClashOf}
+use Rattle.celf_unify.specs.Examined.{ClashOf}
 
 -- a stack and what was taken from it
 pub popped : (s t : List Declared) (e : Declared) → s ≡ t ++ e ∷ [] → map plain_equation s ≡ map plain_equation t ++ plain_equation e ∷ []

@@ -1,10 +1,9 @@
 -- A pass, and what it says of the work.
-use Rattle.std.specs.Prelude.{ℕ, ◌≡◌, ◌<◌, ◌≤◌, List, map, Option, Some, None, refl}
-use Rattle.std.proofs.Common.{ap, sym, subst, ◌∙◌, arith, Vec, Global}
+use Rattle.std.specs.Prelude.{◌≡◌, ◌≤◌, List, map, Option, Some, None, refl}
+use Rattle.std.proofs.Common.{sym, subst, ◌∙◌, arith, Vec, Global}
 use Rattle.std.specs.List.{slice_get}
-use Rattle.clf_syntax.specs.TypeTree.{SimpleType}
 use Rattle.subst_laws.specs.Environments.{Instantiation}
-use Rattle.store_laws.specs.Additions.{Addition, meta_types}
+use Rattle.store_laws.specs.Additions.{Addition}
 use Rattle.pattern_laws.specs.Equations.{Equation}
 use Rattle.reach_laws.specs.Unified.{Unified}
 use Rattle.solver_laws.specs.Solving.{Solving, problem_of, store_weight, Ready, Open, ArePutIn, Working}
@@ -23,9 +22,9 @@ use Rattle.celf_unify.specs.declared.gather.Gathered.{Gathered}
 use Rattle.celf_unify.specs.declared.gather.Gathered.TheVariants as gathered
 use Rattle.celf_unify.specs.declared.pass.Pass.{Pass}
 use Rattle.celf_unify.specs.declared.pass.Pass.TheVariants as pass
-use Rattle.celf_unify.specs.Gathered.{IsTyped, Gathers, StepIn}
+use Rattle.celf_unify.specs.Gathered.{IsTyped, Gathers}
 use Rattle.celf_unify.specs.Passes.{StillSolving, MayAdvance, MayRun, IsReady, WorkStands, RunEnds, PassAnswers, Advances, Runs, Works, PassEnds, IsLighter}
-use Rattle.celf_unify.proofs.Stepping.{typed_open, may_run, clashed, stands}
+use Rattle.celf_unify.proofs.Stepping.{typed_open, may_run, clashed}
 
 -- The state of a run: constants, weight and work against those at its beginning.
 pub record Run (s : Stored) (first : Gathered) (t : Stored) (g : Gathered) : Type 0 where

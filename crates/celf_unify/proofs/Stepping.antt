@@ -1,6 +1,6 @@
 -- A step that may be taken, and what it does for the work.
-use Rattle.std.specs.Prelude.{ℕ, Bool, false, ◌≡◌, ◌<◌, ◌⊎◌, List, [], ◌∷◌, length, map, Some, refl}
-use Rattle.std.proofs.Common.{ap, sym, subst, ◌∙◌, inl, inr, ⊎_elim}
+use Rattle.std.specs.Prelude.{ℕ, Bool, false, ◌≡◌, ◌<◌, List, [], ◌∷◌, length, map, Some}
+use Rattle.std.proofs.Common.{sym, subst, ⊎_elim}
 use Rattle.std.specs.List.{slice_get}
 use Rattle.clf_syntax.specs.Tree.{PlainObject}
 use Rattle.clf_syntax.specs.TypeTree.{SimpleType}
@@ -10,29 +10,29 @@ use Rattle.store_laws.specs.Mentions.{mentions}
 use Rattle.store_laws.specs.Additions.{Addition, meta_types, given}
 use Rattle.pattern_laws.specs.Instantiations.{Types}
 use Rattle.pattern_laws.specs.Equations.{Equation, Listed, TypedEquation, TypedEquations, listed_here, listed_later}
-use Rattle.pattern_laws.specs.Patterns.{IsFinal, Place, arrows}
+use Rattle.pattern_laws.specs.Patterns.{Place}
 use Rattle.reach_laws.specs.Rest.{PartOf}
 use Rattle.reach_laws.specs.Unified.{Clashed}
 use Rattle.reach_laws.proofs.PartsUnder.{part_typed}
 use Rattle.reach_laws.proofs.Rests.{typed_listed}
 use Rattle.solver_laws.specs.Solving.{problem_of, store_weight, unsolved_types, Ready, Open, ArePutIn, Working}
-use Rattle.solver_laws.specs.Steps.{AssignsEither, NarrowsEither, assigned_more, narrowed_more}
+use Rattle.solver_laws.specs.Steps.{AssignsEither, NarrowsEither}
 use Rattle.solver_laws.specs.Laws.{MayAssign, MayNarrow}
 use Rattle.solver_laws.proofs.Open.{open_typed, open_silent}
 use Rattle.solver_laws.proofs.StepFacts.{closed_equation}
 use Rattle.solver_laws.proofs.Hands.{part_silent}
 use Rattle.solver_laws.proofs.Allowed.{assign_is_allowed, narrow_is_allowed, put_in_is_open}
 use Rattle.solver_laws.proofs.Works.{work_assigns, work_narrows, work_reduces, work_clashes}
-use Rattle.celf_constraints.specs.Equated.{plain_equation, equations_in}
+use Rattle.celf_constraints.specs.Equated.{plain_equation}
 use Rattle.metavars.specs.Stored.{Stored, constants, additions}
 use Rattle.celf_unify.specs.declared.answer.Clash.{Clash}
 use Rattle.celf_unify.specs.declared.step.Step.{Step}
 use Rattle.celf_unify.specs.declared.step.Step.TheVariants.{Assign, Narrow}
 use Rattle.celf_unify.specs.declared.gather.Gathered.{Gathered}
 use Rattle.celf_unify.specs.declared.gather.Gathered.TheVariants as gathered
-use Rattle.celf_unify.specs.Steps.{HasArguments, MayTake, NarrowedTo, Takes}
-use Rattle.celf_unify.specs.Gathered.{IsTyped, PartIn, ClashIn, StepIn, GathersOver}
-use Rattle.celf_unify.specs.Passes.{MayAdvance, MayRun, ClashedAt, WorkStands, Advances, IsReady}
+use Rattle.celf_unify.specs.Steps.{MayTake, Takes}
+use Rattle.celf_unify.specs.Gathered.{IsTyped, PartIn, ClashIn, GathersOver}
+use Rattle.celf_unify.specs.Passes.{MayAdvance, MayRun, ClashedAt, WorkStands, Advances}
 
 the_open : (cs : List SimpleType) (zs : List Addition) (step : Step) (ws : List Equation) (a : MayAdvance cs zs step ws) → TypedEquation (slice_get cs) (unsolved_types (slice_get (meta_types zs)) (given zs)) a.equation
 the_open cs zs step ws a = typed_listed (slice_get cs) (unsolved_types (slice_get (meta_types zs)) (given zs)) a.equation ws a.listed a.all_in
@@ -62,10 +62,10 @@ stepped s t (Assign m o) ws a taken = subst (λ more. Stepped (constants s) (add
 })
 stepped s t (Narrow k mask) ws a taken = let (ps, c, h) = a.step_of in subst (λ more. Stepped (constants s) (additions s) more ws)
     (sym (taken.more ps c (⊎_elim (λ p. p.type) (λ p. p.type) h) (⊎_elim (λ p. p.final) (λ p. p.final) h))) (record {
-  ready = (λ es r. (narrowing (constants s) (additions s) (Narrow k mask) ws es a r k mask.items ps c h).ready);
-  lighter = (narrowing (constants s) (additions s) (Narrow k mask) ws ws a a.ready k mask.items ps c h).lighter;
-  goes = (λ before es v r working us put. work_narrows (constants s) before (additions s) es ws r v working a.equation a.listed k mask.items ps c h us put);
-})
+      ready = (λ es r. (narrowing (constants s) (additions s) (Narrow k mask) ws es a r k mask.items ps c h).ready);
+      lighter = (narrowing (constants s) (additions s) (Narrow k mask) ws ws a a.ready k mask.items ps c h).lighter;
+      goes = (λ before es v r working us put. work_narrows (constants s) before (additions s) es ws r v working a.equation a.listed k mask.items ps c h us put);
+    })
 
 pub same_constants : (s t : Stored) (step : Step) → Takes s step t → constants t ≡ constants s
 same_constants s t (Assign m o) taken = taken.0

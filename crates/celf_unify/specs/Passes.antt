@@ -1,5 +1,5 @@
 -- Inner: passes over equations.
-use Rattle.std.specs.Prelude.{ℕ, ◌≡◌, ◌<◌, ◌≤◌, List, map, Option, Some, None}
+use Rattle.std.specs.Prelude.{◌≡◌, ◌<◌, ◌≤◌, List, map, Option, Some, None}
 use Rattle.clf_syntax.specs.TypeTree.{SimpleType}
 use Rattle.clf_syntax.specs.Plain.{plain_obj}
 use Rattle.std.specs.List.{slice_get}

@@ -43,10 +43,7 @@ pub fn gather(alloc: Global, store: &Store, work: Vec<Equation>) -> Result<Gathe
 }
 
 /// More equations.
-fn with_each(
-    equations: Vec<Equation>,
-    parts: Vec<Equation>,
-) -> Result<Vec<Equation>, AllocError>
+fn with_each(equations: Vec<Equation>, parts: Vec<Equation>) -> Result<Vec<Equation>, AllocError>
     ensures { IfOk result (λ more. map plain_equation more.items
         ≡ map plain_equation equations.items ++ map plain_equation parts.items) }
 {

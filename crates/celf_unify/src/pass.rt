@@ -72,12 +72,7 @@ pub fn one_pass(alloc: Global, store: &mut Store, equations: &Equations) -> Resu
 }
 
 /// The rest of a pass in which something is solved.
-fn after(
-    alloc: Global,
-    store: &mut Store,
-    step: Step,
-    rest: Vec<Equation>,
-) -> Result<Pass, Want>
+fn after(alloc: Global, store: &mut Store, step: Step, rest: Vec<Equation>) -> Result<Pass, Want>
     requires may { MayAdvance (constants store.old) (additions store.old) step (map plain_equation rest.items) }
     ensures works { IfOk result (λ pass. Works store.old (map plain_equation rest.items) store.new pass) }
     ensures part { IsPart store.old store.new }

@@ -85,10 +85,14 @@ module _ (constants metas : Types) (given : Instantiation) where
     gives_open m x e = let (a, i, p) = gives m x e in (a, i, open_typed [] x a p (λ k o f. all.finished m x e k o f))
 
     pub puts_open : TypedInstantiation (closed constants metas) (closed constants (unsolved_types metas given)) s
-    puts_open = ((λ c u e. e), (λ i u e. e), (λ m u e. ⊎_elim
-        (λ h. inl (h, unsolved_there m (⊎_elim (λ g. g) (λ g. absurd (some_none h (all.solved m g.0 g.1).1)) (cases_of (given m))) ∙ e))
-        (λ h. let (a, i, p) = gives_open m h.0 h.1 in inr (h.0, h.1, subst (λ t. SimplyTyped (closed constants (unsolved_types metas given)) h.0 t) (one_type (sym i ∙ e)) p))
-        (cases_of (s m))))
+    puts_open = (
+      (λ c u e. e),
+      (λ i u e. e),
+      (λ m u e. ⊎_elim
+          (λ h. inl (h, unsolved_there m (⊎_elim (λ g. g) (λ g. absurd (some_none h (all.solved m g.0 g.1).1)) (cases_of (given m))) ∙ e))
+          (λ h. let (a, i, p) = gives_open m h.0 h.1 in inr (h.0, h.1, subst (λ t. SimplyTyped (closed constants (unsolved_types metas given)) h.0 t) (one_type (sym i ∙ e)) p))
+          (cases_of (s m))),
+    )
       where
         one_type : {a b : SimpleType} → Some a ≡ Some b → a ≡ b
         one_type e = cc

@@ -140,8 +140,8 @@ whole_solved constants zs m o may w = let (a, type_of, typed_o) = may.typed in
     let p = subst (λ g. SimplyTyped g o a) (heads_closed constants zs) typed_o in
     let (x, put, tx) = some_result (slice_get constants) (types_in zs) w.all_in w.put_in.assigns [] o a p in
     let (v, again) = put_in_again (slice_get constants) (types_in zs) (given zs) w.all_in w.put_in w.given_types m o x a may.unsolved type_of p (closed_put put)
-        (may.no_circle w.all_in x w.put_in.put_in (closed_put put))
-        (λ k u e. open_silent (slice_get constants) (types_in zs) (given zs) [] x a (put_is_open (slice_get constants) (types_in zs) (given zs) w.all_in w.put_in.put_in (whole_gives constants zs w) [] o x a p put) k u e) in
+    (may.no_circle w.all_in x w.put_in.put_in (closed_put put))
+    (λ k u e. open_silent (slice_get constants) (types_in zs) (given zs) [] x a (put_is_open (slice_get constants) (types_in zs) (given zs) w.all_in w.put_in.put_in (whole_gives constants zs w) [] o x a p put) k u e) in
     moved constants (zs ++ solved m o ∷ []) (types_in zs) (set m o (given zs)) v (types_solved zs m o) (given_solved zs m o may.unsolved) again
     (gives_more (slice_get constants) (types_in zs) (given zs) m o a type_of p w.given_types)
   where

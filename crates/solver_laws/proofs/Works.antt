@@ -31,11 +31,14 @@ well_typed : (constants : List SimpleType) (zs : List Addition) (es : List Equat
 well_typed constants zs es ready = (ready.typed, (whole constants zs ready.store).given_types, ready.final)
 
 pub work_starts : WorkStarts
-work_starts constants zs es ready = (w.all_in, record {
-  progress = progress_start (slice_get constants) (problem_of zs es) (well_typed constants zs es ready);
-  put_in = w.put_in;
-  sources = (λ m o n f. absurd (some_none n f));
-})
+work_starts constants zs es ready = (
+  w.all_in,
+  record {
+    progress = progress_start (slice_get constants) (problem_of zs es) (well_typed constants zs es ready);
+    put_in = w.put_in;
+    sources = (λ m o n f. absurd (some_none n f));
+  },
+)
   where
     w : Whole constants zs
     w = whole constants zs ready.store
@@ -111,13 +114,17 @@ work_ends constants before zs es ready s solving ds left under rest = record {
   adds = only_adds (slice_get constants) (problem_of before es) (problem_of zs es) s solving;
   keeps = solving.progress.keeps;
   traced = solving.progress.traced;
-  ends = (s, ds, record {
-    put_in = solving.put_in;
-    under = under;
-    rest = rest;
-    tight = (λ list holds. tight (slice_get constants) (problem_of before es) (problem_of zs es) (well_typed constants before es ready) solving.progress.stays solving.progress.traced s solving.put_in.put_in solving.put_in.assigns solving.progress.typed list holds);
-    sources = (λ m o n f. ⊎_elim (λ p. inl p) (λ p. inr p.from) (solving.sources m o n f));
-  });
+  ends = (
+    s,
+    ds,
+    record {
+      put_in = solving.put_in;
+      under = under;
+      rest = rest;
+      tight = (λ list holds. tight (slice_get constants) (problem_of before es) (problem_of zs es) (well_typed constants before es ready) solving.progress.stays solving.progress.traced s solving.put_in.put_in solving.put_in.assigns solving.progress.typed list holds);
+      sources = (λ m o n f. ⊎_elim (λ p. inl p) (λ p. inr p.from) (solving.sources m o n f));
+    },
+  );
 }
 
 pub work_clashes : WorkClashes

@@ -12,8 +12,10 @@ pub take-requires : goal.take-requires
 take-requires c = record { may = may_take c.args.store.now c.args.step (map plain_equation c.args.rest.items) c.requires.may }
 
 pub gather-requires : goal.gather-requires
-gather-requires c = record { typed = typed_after c.args.store.now c.take.new.store c.args.step (map plain_equation c.args.rest.items) (map plain_equation c.in_ok-work.work.items) c.requires.may c.in_ok-take.ensures.taken
-    (subst (λ es. ArePutIn (additions c.take.new.store) (map plain_equation es) (map plain_equation c.in_ok-work.work.items)) c.as_slice.ensures.value c.in_ok-work.ensures.put_in) }
+gather-requires c = record {
+  typed = typed_after c.args.store.now c.take.new.store c.args.step (map plain_equation c.args.rest.items) (map plain_equation c.in_ok-work.work.items) c.requires.may c.in_ok-take.ensures.taken
+      (subst (λ es. ArePutIn (additions c.take.new.store) (map plain_equation es) (map plain_equation c.in_ok-work.work.items)) c.as_slice.ensures.value c.in_ok-work.ensures.put_in);
+}
 
 pub returns-clause-advanced : goal.returns-clause-advanced
 returns-clause-advanced c = ok_more

@@ -10,13 +10,17 @@ use Rattle.celf_unify.proofs.Passing.{first_typed, first_step, pass_left, pass_c
 use Rattle.celf_unify.proofs.pass.one_pass.Goals as goal
 
 pub gather-requires : goal.gather-requires
-gather-requires c = record { typed = first_typed c.args.store.now (equations_in c.args.equations.now) (map plain_equation c.in_ok-work.work.items) c.requires.ready
-    (subst (λ es. ArePutIn (additions c.args.store.now) es (map plain_equation c.in_ok-work.work.items)) c.as_slice.ensures c.in_ok-work.ensures.put_in) }
+gather-requires c = record {
+  typed = first_typed c.args.store.now (equations_in c.args.equations.now) (map plain_equation c.in_ok-work.work.items) c.requires.ready
+      (subst (λ es. ArePutIn (additions c.args.store.now) es (map plain_equation c.in_ok-work.work.items)) c.as_slice.ensures c.in_ok-work.ensures.put_in);
+}
 
 pub after-requires : goal.after-requires
-after-requires c = record { may = first_step c.args.store.now (equations_in c.args.equations.now) (map plain_equation c.in_ok-work.work.items) c.requires.ready
-    (subst (λ es. ArePutIn (additions c.args.store.now) es (map plain_equation c.in_ok-work.work.items)) c.as_slice.ensures c.in_ok-work.ensures.put_in) c.in-Step.step c.in-Step.rest
-    (subst (λ g. Gathers c.args.store.now (map plain_equation c.in_ok-work.work.items) g) c.in-Step.is c.in_ok-left.ensures.gathered) }
+after-requires c = record {
+  may = first_step c.args.store.now (equations_in c.args.equations.now) (map plain_equation c.in_ok-work.work.items) c.requires.ready
+      (subst (λ es. ArePutIn (additions c.args.store.now) es (map plain_equation c.in_ok-work.work.items)) c.as_slice.ensures c.in_ok-work.ensures.put_in) c.in-Step.step c.in-Step.rest
+      (subst (λ g. Gathers c.args.store.now (map plain_equation c.in_ok-work.work.items) g) c.in-Step.is c.in_ok-left.ensures.gathered);
+}
 
 pub returns-in-Left-clause-ends : goal.returns-in-Left-clause-ends
 returns-in-Left-clause-ends c = pass_left c.args.store.now (equations_in c.args.equations.now) (map plain_equation c.in_ok-work.work.items) c.requires.ready

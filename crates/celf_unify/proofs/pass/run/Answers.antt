@@ -1,8 +1,5 @@
 use Rattle.std.proofs.Common.{subst, map}
 use Rattle.celf_constraints.specs.Equated.{plain_equation}
-use Rattle.metavars.specs.Stored.{Stored}
-use Rattle.celf_unify.specs.declared.gather.Gathered.{Gathered}
-use Rattle.celf_unify.specs.declared.gather.Gathered.TheVariants as gathered
 use Rattle.celf_unify.proofs.Parts.{part_then}
 use Rattle.celf_unify.proofs.Passing.{Run, run_advances, state_advances, run_left, run_clash}
 use Rattle.celf_unify.proofs.pass.run.Goals as goal
