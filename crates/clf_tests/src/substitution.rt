@@ -35,7 +35,7 @@ aa! 00!L 000!L! ?
 aa! b0-N 0a! ?
 aa& b0!L 0< ?";
 
-fn mode_of(byte: u8) -> Mode {
+pub fn mode_of(byte: u8) -> Mode {
     match byte {
         b'!' | b'L' => Mode::Persistent,
         b'@' | b'A' => Mode::Affine,
