@@ -16,19 +16,16 @@ use Rattle.clf_syntax.specs.Simple.{Assignment, SimplyTypedNeutral}
 use Rattle.pattern_laws.specs.Instantiations.{Types, closed}
 use Rattle.pattern_laws.specs.Equations.{Locals, scoped}
 use Rattle.pattern_laws.specs.Patterns.{Place as PlainPlace, on, OnLocals}
+use Rattle.pattern_laws.proofs.Spines.{head_on}
 use Rattle.celf_constraints.specs.declared.places.Places.{Places}
 use Rattle.celf_constraints.specs.Equated.{plain_locals, assigned_in}
 use Rattle.celf_constraints.specs.Reading.{HasTypes, Scopes, ReadsLocals}
 use Rattle.celf_constraints.proofs.Candidates.{neutral_head}
 use Rattle.celf_constraints.proofs.Meeting.{scoped_local}
 
-head_on : (qs : List PlainPlace) (h : Head) → head_of (on qs (head_alone h)) ≡ h
-head_on [] h = refl
-head_on (q ∷ qs) h = head_on qs h
-
 -- A neutral that is a metavariable on locals has it as its head.
 head_there : (z : Assignment) (n : Neutral) (t : SimpleType) (m : ℕ) (ps qs : List PlainPlace) → OnLocals z (plain_neutral n) m ps qs t → n.head ≡ Meta m
-head_there z n t m ps qs o = sym (neutral_head n) ∙ ap head_of o.neutral ∙ head_on qs (Meta m)
+head_there z n t m ps qs o = sym (neutral_head n) ∙ ap head_of o.neutral ∙ head_on qs (head_alone (Meta m))
 
 const_meta : {c m : ℕ} → Const c ≡ Meta m → ⊥
 const_meta e = cc

@@ -77,7 +77,3 @@ takes_number text c t u v s h e taken k value span = record {
   value = ap (λ (n : ℕ). NumberBound n s) value ∙ ap (λ (r : Span). NumberBound (min (digits_behind 0 (lexeme_of text t).spelling) (2 ^ 64 - 1)) r)
       (span ∙ ap (λ (n : ℕ). let r : Span = record { start = t.start; end = n } in r) (sym (next-spelling text c t h e)));
 }
-
--- one digit more, below the greatest value or at it
-pub digit-more : (n k d : ℕ) → min n (2 ^ 64 - 1) ≡ k → min (n * 10 + d) (2 ^ 64 - 1) ≡ min (min (k * 10) (2 ^ 64 - 1) + d) (2 ^ 64 - 1)
-digit-more n k d e = omega (arith, e)

@@ -142,5 +142,3 @@ body-accepts (body_check h o c t) k = body-check h k ∙ object-accepts o _ ∙ 
 
 pub item-accepts : {s u : State} {i : WrittenItem} → IsItem s i u → (k : List Symbol) → runs (Item ∷ k) s ≡ runs k u
 item-accepts {s} (item_all b d) k = item-body s k ∙ body-accepts b _ ∙ expect-run d k
-
-pub ruleset accepts_laws = (mark-run, binder-run, pattern-accepts, patterns-accept, object-accepts, application-accepts, arguments-accept, atom-accepts, expression-accepts, steps-accept, step-accepts, tuple-accepts, tuples-accept, index-accepts, indices-accept, family-accepts, type-accepts, backward-accepts, forward-accepts, sync-accepts, factor-accepts, with-accepts, type_atom-accepts, bound-accepts, implicit-accepts, body-accepts, item-accepts)

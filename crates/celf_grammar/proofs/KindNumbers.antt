@@ -28,9 +28,6 @@ kind_at-number (token.Name false) = refl
 kind_at-number (token.Name true) = refl
 kind_at-number _ = refl
 
-pub same_kind-refl : (k : TokenKind) → same_kind k k ≡ true
-same_kind-refl k = eq-eqb (kind_number k) (kind_number k) refl
-
 pub same_kind-yes : (j k : TokenKind) → j ≡ k → same_kind j k ≡ true
 same_kind-yes j k e = eq-eqb (kind_number j) (kind_number k) (ap kind_number e)
 

@@ -287,5 +287,3 @@ pub ruleset binder_steps = (binder_named, binder_hole)
 pub ruleset bound_steps = (bound_number, bound_star)
 
 pub ruleset implicit_steps = (implicit_count, implicit_none)
-
-pub ruleset body_steps = (body_declare, body_query, body_trace, body_equal, body_check)

@@ -19,8 +19,8 @@ use clf_syntax::{Head, Mode, Shortage, Simple};
 use sqlite_items::{Boxed, Items};
 use std::alloc::{AllocError, Global};
 
-/// A local that a variable is applied to: its number, the mode that is written before it or else its own, and its simple
-/// type, if that is known.
+/// A local that a variable is applied to: its number, the mode that is written before it or else its own, and its
+/// simple type, if that is known.
 #[derive(Clone, Copy)]
 pub struct AppliedLocal<'a> {
     pub mode: Mode,

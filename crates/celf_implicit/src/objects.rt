@@ -123,8 +123,8 @@ pub fn note_object<'a>(
     }
 }
 
-/// Notes a head, if it is open: an implicit variable that is not determined so far. Without a spine it is the head of the
-/// right side of a `let`.
+/// Notes a head, if it is open: an implicit variable that is not determined so far. Without a spine it is the head of
+/// the right side of a `let`.
 fn note_head<'a>(
     alloc: Global,
     sig: &'a Signature,

@@ -11,8 +11,8 @@ pub struct Variable {
     pub span: Span,
 }
 
-/// A local that a variable is applied to: its number, which counts binders from the inside, and the mode that is written
-/// before it or else its own.
+/// A local that a variable is applied to: its number, which counts binders from the inside, and the mode that is
+/// written before it or else its own.
 #[derive(Clone, Copy)]
 pub struct Argument {
     pub mode: Mode,

@@ -89,22 +89,6 @@ abbrev is_number : TokenKind → Bool
 is_number kind.Number = true
 is_number _ = false
 
-hash_kind-no_number : (w : List ℕ) → is_number (hash_kind w) ≡ false
-hash_kind-no_number w =
-    cond_both (same_bytes w (codes "1")) kind.Proj1 _ (λ k. is_number k ≡ false) (λ e. refl) (λ e. cond_both (same_bytes w (codes "2")) kind.Proj2 kind.Directive (λ k. is_number k ≡ false) (λ f. refl) (λ f. refl))
-
-signs_are_no_numbers : list_all (λ s. not (is_number s.1)) signs ≡ true
-signs_are_no_numbers = refl
-
-number_spelled : {k : TokenKind} {s after : List ℕ} → Spelled k s after → k ≡ kind.Number → (is_word s ≡ true) × (all_digits s ≡ true)
-number_spelled (a_word w after i e) n = (i, number_word w n)
-number_spelled (a_constant w after i e) n = cc
-number_spelled (behind_hash w after i e) n = absurd (both_ways (is_number (hash_kind w)) (hash_kind-no_number w) (ap is_number n))
-number_spelled (back_lolli after g) n = cc
-number_spelled (a_sign s after m i) n =
-    absurd (both_ways (is_number s.1) (not-true (is_number s.1) (member_passes (λ (u : List ℕ × TokenKind). not (is_number u.1)) signs s signs_are_no_numbers m)) (ap is_number n))
-number_spelled the_end n = cc
-
 declarable : (w : List ℕ) → is_name w ≡ true → length w ≤ 255 → is_declarable w ≡ true
 declarable w n l = and_from (is_name w) (nat_le (length w) 255) n (le-leb (length w) 255 l)
 

@@ -43,7 +43,8 @@ fn occurs_misfit(alloc: Global, place: &Place<'_>, obj: &Obj) -> Result<bool, Al
 
 /// Whether a local that stands at another type than its own occurs in the object.
 pub fn misfit_occurs(alloc: Global, places: &Places<'_>, obj: &Obj) -> Result<bool, AllocError>
-    ensures { IfOk result (λ b. b ≡ list_any (λ p. misfits p && occurs_of p.local (plain_obj obj.now)) places.now.places.items) }
+    ensures { IfOk result (λ b.
+        b ≡ list_any (λ p. misfits p && occurs_of p.local (plain_obj obj.now)) places.now.places.items) }
 {
     for place in places.places.as_slice() {
         let found = occurs_misfit(alloc, place, obj)?;

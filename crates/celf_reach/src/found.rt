@@ -33,7 +33,8 @@ pub fn nothing() -> Found
 
 /// The first one, if there is one.
 fn first_of(first: Option<Prune>, second: Option<Prune>) -> Option<Prune>
-    ensures { option_map plain_prune result ≡ spec.first_of (option_map plain_prune first) (option_map plain_prune second) }
+    ensures { option_map plain_prune result
+        ≡ spec.first_of (option_map plain_prune first) (option_map plain_prune second) }
 {
     match first {
         Some(prune) => Some(prune),

@@ -58,7 +58,8 @@ pub fn prune_of(
     depth: u64,
     places: &Places<'_>,
 ) -> Result<Option<Prune>, AllocError>
-    ensures { IfOk result (λ found. PrunesTo marks.now depth places.now.meta (plain_places places.now) (option_map plain_prune found)) }
+    ensures { IfOk result (λ found.
+        PrunesTo marks.now depth places.now.meta (plain_places places.now) (option_map plain_prune found)) }
 {
     let mask = mask_of(alloc, marks, depth, places.places.as_slice())?;
     if leaves_one(mask.as_slice()) {

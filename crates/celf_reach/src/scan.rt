@@ -163,7 +163,8 @@ fn scan_head<'a>(
     head: Head,
     ty: &'a Simple,
 ) -> Walking<'a>
-    ensures { is_metavariable head ≡ false → Some (plain_simple ty.now) ≡ head_type_in sought.now.consts.now (scope types.now) head
+    ensures { is_metavariable head ≡ false
+        → Some (plain_simple ty.now) ≡ head_type_in sought.now.consts.now (scope types.now) head
         → SoFar sought.now types.now (head_alone head) (plain_simple result.ty.now) (plain_found result.found) }
 {
     let foreign = is_marked(sought.marks, depth(sought, types), head);
@@ -208,7 +209,8 @@ fn scan_elimination<'a>(
 ) -> Result<Walking<'a>, Or<TooFar>>
     ensures { IfOk result (λ w. (n : PlainNeutral)
         → SoFar sought.now types.now n (plain_simple walking.entry.ty.now) (plain_found walking.entry.found)
-        → SoFar sought.now types.now (eliminated (plain_elim act.now) n) (plain_simple w.ty.now) (plain_found w.found)) }
+        → SoFar sought.now types.now (eliminated (plain_elim act.now) n) (plain_simple w.ty.now)
+        (plain_found w.found)) }
 {
     match act {
         Elim::Arg { mode: _, obj } => scan_argument(alloc, sought, types, obj, walking),
@@ -247,7 +249,8 @@ fn scan_argument<'a>(
 #[tactic(auto, using(clf_syntax::specs::PlainSimple::plain_simple_laws))]
 fn first_part<'a>(walking: Walking<'a>) -> Walking<'a>
     ensures same { plain_found result.found ≡ plain_found walking.entry.found }
-    ensures part { (c d : SimpleType) → plain_simple walking.entry.ty.now ≡ simple_with c d → plain_simple result.ty.now ≡ c }
+    ensures part { (c d : SimpleType) → plain_simple walking.entry.ty.now ≡ simple_with c d
+        → plain_simple result.ty.now ≡ c }
 {
     let Walking { found, ty } = walking;
     match ty {
@@ -265,7 +268,8 @@ fn first_part<'a>(walking: Walking<'a>) -> Walking<'a>
 #[tactic(auto, using(clf_syntax::specs::PlainSimple::plain_simple_laws))]
 fn second_part<'a>(walking: Walking<'a>) -> Walking<'a>
     ensures same { plain_found result.found ≡ plain_found walking.entry.found }
-    ensures part { (c d : SimpleType) → plain_simple walking.entry.ty.now ≡ simple_with c d → plain_simple result.ty.now ≡ d }
+    ensures part { (c d : SimpleType) → plain_simple walking.entry.ty.now ≡ simple_with c d
+        → plain_simple result.ty.now ≡ d }
 {
     let Walking { found, ty } = walking;
     match ty {

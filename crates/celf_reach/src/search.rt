@@ -38,8 +38,11 @@ pub fn reach<'a>(
     other: &Obj,
 ) -> Result<Reach<'a>, Or<TooFar>>
     ensures answer { IfOk result (λ r.
-        SimplyTyped (scoped (plain_locals locals.now) (heads_of consts.now metas.now)) (plain_obj side.now) (plain_simple ty.now) →
-        SimplyTyped (scoped (plain_locals locals.now) (heads_of consts.now metas.now)) (plain_obj other.now) (plain_simple ty.now) →
+        SimplyTyped (scoped (plain_locals locals.now) (heads_of consts.now metas.now))
+        (plain_obj side.now) (plain_simple ty.now)
+        → SimplyTyped (scoped (plain_locals locals.now) (heads_of consts.now metas.now))
+        (plain_obj other.now) (plain_simple ty.now)
+        →
         Answers (heads_of consts.now metas.now) (plain_locals locals.now) (plain_simple ty.now) (plain_obj side.now)
         (plain_obj other.now) r) }
 {

@@ -4,6 +4,7 @@ use Rattle.clf_syntax.specs.declared.tree.Head.{Head}
 use Rattle.clf_syntax.specs.declared.tree.Head.TheVariants.{Const, Var, Meta}
 use Rattle.clf_syntax.specs.Tree.{PlainObject, lam, pair, unit, monadic, atomic, hole, PlainNeutral, head_alone, app, fst, snd, PlainExpression, step, done, PlainTuple, empty, entry as tuple_entry}
 use Rattle.clf_syntax.specs.TypeTree.{PlainType, family, function, both as additive_pair, top as additive_unit, monad, PlainTelescope, end, binding, PlainKind}
+use Rattle.clf_syntax.proofs.Lists.{get-front}
 use Rattle.clf_sig.specs.Entry.{PlainClass, family_of, constant_of, PlainEntry, PlainSignature, Declaration}
 use Rattle.clf_printer.specs.declared.place.Place.{Place}
 use Rattle.clf_printer.specs.declared.place.Place.TheVariants.{Whole, Operand, Factor}
@@ -12,11 +13,6 @@ use Rattle.clf_printer.specs.Metas.{appearing_class}
 use Rattle.celf_spelling.specs.Printable.{IsPrintablePlace, IsPrintableHead, HasNames, NeutralHasNames, ExpressionHasNames, TupleHasNames, ArePrintableIndices, IsPrintableType, IsPrintableTelescope, IsPrintableKind, IsPrintableClass}
 use Rattle.celf_replies.specs.Reply.{entry}
 use Rattle.celf_replies.specs.Text.{reply_text}
-
-get-front : (front es : PlainSignature) (k : ℕ) (d : Declaration) → slice_get front k ≡ Some d → slice_get (front ++ es) k ≡ Some d
-get-front [] es k d h = absurd (cc)
-get-front (x ∷ xs) es zero d h = h
-get-front (x ∷ xs) es (suc k) d h = get-front xs es k d h
 
 pub get-behind : (front : PlainSignature) (d : Declaration) → slice_get (front ++ d ∷ []) (length front) ≡ Some d
 get-behind [] d = refl

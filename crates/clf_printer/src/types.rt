@@ -238,8 +238,8 @@ fn push_tele_entry(
     ensures { OnOk result (out.new.items
         ≡ out.old.items
         ++ spec.tele_entry_text (plain_tele_entry entry.now).0 named goes_on level
-        (spec.type_text (plain_signature sig.now) metas.now level Whole (plain_tele_entry entry.now).1) (spec.type_text (plain_signature sig.now) metas.now level Operand
-        (plain_tele_entry entry.now).1)) }
+        (spec.type_text (plain_signature sig.now) metas.now level Whole (plain_tele_entry entry.now).1)
+        (spec.type_text (plain_signature sig.now) metas.now level Operand (plain_tele_entry entry.now).1)) }
 {
     if named {
         out.extend_from_slice(b"Exists ")?;

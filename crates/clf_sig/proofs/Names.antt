@@ -128,13 +128,6 @@ module _ {Z : Type 0} where
   at_name (x ∷ es) zero k e h = ap (option_map (λ (p : String Z × Entry). string_bytes p.0)) h
   at_name (x ∷ es) (suc i) k e h = at_name es i k e h
 
-  -- past the end
-  pub none_at : (es : List (String Z × Entry)) (i : ℕ) → None ≡ slice_get es i
-      → (None ≡ slice_get (entries (named es)) i) × (None ≡ entry_at (plain_signature (named es)) i) × (None ≡ class_at (plain_signature (named es)) i) × (None ≡ slice_get (names (plain_signature (named es))) i)
-  none_at [] i h = (refl, refl, refl, refl)
-  none_at (x ∷ es) zero h = cc
-  none_at (x ∷ es) (suc i) h = none_at es i h
-
   -- ---- distinct names
   differs : (x : String Z) (es : List (String Z × Entry)) → AllByRecursion (λ y. string_eq x y ≡ false) (keys_of es) → (j : ℕ) (d : List ℕ) → j < length (names (plain_signature (named es))) → string_bytes x ≢ slice_index_or (names (plain_signature (named es))) j d
   differs x [] h j d l = absurd (omega arith)
@@ -149,8 +142,5 @@ module _ {Z : Type 0} where
   distinct (e ∷ es) h (suc i) (suc j) d lt l = distinct es (IsDistinct-tail string_eq e.0 (keys_of es) h) i j d (omega arith) (omega arith)
 
 -- ---- one more entry
-pub named-append : {Z : Type 0} (es fs : List (String Z × Entry)) → named (es ++ fs) ≡ named es ++ named fs
-named-append es fs = map-append (λ e. (string_bytes e.0, e.1)) es fs
-
 pub plain_signature-append : (a b : Declared) → plain_signature (a ++ b) ≡ plain_signature a ++ plain_signature b
 plain_signature-append a b = map-append (λ d. (d.0, plain_entry d.1)) a b

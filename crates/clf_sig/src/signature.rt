@@ -44,7 +44,8 @@ impl Model for Signature {
 
     ghost view = { λ s. named s.declared.entries };
 
-    ghost invariant = { λ s. (length s.declared.entries ≤ entry_limit) × (map plain_simple s.simples.items ≡ simple_types (plain_signature (named s.declared.entries))) };
+    ghost invariant = { λ s. (length s.declared.entries ≤ entry_limit)
+        × (map plain_simple s.simples.items ≡ simple_types (plain_signature (named s.declared.entries))) };
 }
 
 impl Signature {

@@ -1,4 +1,4 @@
--- Inner: what contracts see of the types in scope, which stand after references and have the newest variable last.
+-- What contracts see of the types in scope, which stand after references and have the newest variable last.
 use Rattle.std.specs.Prelude.{List, map, reverse}
 use Rattle.std.specs.Borrow.{Bor}
 use Rattle.clf_syntax.specs.declared.tree.Simple.{Simple}

@@ -118,8 +118,10 @@ fn expand_pair<'a>(
     root: &Root<'a>,
     noted: Vec<Noted<'a>>,
 ) -> Result<Obj, Or<TooFar>>
-    ensures { Writes plain_obj fits (pair (expansion (plain_simple left.now)
-        (spec.under (plain_notes noted.entry.items ++ spec.first_part ∷ []) (plain_root root.now))) (expansion (plain_simple right.now)
+    ensures { Writes plain_obj fits (pair
+        (expansion (plain_simple left.now)
+        (spec.under (plain_notes noted.entry.items ++ spec.first_part ∷ []) (plain_root root.now)))
+        (expansion (plain_simple right.now)
         (spec.under (plain_notes noted.entry.items ++ spec.second_part ∷ []) (plain_root root.now))))
         result }
 {

@@ -7,3 +7,4 @@ pub mod Spines
 pub mod Next
 pub mod Renumbered
 pub mod Parts
+pub mod Lists

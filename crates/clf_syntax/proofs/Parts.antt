@@ -83,16 +83,3 @@ expression-parts ss us es fs e = (
 )
 
 pub ruleset same_laws = (plain_laws, neutral-parts, expression-parts)
-
--- ---- lists, from one place on
-
-firsts : {P : Type 0} {a b : P} {xs ys : List P} → a ∷ xs ≡ b ∷ ys → (a ≡ b) × (xs ≡ ys)
-firsts e = (cc, cc)
-
-pub next-same : {X P : Type 0} (p : X → P) (xs ys : List X) (i : ℕ) (x y : X) → i < length xs → i < length ys → x ≡ get_or xs i x → y ≡ get_or ys i y
-    → map p (drop i xs) ≡ map p (drop i ys) → (p x ≡ p y) × (map p (drop (i + 1) xs) ≡ map p (drop (i + 1) ys))
-next-same p xs ys i x y h k e f g = firsts (sym (ap (map p) (dropped xs i x h e)) ∙ g ∙ ap (map p) (dropped ys i y k f))
-
-pub same-next : {X P : Type 0} (p : X → P) (xs ys : List X) (i : ℕ) (x y : X) → i < length xs → i < length ys → x ≡ get_or xs i x → y ≡ get_or ys i y
-    → p x ≡ p y → map p (drop (i + 1) xs) ≡ map p (drop (i + 1) ys) → map p (drop i xs) ≡ map p (drop i ys)
-same-next p xs ys i x y h k e f g r = ap (map p) (dropped xs i x h e) ∙ conses g r ∙ sym (ap (map p) (dropped ys i y k f))

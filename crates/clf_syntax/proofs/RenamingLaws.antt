@@ -143,9 +143,6 @@ walk h g f i x y z p q r = ap h (ap g p) ∙ ap h q ∙ r
 lift_gives : (n : ℕ) (r : Renumbering) (i j k v : ℕ) → r j ≡ k → i ≡ j + n → v ≡ k + n → lifted n r i ≡ v
 lift_gives n r i j k v p e f = ap (lifted n r) e ∙ lift_up n r j ∙ ap (up n) p ∙ sym f
 
-new_gives : (p q : ℕ) {i v : ℕ} → i < q → v ≡ i + p → crossed p q i ≡ v
-new_gives p q {i} {v} h e = cross_new p q i h ∙ sym e
-
 old_gives : (p q : ℕ) {i v : ℕ} → i < q + p → i ≡ v + q → crossed p q i ≡ v
 old_gives p q {i} {v} h e = cross_old p q i (omega arith) h ∙ omega arith
 

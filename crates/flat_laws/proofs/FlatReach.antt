@@ -16,6 +16,7 @@ use Rattle.pattern_laws.specs.Equations.{scoped, Locals}
 use Rattle.store_laws.specs.Mentions.{mentions, mentions_neutral, mentions_expression, mentions_tuple}
 use Rattle.pattern_laws.proofs.Places.{same_types}
 use Rattle.pattern_laws.proofs.Orders.{searched, ordered_no_circle}
+use Rattle.pattern_laws.proofs.Spines.{head_on}
 use Rattle.reach_laws.specs.Reach.{Standing, standing_here, standing_body, standing_left, standing_right, standing_below, StandingBelow, in_this, in_earlier, under_fst, under_snd, Prunable, PrunableBelow, InReach, same_reach, head_reach, inside_reach, free_reach}
 use Rattle.flat_laws.specs.Flat.{Flat, FlatBelow}
 use Rattle.flat_laws.specs.Laws.{FlatReaches}
@@ -65,10 +66,6 @@ mutual
 pub on_silent : (k : ℕ) (ps : List Place) (n : PlainNeutral) → mentions_neutral k n ≡ false → mentions_neutral k (on ps n) ≡ false
 on_silent k [] n e = e
 on_silent k (p ∷ ps) n e = neither (on_silent k ps n e) (eta_silent k p.1 (head_alone (Var p.2)) refl)
-
-head_on : (ps : List Place) (r : PlainNeutral) → head_of (on ps r) ≡ head_of r
-head_on [] r = refl
-head_on (p ∷ ps) r = head_on ps r
 
 -- a variable is foreign or not
 pub foreign_cases : (n : ℕ) (ps : List Place) (d w : ℕ) → Foreign n ps d w ⊎ (Foreign n ps d w → ⊥)

@@ -11,7 +11,8 @@ use Rattle.eta_laws.specs.Eta.{eta}
 use Rattle.eta_laws.proofs.EtaTyped.{eta_typed}
 use Rattle.metavars.specs.Fresh.{Local, Scope, binder, functions, applied_from, new_types, fresh_object}
 use Rattle.metavars.specs.Laws.{FreshIsTyped}
-use Rattle.metavars.proofs.Gets.{get-front, get-behind}
+use Rattle.clf_syntax.proofs.Lists.{get-front}
+use Rattle.metavars.proofs.Gets.{get-behind}
 
 -- the variables of the scope, from a number on, have their types
 abbrev Holds : Assignment → ℕ → Scope → Type 0

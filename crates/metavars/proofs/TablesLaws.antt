@@ -17,7 +17,8 @@ use Rattle.metavars.specs.declared.tables.Tables.{Tables}
 use Rattle.store_laws.specs.Additions.{given, meta_types}
 use Rattle.metavars.specs.Stored.{Stored, Added, added_new, added_solved, plain_added}
 use Rattle.metavars.specs.Tables.{told, listed, new_ones, AreTables, with_new, with_solved, place_in, inner_place, object_in, object_of}
-use Rattle.metavars.proofs.Gets.{get-front, get-last, get-split, get-set_same, get-set_other, slice_get_none, take-take}
+use Rattle.clf_syntax.proofs.Lists.{get-front}
+use Rattle.metavars.proofs.Gets.{get-last, get-split, get-set_same, get-set_other, slice_get_none, take-take}
 
 -- ---- counts
 

@@ -10,7 +10,8 @@ use Rattle.clf_syntax.specs.Simple.{Assignment, assigned, extended, extended_by,
 use Rattle.clf_syntax.proofs.RenamingLaws.{ext}
 use Rattle.hered_subst.proofs.SimpleTyping.{to_typed, of_typed}
 use Rattle.store_laws.specs.Additions.{Addition, new, solved, meta_types, given, heads_of}
-use Rattle.store_laws.proofs.Lists.{get-front, types-append}
+use Rattle.clf_syntax.proofs.Lists.{get-front}
+use Rattle.store_laws.proofs.Lists.{types-append}
 use Rattle.store_laws.proofs.Mentioned.{typed_where}
 use Rattle.metavars.specs.Typed.{without_variables, TypesStore}
 use Rattle.metavars.specs.Laws.{StoreIsTyped}

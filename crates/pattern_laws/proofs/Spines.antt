@@ -4,7 +4,7 @@ use Rattle.std.proofs.Common.{ap, sym, subst, ◌∙◌, arith, inl, inr, ⊎_el
 use Rattle.clf_syntax.specs.declared.tree.Mode.{Mode}
 use Rattle.clf_syntax.specs.declared.tree.Head.{Head}
 use Rattle.clf_syntax.specs.declared.tree.Head.TheVariants.{Const, Var, Meta}
-use Rattle.clf_syntax.specs.Tree.{PlainObject, lam, atomic, PlainNeutral, head_alone}
+use Rattle.clf_syntax.specs.Tree.{PlainObject, lam, atomic, PlainNeutral, head_alone, head_of}
 use Rattle.clf_syntax.specs.TypeTree.{SimpleType, arrow}
 use Rattle.clf_syntax.specs.Simple.{Assignment, extended}
 use Rattle.clf_syntax.specs.Renaming.{Renumbering, lifted, ren_head, ren, up, raise}
@@ -24,6 +24,11 @@ use Rattle.pattern_laws.proofs.Occurrences.{target}
 use Rattle.pattern_laws.proofs.Typings.{typed_where, blank_absent}
 use Rattle.pattern_laws.specs.Instantiations.{Instantiated}
 use Rattle.pattern_laws.specs.Patterns.{Place, on, lams, arrows, filled, Fitting, beneath}
+
+-- eliminations by places keep the head
+pub head_on : (ps : List Place) (r : PlainNeutral) → head_of (on ps r) ≡ head_of r
+head_on [] r = refl
+head_on (p ∷ ps) r = head_on ps r
 
 -- all variables are kept
 abbrev pub KeepsVariables : Environment → Type 0

@@ -14,6 +14,7 @@ use Rattle.pattern_laws.specs.Patterns.{Place, IsFinal, on, blank, local_at, Own
 use Rattle.pattern_laws.proofs.EtaVariables.{eta_there, eta_source}
 use Rattle.pattern_laws.proofs.Places.{same_types}
 use Rattle.pattern_laws.proofs.Typings.{blank_is}
+use Rattle.pattern_laws.proofs.Spines.{head_on}
 use Rattle.inversion_laws.proofs.Misfits.{blank_eta}
 
 function_of : {m k : Mode} {r s : PlainNeutral} {o u : PlainObject} → app m r o ≡ app k s u → r ≡ s
@@ -116,10 +117,6 @@ pub one_reading_on : (z : Assignment) (r : PlainNeutral) (m m' : ℕ) (ps qs ps'
 one_reading_on z r m m' ps qs ps' qs' t f o o' = let (s, k) = same_types ps ps' t t f f (one_type (sym o.type ∙ ap (λ j. z (Meta j)) head ∙ o'.type)) in
     let (e, a) = alike z ps qs ps' qs' m m' o.places o'.places s (sym o.neutral ∙ o'.neutral) in (e, s, a)
   where
-    head_on : (ws : List Place) (n : PlainNeutral) → head_of (on ws n) ≡ head_of n
-    head_on [] n = refl
-    head_on (w ∷ ws) n = head_on ws n
-
     same_meta : {i j : ℕ} → Meta i ≡ Meta j → i ≡ j
     same_meta e = cc
 

@@ -14,6 +14,7 @@ use Rattle.pattern_laws.specs.Equations.{scoped, Locals}
 use Rattle.pattern_laws.specs.Patterns.{Place, IsFinal, on, local_at, OnDistinct, OnLocals, LacksMisfits, SameTypes, Foreign, NoCircle, Ends, ends_here, ends_later}
 use Rattle.pattern_laws.proofs.Owning.{on_locals}
 use Rattle.pattern_laws.proofs.Places.{covers}
+use Rattle.pattern_laws.proofs.Spines.{head_on}
 use Rattle.reach_laws.specs.Reach.{Standing, standing_below, InReach, same_reach, head_reach, inside_reach, free_reach, Reaches}
 use Rattle.reach_walk.specs.Answers.{IsPattern, IsClash, IsSame, IsPrune, IsAssign}
 use Rattle.reach_walk.specs.Marks.{MarksForeign}
@@ -27,10 +28,6 @@ same_neutral e = cc
 
 no_length : (es : Locals) → length (es ++ []) ≡ length es
 no_length es = ap length (append-nil es)
-
-head_on : (ws : List Place) (n : PlainNeutral) → head_of (on ws n) ≡ head_of n
-head_on [] n = refl
-head_on (w ∷ ws) n = head_on ws n
 
 pub head_of_pattern : (z : Assignment) (r : PlainNeutral) (m : ℕ) (ps qs : List Place) (t : SimpleType) → OnLocals z r m ps qs t → head_of r ≡ Meta m
 head_of_pattern z r m ps qs t o = ap head_of o.neutral ∙ head_on qs (head_alone (Meta m))

@@ -15,11 +15,6 @@ by_end P none more xs = go xs [] none
     go [] past p = subst P (sym (append-nil past)) p
     go (x ∷ rest) past p = subst P (append_assoc past (x ∷ []) rest) (go rest (past ++ x ∷ []) (more past x p))
 
-pub get-front : {X : Type 0} (xs ys : List X) (p : ℕ) (x : X) → slice_get xs p ≡ Some x → slice_get (xs ++ ys) p ≡ Some x
-get-front [] ys p x e = absurd (cc)
-get-front (y ∷ xs) ys zero x e = e
-get-front (y ∷ xs) ys (suc p) x e = get-front xs ys p x e
-
 pub types-append : (xs ys : List Addition) → meta_types (xs ++ ys) ≡ meta_types xs ++ meta_types ys
 types-append [] ys = refl
 types-append (new t ∷ xs) ys = ap (λ l. t ∷ l) (types-append xs ys)

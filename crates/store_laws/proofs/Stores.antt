@@ -25,7 +25,8 @@ use Rattle.store_laws.specs.Laws.{StoreIsPutIn, StoreGrows, StoreIsCut}
 use Rattle.store_laws.proofs.Mentioned.{typed_where, Ordinary, Where}
 use Rattle.store_laws.proofs.Numbers.{number_cases, set_there, set_else, some_none}
 use Rattle.store_laws.proofs.Closing.{dropped, without, silent, Gives, gives_typed, no_families, next, closed_again, next_gives, at_false}
-use Rattle.store_laws.proofs.Lists.{by_end, get-front, types-append, given-new, given-solved}
+use Rattle.clf_syntax.proofs.Lists.{get-front}
+use Rattle.store_laws.proofs.Lists.{by_end, types-append, given-new, given-solved}
 
 -- ---- variables
 

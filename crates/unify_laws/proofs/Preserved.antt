@@ -16,6 +16,7 @@ use Rattle.store_laws.specs.Additions.{set}
 use Rattle.pattern_laws.specs.Instantiations.{Types, closed}
 use Rattle.pattern_laws.specs.Equations.{scoped, Equation, TypedEquations, Locals}
 use Rattle.pattern_laws.proofs.Inverse.{lams_typed}
+use Rattle.pattern_laws.proofs.Spines.{head_on}
 use Rattle.unify_laws.specs.Problems.{Grows, WellTyped}
 use Rattle.unify_laws.specs.Progress.{CameFrom}
 use Rattle.unify_laws.proofs.Assign.{another}
@@ -115,10 +116,6 @@ on_typed g (q ∷ qs) r c f p = typed_app (on_typed g qs r (arrow q.0 q.1 c) f.1
 beneath_meta : (ps : List Place) (y : Assignment) (m : ℕ) → beneath ps y (Meta m) ≡ y (Meta m)
 beneath_meta [] y m = refl
 beneath_meta (p ∷ ps) y m = beneath_meta ps y m
-
-head_on : (ps : List Place) (r : PlainNeutral) → head_of (on ps r) ≡ head_of r
-head_on [] r = refl
-head_on (p ∷ ps) r = head_on ps r
 
 -- The solution by a new metavariable is typed.
 pub narrowed_typed : (constants metas : Types) (k : ℕ) (bs : List Bool) (ps : List Place) (a : SimpleType) → IsFinal a → metas k ≡ Some (arrows (masked 0 bs ps) a)

@@ -125,11 +125,3 @@ length-taken [] i hs = refl
 length-taken (m ∷ ms) i [] = refl
 length-taken (m ∷ ms) zero (h ∷ hs) = refl
 length-taken (m ∷ ms) (suc i) (h ∷ hs) = ap suc (length-taken ms i hs)
-
--- a use keeps the persistent entries held
-pub WellMarked-taken : (ms : List Mode) (i : ℕ) (hs : Holding) → WellMarked ms hs → WellMarked ms (taken ms i hs)
-WellMarked-taken [] i [] w = w
-WellMarked-taken [] i (h ∷ hs) w = w
-WellMarked-taken (m ∷ ms) i [] w = w
-WellMarked-taken (m ∷ ms) zero (h ∷ hs) w = ((λ e. let b : h ≡ true = w.0 e in cc), w.1)
-WellMarked-taken (m ∷ ms) (suc i) (h ∷ hs) w = (w.0, WellMarked-taken ms i hs w.1)
