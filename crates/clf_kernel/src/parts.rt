@@ -135,7 +135,7 @@ impl Judge<'_> {
         requires second_marked { IsRowOf self.now second.row }
         ensures outcome { Gives plain_left (joined_left (context_of self.now) (plain_left first) (plain_left second)
             (newest_difference (modes (context_of self.now)) (marks first.row) first.slack (marks second.row)
-                second.slack)) result }
+            second.slack)) result }
         ensures marked { IfOk result (λ left. IsRowOf self.now left.row) }
     {
         match join_add(&self.ctx, first, second) {
