@@ -15,3 +15,5 @@ pub mod Agreeing
 pub mod Asked
 pub mod Sought
 pub mod Scanned
+pub mod Mentioned
+pub mod Stuckness
