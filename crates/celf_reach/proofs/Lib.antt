@@ -7,3 +7,4 @@ pub mod Composing
 pub mod Agreed
 pub mod Mentioning
 pub mod StuckTests
+pub mod Passing
