@@ -1,5 +1,5 @@
 -- Inner: where a walk over the other side may meet a number that goes too far. Lack of memory is free.
-use Rattle.std.specs.Prelude.{List, ◌++◌}
+use Rattle.std.specs.Prelude.{◌⊎◌, List, ◌++◌}
 use Rattle.std.specs.Borrow.{Bor}
 use Rattle.clf_syntax.specs.declared.fault.Or.{Or}
 use Rattle.clf_syntax.specs.declared.fault.Or.TheVariants.{Fault, NoMemory}
@@ -7,7 +7,7 @@ use Rattle.clf_syntax.specs.declared.fault.TooFar.{TooFar}
 use Rattle.clf_syntax.specs.declared.tree.Simple.{Simple}
 use Rattle.clf_syntax.specs.Tree.{PlainObject, PlainNeutral}
 use Rattle.clf_syntax.specs.TypeTree.{SimpleType}
-use Rattle.clf_syntax.specs.Simple.{SimplyTyped, SimplyTypedNeutral}
+use Rattle.clf_syntax.specs.Simple.{Assignment, SimplyTyped, SimplyTypedNeutral}
 use Rattle.pattern_laws.specs.Equations.{Locals, scoped}
 use Rattle.pattern_laws.specs.Patterns.{Place}
 use Rattle.reach_walk.specs.Somewhere.{Somewhere, SomewhereBelow}
@@ -31,3 +31,7 @@ PassesBelow s types n NoMemory = Unit {0}
 -- over tables, where the other side is typed
 abbrev pub PassesFor : Tables → SimpleType → PlainObject → Or TooFar → Type 0
 PassesFor t a other e = SimplyTyped (scoped (plain_locals t.locals.now) (heads_of t.consts.now t.metas.now)) other a → ReachTooFar (heads_of t.consts.now t.metas.now) (plain_locals t.locals.now) a other e
+
+-- from both sides, where they are typed
+abbrev pub PassesEither : Assignment → Locals → SimpleType → PlainObject → PlainObject → Or TooFar → Type 0
+PassesEither g ls a left right e = SimplyTyped (scoped ls g) left a → SimplyTyped (scoped ls g) right a → ReachTooFar g ls a right e ⊎ ReachTooFar g ls a left e

@@ -1,12 +1,14 @@
 //! Whether an equation is stuck.
-ghost use Rattle.std.specs.Prelude.{◌≡◌, ◌↔◌, ◌⊎◌, IfOk, IsTrue, true};
+ghost use Rattle.std.specs.Prelude.{◌≡◌, ◌↔◌, ◌⊎◌, IfErr, IfOk, IsTrue, true};
 ghost use Rattle.clf_syntax.specs.Plain.{plain_obj};
 ghost use Rattle.clf_syntax.specs.PlainSimple.{plain_simple};
 ghost use Rattle.celf_constraints.specs.Equated.{plain_equation, plain_locals};
 ghost use Rattle.pattern_laws.specs.Equations.{TypedEquation};
 ghost use Rattle.reach_laws.specs.Reach.{Stuck};
 ghost use Rattle.celf_reach.specs.Answered.{heads_of, types_in};
+ghost use Rattle.celf_reach.specs.Limits.{EitherTooFar};
 ghost use Rattle.celf_reach.specs.Mentioned as mentioned;
+ghost use Rattle.celf_reach.specs.Passed.{PassesEither, PassesFor};
 ghost use Rattle.celf_reach.specs.Stuckness as spec;
 
 use crate::answer::Reach;
@@ -29,6 +31,9 @@ pub fn stuck(
     ensures exact { IfOk result (λ b.
         TypedEquation (types_in consts.now) (types_in metas.now) (plain_equation equation.now)
         → (IsTrue b ↔ Stuck (types_in consts.now) (types_in metas.now) (plain_equation equation.now))) }
+    ensures too_far { IfErr result (λ e.
+        TypedEquation (types_in consts.now) (types_in metas.now) (plain_equation equation.now)
+        → EitherTooFar (heads_of consts.now metas.now) (plain_equation equation.now) e) }
 {
     let tables = Tables {
         consts,
@@ -95,8 +100,10 @@ fn are_apart(
     left: &Obj,
     right: &Obj,
 ) -> Result<bool, Or<TooFar>>
-    ensures { IfOk result
+    ensures exact { IfOk result
         (spec.SaysApart (heads_of tables.now.consts.now tables.now.metas.now)
+        (plain_locals tables.now.locals.now) (plain_simple ty.now) (plain_obj left.now) (plain_obj right.now)) }
+    ensures too_far { IfErr result (PassesEither (heads_of tables.now.consts.now tables.now.metas.now)
         (plain_locals tables.now.locals.now) (plain_simple ty.now) (plain_obj left.now) (plain_obj right.now)) }
 {
     if reaches(alloc, tables, ty, left, right)? {
@@ -113,9 +120,10 @@ fn reaches(
     side: &Obj,
     other: &Obj,
 ) -> Result<bool, Or<TooFar>>
-    ensures { IfOk result
+    ensures exact { IfOk result
         (spec.SaysReach (heads_of tables.now.consts.now tables.now.metas.now)
         (plain_locals tables.now.locals.now) (plain_simple ty.now) (plain_obj side.now) (plain_obj other.now)) }
+    ensures too_far { IfErr result (PassesFor tables.now (plain_simple ty.now) (plain_obj other.now)) }
 {
     let answer = reach(
         alloc,
