@@ -126,7 +126,9 @@ fn makes_a_function(alloc: Global) -> Option<bool> {
     let mode = Mode::Persistent;
     let ty = Simple::Atom(0);
     locals.push(SimpleEntry { mode, ty }).ok()?;
-    let made = store.fresh(&function_to(alloc, Simple::Atom(0))?, locals.as_slice()).ok()?;
+    let made = store
+        .fresh(&function_to(alloc, Simple::Atom(0))?, locals.as_slice())
+        .ok()?;
     let older = bare(alloc, Head::Var(1));
     let newer = bare(alloc, Head::Var(0));
     let wanted = lambda(alloc, applied_twice(alloc, Head::Meta(0), older, newer)?)?;
