@@ -5,3 +5,6 @@ pub mod Situations
 pub mod Misfitting
 pub mod Composing
 pub mod Agreed
+pub mod Mentioning
+pub mod StuckTests
+pub mod Passing

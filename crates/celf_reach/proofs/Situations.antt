@@ -234,7 +234,7 @@ finds_rigid s types n t f e w ls ds ps h p = walked_rigid (sought_heads s) ls s.
     (w ls ds ps h t p.1)
 
 -- the type of what stands under a spine
-inner_type : (z : Assignment) (es : List PlainElimination) (r : PlainNeutral) (t : SimpleType) → SimplyTypedNeutral z (spine_on es r) t → (u : SimpleType) × SimplyTypedNeutral z r u
+pub inner_type : (z : Assignment) (es : List PlainElimination) (r : PlainNeutral) (t : SimpleType) → SimplyTypedNeutral z (spine_on es r) t → (u : SimpleType) × SimplyTypedNeutral z r u
 inner_type z [] r t p = (t, p)
 inner_type z (arg m o ∷ es) r t p = let (u, q) = inner_type z es (app m r o) t p in (arrow m q.0 u, q.1)
 inner_type z (first ∷ es) r t p = let (u, q) = inner_type z es (fst r) t p in (simple_with u q.0, q.1)

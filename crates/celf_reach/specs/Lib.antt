@@ -9,9 +9,13 @@ pub use Rattle.celf_constraints.specs.Equated
 pub use Rattle.celf_constraints.specs.Reading
 pub use Rattle.reach_walk.specs.Answers
 pub mod Answered
+pub mod Limits
 pub mod Masks
 pub mod Misfits
 pub mod Agreeing
 pub mod Asked
 pub mod Sought
 pub mod Scanned
+pub mod Passed
+pub mod Mentioned
+pub mod Stuckness

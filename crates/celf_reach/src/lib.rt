@@ -6,11 +6,14 @@ mod fits;
 mod found;
 mod marks;
 mod masks;
+mod mentioned;
 mod same;
 mod scan;
 mod search;
+mod stuckness;
 mod tables;
 mod types;
 
 pub use answer::Reach;
 pub use search::reach;
+pub use stuckness::stuck;

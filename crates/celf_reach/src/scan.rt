@@ -1,5 +1,5 @@
 //! The walk over the other side.
-ghost use Rattle.std.specs.Prelude.{◌≡◌, ◌-◌, IfOk, Some, false, true, length, map};
+ghost use Rattle.std.specs.Prelude.{◌≡◌, ◌-◌, IfOk, IfErr, Some, false, true, length, map};
 ghost use Rattle.clf_syntax.specs.Plain.{plain_obj, plain_neutral, plain_elim};
 ghost use Rattle.clf_syntax.specs.PlainSimple.{plain_simple};
 ghost use Rattle.clf_syntax.specs.Tree.{PlainNeutral, app, atomic, eliminated, head_alone, head_of, lam, spine_on};
@@ -10,6 +10,7 @@ ghost use Rattle.reach_walk.specs.Marks.{marked_in as marked_in_of};
 ghost use Rattle.hered_subst.specs.TypedEnvironments.{is_metavariable};
 ghost use Rattle.clf_simple.specs.Scope.{scope};
 ghost use Rattle.celf_reach.specs.Sought.{head_type_in};
+ghost use Rattle.celf_reach.specs.Passed.{PassesIn, PassesBelow};
 ghost use Rattle.celf_reach.specs.Scanned.{plain_found, loose_found, Finds, FindsBelow, SoFar, ReadAt};
 
 use crate::fits::has_misfit;
@@ -38,7 +39,8 @@ pub fn scan<'a>(
     obj: &Obj,
     ty: &'a Simple,
 ) -> Result<Found, Or<TooFar>>
-    ensures { IfOk result (λ f. Finds sought.now types.now (plain_obj obj.now) (plain_simple ty.now) (plain_found f)) }
+    ensures found { IfOk result (λ f. Finds sought.now types.now (plain_obj obj.now) (plain_simple ty.now) (plain_found f)) }
+    ensures too_far { IfErr result (PassesIn sought.now types.now (plain_obj obj.now) (plain_simple ty.now)) }
 {
     match obj {
         Obj::Lam { mode, body } => scan_lambda(alloc, sought, types, *mode, body.get(), ty),
@@ -68,8 +70,10 @@ fn scan_lambda<'a>(
     body: &Obj,
     ty: &'a Simple,
 ) -> Result<Found, Or<TooFar>>
-    ensures { IfOk result
+    ensures found { IfOk result
         (λ f. Finds sought.now types.now (lam mode (plain_obj body.now)) (plain_simple ty.now) (plain_found f)) }
+    ensures too_far { IfErr result
+        (PassesIn sought.now types.now (lam mode (plain_obj body.now)) (plain_simple ty.now)) }
 {
     match function_parts(ty) {
         None => Ok(nothing()),
@@ -103,9 +107,12 @@ fn scan_flexible<'a>(
     obj: &Obj,
     neutral: &Neutral,
 ) -> Result<Found, Or<TooFar>>
-    ensures { IfOk result (λ f. (t : SimpleType) → plain_obj obj.now ≡ atomic (plain_neutral neutral.now)
+    ensures found { IfOk result (λ f. (t : SimpleType) → plain_obj obj.now ≡ atomic (plain_neutral neutral.now)
         → is_metavariable neutral.now.head ≡ true
         → Finds sought.now types.now (plain_obj obj.now) t (plain_found f)) }
+    ensures too_far { IfErr result (λ e. (t : SimpleType) → plain_obj obj.now ≡ atomic (plain_neutral neutral.now)
+        → is_metavariable neutral.now.head ≡ true
+        → PassesIn sought.now types.now (plain_obj obj.now) t e) }
 {
     match read_in_scope(alloc, sought.metas, types, neutral)? {
         None => Ok(loose(sought, types, obj)?),
@@ -144,8 +151,10 @@ fn scan_rigid<'a>(
     types: &[&'a Simple],
     neutral: &Neutral,
 ) -> Result<Found, Or<TooFar>>
-    ensures { IfOk result (λ f. (t : SimpleType) → is_metavariable neutral.now.head ≡ false
+    ensures found { IfOk result (λ f. (t : SimpleType) → is_metavariable neutral.now.head ≡ false
         → Finds sought.now types.now (atomic (plain_neutral neutral.now)) t (plain_found f)) }
+    ensures too_far { IfErr result (λ e. (t : SimpleType) → is_metavariable neutral.now.head ≡ false
+        → PassesIn sought.now types.now (atomic (plain_neutral neutral.now)) t e) }
 {
     match head_type(sought, types, neutral.head) {
         None => Ok(nothing()),
@@ -185,9 +194,12 @@ fn scan_spine<'a>(
     spine: &[Elim],
     start: Walking<'a>,
 ) -> Result<Found, Or<TooFar>>
-    ensures { IfOk result (λ f. (n : PlainNeutral)
+    ensures found { IfOk result (λ f. (n : PlainNeutral)
         → SoFar sought.now types.now n (plain_simple start.entry.ty.now) (plain_found start.entry.found)
         → FindsBelow sought.now types.now (spine_on (map plain_elim spine.now) n) (plain_found f)) }
+    ensures too_far { IfErr result (λ e. (n : PlainNeutral)
+        → SoFar sought.now types.now n (plain_simple start.entry.ty.now) (plain_found start.entry.found)
+        → PassesBelow sought.now types.now (spine_on (map plain_elim spine.now) n) e) }
 {
     let mut walking = start;
     for act in spine {
@@ -207,10 +219,13 @@ fn scan_elimination<'a>(
     act: &Elim,
     walking: Walking<'a>,
 ) -> Result<Walking<'a>, Or<TooFar>>
-    ensures { IfOk result (λ w. (n : PlainNeutral)
+    ensures found { IfOk result (λ w. (n : PlainNeutral)
         → SoFar sought.now types.now n (plain_simple walking.entry.ty.now) (plain_found walking.entry.found)
         → SoFar sought.now types.now (eliminated (plain_elim act.now) n) (plain_simple w.ty.now)
         (plain_found w.found)) }
+    ensures too_far { IfErr result (λ e. (n : PlainNeutral)
+        → SoFar sought.now types.now n (plain_simple walking.entry.ty.now) (plain_found walking.entry.found)
+        → PassesBelow sought.now types.now (eliminated (plain_elim act.now) n) e) }
 {
     match act {
         Elim::Arg { mode: _, obj } => scan_argument(alloc, sought, types, obj, walking),
@@ -228,9 +243,12 @@ fn scan_argument<'a>(
     obj: &Obj,
     walking: Walking<'a>,
 ) -> Result<Walking<'a>, Or<TooFar>>
-    ensures { IfOk result (λ w. (k : Mode) (n : PlainNeutral)
+    ensures found { IfOk result (λ w. (k : Mode) (n : PlainNeutral)
         → SoFar sought.now types.now n (plain_simple walking.entry.ty.now) (plain_found walking.entry.found)
         → SoFar sought.now types.now (app k n (plain_obj obj.now)) (plain_simple w.ty.now) (plain_found w.found)) }
+    ensures too_far { IfErr result (λ e. (k : Mode) (n : PlainNeutral)
+        → SoFar sought.now types.now n (plain_simple walking.entry.ty.now) (plain_found walking.entry.found)
+        → PassesBelow sought.now types.now (app k n (plain_obj obj.now)) e) }
 {
     let Walking { found, ty } = walking;
     match function_parts(ty) {

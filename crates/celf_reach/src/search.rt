@@ -1,5 +1,5 @@
 //! What an equation allows, looked at from one of its sides.
-ghost use Rattle.std.specs.Prelude.{◌≡◌, ◌↔◌, IfOk, IsTrue, MatchOption};
+ghost use Rattle.std.specs.Prelude.{◌≡◌, ◌↔◌, IfOk, IfErr, IsTrue, MatchOption, map};
 ghost use Rattle.clf_syntax.specs.Plain.{plain_obj, plain_neutral};
 ghost use Rattle.clf_syntax.specs.PlainSimple.{plain_simple};
 ghost use Rattle.clf_syntax.specs.Simple.{SimplyTyped};
@@ -8,10 +8,12 @@ ghost use Rattle.clf_syntax.specs.TypeTree.{SimpleType};
 ghost use Rattle.clf_syntax.specs.declared.tree.Head.TheVariants.{Meta};
 ghost use Rattle.pattern_laws.specs.Equations.{scoped};
 ghost use Rattle.pattern_laws.specs.Patterns.{LacksMisfits};
-ghost use Rattle.celf_constraints.specs.Reading.{own_places, plain_places};
+ghost use Rattle.celf_constraints.specs.Reading.{FormTooFar, own_places, plain_places};
 ghost use Rattle.celf_constraints.specs.Equated.{plain_locals};
 ghost use Rattle.celf_reach.specs.Answered.{Answers, heads_of};
 ghost use Rattle.celf_reach.specs.Asked.{AnswersAt, AnswersFor, Told};
+ghost use Rattle.celf_reach.specs.Limits.{ReachTooFar};
+ghost use Rattle.celf_reach.specs.Passed.{PassesFor};
 ghost use Rattle.celf_reach.specs.Scanned.{plain_found};
 
 use crate::answer::Reach;
@@ -45,6 +47,12 @@ pub fn reach<'a>(
         →
         Answers (heads_of consts.now metas.now) (plain_locals locals.now) (plain_simple ty.now) (plain_obj side.now)
         (plain_obj other.now) r) }
+    ensures too_far { IfErr result (λ e.
+        SimplyTyped (scoped (plain_locals locals.now) (heads_of consts.now metas.now))
+        (plain_obj other.now) (plain_simple ty.now)
+        →
+        ReachTooFar (heads_of consts.now metas.now) (plain_locals locals.now) (plain_simple ty.now)
+        (plain_obj other.now) e) }
 {
     let tables = Tables {
         consts,
@@ -78,8 +86,9 @@ fn reach_neutral<'a>(
     neutral: &Neutral,
     other: &Obj,
 ) -> Result<Reach<'a>, Or<TooFar>>
-    ensures { IfOk result (λ r. plain_obj side.now ≡ atomic (plain_neutral neutral.now)
+    ensures answer { IfOk result (λ r. plain_obj side.now ≡ atomic (plain_neutral neutral.now)
         → AnswersFor tables.now (plain_simple ty.now) (plain_obj side.now) (plain_obj other.now) r) }
+    ensures too_far { IfErr result (PassesFor tables.now (plain_simple ty.now) (plain_obj other.now)) }
 {
     match read_places(alloc, tables.metas, tables.locals, neutral)? {
         None => Ok(Reach::No),
@@ -96,8 +105,9 @@ fn reach_places<'a>(
     places: Places<'a>,
     other: &Obj,
 ) -> Result<Reach<'a>, Or<TooFar>>
-    ensures { IfOk result (λ r. (n : PlainNeutral) →
+    ensures answer { IfOk result (λ r. (n : PlainNeutral) →
         AnswersAt tables.now (plain_simple ty.now) (plain_obj side.now) n places.entry (plain_obj other.now) r) }
+    ensures too_far { IfErr result (PassesFor tables.now (plain_simple ty.now) (plain_obj other.now)) }
 {
     if misfit_occurs(alloc, &places, other)? {
         return Ok(Reach::No);
@@ -144,10 +154,11 @@ fn reach_same<'a>(
     places: Places<'a>,
     neutral: &Neutral,
 ) -> Result<Reach<'a>, Or<TooFar>>
-    ensures { IfOk result (λ r. (n : PlainNeutral) (a : SimpleType)
+    ensures answer { IfOk result (λ r. (n : PlainNeutral) (a : SimpleType)
         → head_of (plain_neutral neutral.now) ≡ Meta places.entry.meta
         → LacksMisfits (plain_places places.entry) (own_places places.entry) (atomic (plain_neutral neutral.now))
         → AnswersAt tables.now a (plain_obj side.now) n places.entry (atomic (plain_neutral neutral.now)) r) }
+    ensures too_far { IfErr result (FormTooFar (map (λ l. l.1) (plain_locals tables.now.locals.now))) }
 {
     match read_places(alloc, tables.metas, tables.locals, neutral)? {
         None => Ok(Reach::No),
@@ -171,10 +182,11 @@ fn reach_other<'a>(
     places: Places<'a>,
     other: &Obj,
 ) -> Result<Reach<'a>, Or<TooFar>>
-    ensures { IfOk result (λ r. (side : PlainObject) (n : PlainNeutral)
+    ensures answer { IfOk result (λ r. (side : PlainObject) (n : PlainNeutral)
         → ((k : PlainNeutral) → plain_obj other.now ≡ atomic k → head_of k ≡ Meta places.entry.meta → ⊥)
         → LacksMisfits (plain_places places.entry) (own_places places.entry) (plain_obj other.now)
         → AnswersAt tables.now (plain_simple ty.now) side n places.entry (plain_obj other.now) r) }
+    ensures too_far { IfErr result (PassesFor tables.now (plain_simple ty.now) (plain_obj other.now)) }
 {
     let marks = foreign_marks(alloc, tables.locals.len(), &places)?;
     let types = scope_of(alloc, tables.locals)?;
