@@ -1,0 +1,4 @@
+pub mod Unders
+pub mod Meanings
+pub mod Rereading
+pub mod RereadingTypes

@@ -1,0 +1,4 @@
+pub use Rattle.celf_elaboration.specs.Readings
+pub use Rattle.celf_elaboration.specs.Declarations
+pub mod Becoming
+pub mod Laws
