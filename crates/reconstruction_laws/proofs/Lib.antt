@@ -2,3 +2,5 @@ pub mod Unders
 pub mod Meanings
 pub mod Rereading
 pub mod RereadingTypes
+pub mod LongBack
+pub mod Conforming

@@ -60,7 +60,7 @@ long_kept None v r x k = through_kept k.kept
 long_kept (Some t) v r x k = expansion_kept t v r x k
 
 -- the object of a blank type has no head
-blank_kept : (t : SimpleType) (v : Environment) (r x : PlainNeutral) → blank t ≡ true → Substituted v (expansion t r) (expansion t x)
+pub blank_kept : (t : SimpleType) (v : Environment) (r x : PlainNeutral) → blank t ≡ true → Substituted v (expansion t r) (expansion t x)
 blank_kept (base a) v r x e = absurd (cc)
 blank_kept (arrow m d c) v r x e = through_lam (blank_kept c (under 1 v) (core.app m (ren_neutral (up 1) r) (eta d (head_alone (Var 0)))) (core.app m (ren_neutral (up 1) x) (eta d (head_alone (Var 0)))) e)
 blank_kept (simple_with c d) v r x e = through_pair (blank_kept c v (core.fst r) (core.fst x) (both_true (blank c) (blank d) e).0) (blank_kept d v (core.snd r) (core.snd x) (both_true (blank c) (blank d) e).1)
@@ -71,11 +71,11 @@ blank_kept (simple_with c d) v r x e = through_pair (blank_kept c v (core.fst r)
 blank_kept simple_top v r x e = through_unit
 blank_kept (lax ts) v r x e = absurd (cc)
 
-known_length : (ls : List Scoped) (l : Locals) → KnownLocals ls l → length l ≡ length ls
+pub known_length : (ls : List Scoped) (l : Locals) → KnownLocals ls l → length l ≡ length ls
 known_length [] l p = ap length p
 known_length (x ∷ ls) l p = let (t, k, e, f, q) = p in ap length f ∙ ap suc (known_length ls k q)
 
-pattern_under : (ps : List (Mode × SimpleType)) (bs : List PBinder) (ls : List Scoped) (s : Environment) → under (length (pattern_modes ps bs)) (under (length ls) s) ≡ under (length (with_pattern ls ps bs)) s
+pub pattern_under : (ps : List (Mode × SimpleType)) (bs : List PBinder) (ls : List Scoped) (s : Environment) → under (length (pattern_modes ps bs)) (under (length ls) s) ≡ under (length (with_pattern ls ps bs)) s
 pattern_under ps [] ls s = under_zero (under (length ls) s)
 pattern_under ps (b ∷ bs) ls s = sym (under_under (length (pattern_modes (next_part ps).later bs)) (under (length ls) s)) ∙ ap (under (length (pattern_modes (next_part ps).later bs))) (under_one (length ls) s)
     ∙ pattern_under (next_part ps).later bs (record { mode = marked b.mode (next_part ps).mode; name = b.name; place = (next_part ps).place } ∷ ls) s
