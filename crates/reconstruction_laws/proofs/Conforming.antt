@@ -28,7 +28,7 @@ use Rattle.celf_elaboration.specs.Names.{ImplicitVariable, Meaning, meaning}
 use Rattle.celf_elaboration.specs.Readings.{with_pattern, ReadsImplicit, implicit_none, implicit_next, ReadsHead, reads_head, ReadsObject, reads_lam, reads_pair, reads_unit, reads_monadic, reads_atomic, reads_dropped, reads_hole, ReadsSpine, spine_end, spine_argument, spine_first, spine_second, ReadsSteps, steps_none, steps_next, ReadsTuple, tuple_end, tuple_entry}
 use Rattle.reconstruction_laws.proofs.LongBack.{eta_back}
 use Rattle.reconstruction_laws.proofs.Rereading.{blank_kept, known_length, pattern_under}
-use Rattle.reconstruction_laws.proofs.Unders.{under_one}
+use Rattle.subst_laws.proofs.Environs.{under_sum}
 
 -- ---- one environment after the other
 
@@ -144,7 +144,7 @@ module _ (sig : PlainSignature) (heads : ℕ → Head) (vs : List ImplicitVariab
     pub twice : TwiceTuple (under (length ls) t) (under (length ls) e) (core.tuple_of es) (core.tuple_of results)
     pub back : (l : Locals) → KnownLocals ls l → (s : SimpleTelescope) → ps ≡ entries_of s → SimplyTypedTuple (scoped l y) (core.tuple_of results) s → SimplyTypedTuple (scoped l g) (core.tuple_of es) s
 
-  filled : (ls : List Scoped) (l : Locals) (u : SimpleType) (o : PlainObject) → KnownLocals ls l → GoodFilling (record { locals = l; type = u; object = o }) → ObjectBack ls (Some u) o
+  pub filled : (ls : List Scoped) (l : Locals) (u : SimpleType) (o : PlainObject) → KnownLocals ls l → GoodFilling (record { locals = l; type = u; object = o }) → ObjectBack ls (Some u) o
   filled ls l u o k f = record {
     result = f.result;
     twice = subst (λ n. Twice (under n t) (under n e) o f.result) (known_length ls l k) f.twice;
@@ -228,8 +228,8 @@ module _ (sig : PlainSignature) (heads : ℕ → Head) (vs : List ImplicitVariab
         result = core.lam (marked m (function_parts p).mode) a.result;
         twice = record {
           between = core.lam (marked m (function_parts p).mode) a.twice.between;
-          once = through_lam (subst (λ (v : Environment). Substituted v n a.twice.between) (sym (under_one (length ls) t)) a.twice.once);
-          again = through_lam (subst (λ (v : Environment). Substituted v a.twice.between a.result) (sym (under_one (length ls) e)) a.twice.again);
+          once = through_lam (subst (λ (v : Environment). Substituted v n a.twice.between) (sym (under_sum (length ls) t)) a.twice.once);
+          again = through_lam (subst (λ (v : Environment). Substituted v a.twice.between a.result) (sym (under_sum (length ls) e)) a.twice.again);
         };
         back = λ l k u i q. let (d, c, j, x) = q in
             (d, c, j, a.back ((marked m (function_parts p).mode, d) ∷ l) (d, l, ap (λ v. (function_parts v).domain) (i ∙ ap (λ v. Some v) j), refl, k) c (ap (λ v. (function_parts v).codomain) (i ∙ ap (λ v. Some v) j)) x);

@@ -1,6 +1,7 @@
-pub mod Unders
 pub mod Meanings
 pub mod Rereading
 pub mod RereadingTypes
 pub mod LongBack
 pub mod Conforming
+pub mod ConformingTypes
+pub mod Trees

@@ -31,7 +31,7 @@ use Rattle.celf_elaboration.specs.Names.{ImplicitVariable, Meaning, meaning}
 use Rattle.celf_elaboration.specs.Readings.{blank_at, with_pattern, ReadsImplicit, implicit_none, implicit_next, ReadsHead, reads_head, ReadsObject, reads_lam, reads_pair, reads_unit, reads_monadic, reads_atomic, reads_dropped, reads_hole, ReadsSpine, spine_end, spine_argument, spine_first, spine_second, ReadsSteps, steps_none, steps_next, ReadsTuple, tuple_end, tuple_entry}
 use Rattle.reconstruction_laws.specs.Becoming.{FillingsBecome, KeepsNamed}
 use Rattle.reconstruction_laws.proofs.Meanings.{NamedHead, named_head, names_constant, names_implicit, names_local, the_meaning}
-use Rattle.reconstruction_laws.proofs.Unders.{under_one}
+use Rattle.subst_laws.proofs.Environs.{under_sum}
 
 -- the head is kept, and stays a metavariable or none
 pub record StaysNeutral (v : Environment) (r x : PlainNeutral) : Type 0 where
@@ -77,7 +77,7 @@ known_length (x ∷ ls) l p = let (t, k, e, f, q) = p in ap length f ∙ ap suc 
 
 pub pattern_under : (ps : List (Mode × SimpleType)) (bs : List PBinder) (ls : List Scoped) (s : Environment) → under (length (pattern_modes ps bs)) (under (length ls) s) ≡ under (length (with_pattern ls ps bs)) s
 pattern_under ps [] ls s = under_zero (under (length ls) s)
-pattern_under ps (b ∷ bs) ls s = sym (under_under (length (pattern_modes (next_part ps).later bs)) (under (length ls) s)) ∙ ap (under (length (pattern_modes (next_part ps).later bs))) (under_one (length ls) s)
+pattern_under ps (b ∷ bs) ls s = sym (under_under (length (pattern_modes (next_part ps).later bs)) (under (length ls) s)) ∙ ap (under (length (pattern_modes (next_part ps).later bs))) (under_sum (length ls) s)
     ∙ pattern_under (next_part ps).later bs (record { mode = marked b.mode (next_part ps).mode; name = b.name; place = (next_part ps).place } ∷ ls) s
 
 module _ (sig : PlainSignature) (heads : ℕ → Head) (vs : List ImplicitVariable) (s : Environment) (keeps : KeepsNamed heads s) where
@@ -87,10 +87,10 @@ module _ (sig : PlainSignature) (heads : ℕ → Head) (vs : List ImplicitVariab
   head_kept : (ls : List Scoped) (n : PName) (m : Meaning) → meaning sig heads vs ls n ≡ Some m → S ls m.head ≡ keep m.head
   head_kept ls n m e = at (named_head sig heads vs ls n m e)
     where
-      at : NamedHead heads (length ls) m.head → S ls m.head ≡ keep m.head
-      at (names_constant {c} i) = subst (λ (h : Head). S ls h ≡ keep h) (sym i) (ap (ren_image (up (length ls))) (keeps.constants c))
-      at (names_local {i} j k) = subst (λ (h : Head). S ls h ≡ keep h) (sym j) (under_in (length ls) s i k)
-      at (names_implicit {x} i) = subst (λ (h : Head). S ls h ≡ keep h) (sym i) (keeps.implicit (length ls) x)
+      at : NamedHead sig heads vs ls m → S ls m.head ≡ keep m.head
+      at (names_constant {c} i j k) = subst (λ (h : Head). S ls h ≡ keep h) (sym i) (ap (ren_image (up (length ls))) (keeps.constants c))
+      at (names_local {i} j k a b) = subst (λ (h : Head). S ls h ≡ keep h) (sym j) (under_in (length ls) s i k)
+      at (names_implicit {x} i j k) = subst (λ (h : Head). S ls h ≡ keep h) (sym i) (keeps.implicit (length ls) x)
 
   regroup : (a b x c d y : Fillings) → FillingsBecome s ((a ++ b) ++ x) ((c ++ d) ++ y) → FillingsBecome s (a ++ (b ++ x)) (c ++ (d ++ y))
   regroup a b x c d y p = subst (λ v. FillingsBecome s (a ++ (b ++ x)) v) (append_assoc c d y) (subst (λ v. FillingsBecome s v ((c ++ d) ++ y)) (append_assoc a b x) p)
@@ -120,7 +120,7 @@ module _ (sig : PlainSignature) (heads : ℕ → Head) (vs : List ImplicitVariab
     pub object_become : {ls : List Scoped} {t : Place} {o : DesugaredObject} {fs gs : Fillings} {m n : PlainObject} → (x y : Fillings)
         → ReadsObject sig heads vs ls t o fs m → ReadsObject sig heads vs ls t o gs n → FillingsBecome s (fs ++ x) (gs ++ y) → Substituted (S ls) m n × FillingsBecome s x y
     object_become {ls = ls} x y (reads_lam {n = c} p) (reads_lam {n = d} q) f =
-        let (i, j) = object_become x y p q f in (through_lam (subst (λ (v : Environment). Substituted v c d) (sym (under_one (length ls) s)) i), j)
+        let (i, j) = object_become x y p q f in (through_lam (subst (λ (v : Environment). Substituted v c d) (sym (under_sum (length ls) s)) i), j)
     object_become x y (reads_pair {fs = f1} {gs = f2} {hs = fs} p1 p2 e) (reads_pair {fs = g1} {gs = g2} {hs = gs} q1 q2 h) f =
         let (i, j) = object_become (f2 ++ x) (g2 ++ y) p1 q1 (parts fs f1 f2 gs g1 g2 x y e h f) in let (k, l) = object_become x y p2 q2 j in (through_pair i k, l)
     object_become x y reads_unit reads_unit f = (through_unit, f)

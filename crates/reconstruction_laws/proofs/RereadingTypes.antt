@@ -17,7 +17,7 @@ use Rattle.celf_elaboration.specs.Readings.{type_local, implicit_indices, ReadsF
 use Rattle.reconstruction_laws.specs.Becoming.{FillingsBecome, KeepsNamed}
 use Rattle.reconstruction_laws.specs.Laws.{ReadingsBecome}
 use Rattle.reconstruction_laws.proofs.Rereading.{object_become, one_filling, parts}
-use Rattle.reconstruction_laws.proofs.Unders.{under_one}
+use Rattle.subst_laws.proofs.Environs.{under_sum}
 
 pub the_number : {a b : ℕ} → Some a ≡ Some b → a ≡ b
 the_number e = cc
@@ -66,7 +66,7 @@ module _ (sig : PlainSignature) (heads : ℕ → Head) (vs : List ImplicitVariab
     type_become {ls = ls} x y (reads_function {m = m} {n = n} {b = w} {fs = f1} {gs = f2} {hs = fs} {d = d} p1 p2 e) (reads_function {fs = g1} {gs = g2} {hs = gs} {d = d'} q1 q2 e') f =
         let (r1, r2) = type_become (f2 ++ x) (g2 ++ y) p1 q1 (parts sig heads vs s keeps fs f1 f2 gs g1 g2 x y e e' f) in
         let (r3, r4) = type_become x y p2 (subst (λ t. ReadsType sig heads vs (record { mode = m; name = n; place = Some t } ∷ ls) w g2 d') (put_type r1) q2) r2 in
-        (in_function r1 (subst (λ (z : Environment). SubstitutedType z d d') (sym (under_one (length ls) s)) r3), r4)
+        (in_function r1 (subst (λ (z : Environment). SubstitutedType z d d') (sym (under_sum (length ls) s)) r3), r4)
     type_become x y (reads_both {fs = f1} {gs = f2} {hs = fs} p1 p2 e) (reads_both {fs = g1} {gs = g2} {hs = gs} q1 q2 e') f =
         let (r1, r2) = type_become (f2 ++ x) (g2 ++ y) p1 q1 (parts sig heads vs s keeps fs f1 f2 gs g1 g2 x y e e' f) in
         let (r3, r4) = type_become x y p2 q2 r2 in (in_both r1 r3, r4)
@@ -79,7 +79,7 @@ module _ (sig : PlainSignature) (heads : ℕ → Head) (vs : List ImplicitVariab
     telescope_become {ls = ls} x y (reads_binding {m = m} {n = n} {t = w} {fs = f1} {gs = f2} {hs = fs} {u = d} p1 p2 e) (reads_binding {fs = g1} {gs = g2} {hs = gs} {u = d'} q1 q2 e') f =
         let (r1, r2) = type_become (f2 ++ x) (g2 ++ y) p1 q1 (parts sig heads vs s keeps fs f1 f2 gs g1 g2 x y e e' f) in
         let (r3, r4) = telescope_become x y p2 (subst (λ t. ReadsTelescope sig heads vs (record { mode = m; name = n; place = Some t } ∷ ls) w g2 d') (put_type r1) q2) r2 in
-        (in_binding r1 (subst (λ (z : Environment). SubstitutedTelescope z d d') (sym (under_one (length ls) s)) r3), r4)
+        (in_binding r1 (subst (λ (z : Environment). SubstitutedTelescope z d d') (sym (under_sum (length ls) s)) r3), r4)
 
 ended : (s : Environment) (fs gs : Fillings) → FillingsBecome s fs gs → FillingsBecome s (fs ++ []) (gs ++ [])
 ended s fs gs f = subst (λ v. FillingsBecome s (fs ++ []) v) (sym (append-nil gs)) (subst (λ v. FillingsBecome s v gs) (sym (append-nil fs)) f)

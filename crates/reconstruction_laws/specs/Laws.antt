@@ -2,15 +2,24 @@
 use Rattle.std.specs.Prelude.{ℕ, List, length}
 use Rattle.clf_syntax.specs.declared.tree.Head.{Head}
 use Rattle.clf_syntax.specs.Tree.{PlainObject}
-use Rattle.clf_syntax.specs.TypeTree.{PlainType, PlainTelescope}
+use Rattle.clf_syntax.specs.TypeTree.{PlainType, PlainTelescope, PlainKind}
+use Rattle.clf_syntax.specs.Simple.{SimplyFormed, SimplyFormedKind}
+use Rattle.use_contexts.specs.Context.{Context}
+use Rattle.typing_laws.specs.SimpleTyping.{families_of}
+use Rattle.pattern_laws.specs.Instantiations.{Types, closed}
 use Rattle.hered_subst.specs.Substitution.{Environment, under, Substituted, SubstitutedType, SubstitutedTelescope}
 use Rattle.clf_sig.specs.Entry.{PlainSignature}
 use Rattle.celf_sugar.specs.PlainTree.{DesugaredObject, DesugaredType, DesugaredTelescope}
 use Rattle.celf_places.specs.Places.{Place}
+use Rattle.clf_rules.specs.WellFormed.{WellFormedType, WellFormedKind}
+use Rattle.elaboration_laws.specs.ItemSetting.{item_constants, ReadTypes}
+use Rattle.elaboration_laws.specs.InFront.{ElaboratesType}
 use Rattle.celf_elaboration.specs.Fillings.{Fillings, Scoped}
-use Rattle.celf_elaboration.specs.Names.{ImplicitVariable}
+use Rattle.celf_elaboration.specs.Names.{ImplicitVariable, TypedVariable, types_read}
+use Rattle.celf_elaboration.specs.Declarations.{IsTreeOf}
 use Rattle.celf_elaboration.specs.Readings.{ReadsObject, ReadsType, ReadsTelescope}
 use Rattle.reconstruction_laws.specs.Becoming.{FillingsBecome, KeepsNamed}
+use Rattle.reconstruction_laws.specs.Trees.{HasNewTypes, IsKindTreeOf, ElaboratesKind}
 
 -- Two readings of one text differ by their fillings alone: where the environment makes the fillings of one those of the other, it makes the one tree the other.
 pub record ReadingsDifferByFillings (sig : PlainSignature) (heads : ℕ → Head) (vs : List ImplicitVariable) (s : Environment) (ls : List Scoped) : Type 0 where
@@ -24,3 +33,17 @@ pub record ReadingsDifferByFillings (sig : PlainSignature) (heads : ℕ → Head
 abbrev pub ReadingsBecome : Type 0
 ReadingsBecome = (sig : PlainSignature) (heads : ℕ → Head) (vs : List ImplicitVariable) (s : Environment) → KeepsNamed heads s → (ls : List Scoped)
     → ReadingsDifferByFillings sig heads vs s ls
+
+-- Where one elaboration of a declaration is well formed its tree is simply formed. So an item whose tree does not conform to simple types has no well-formed
+-- elaboration, and what is gathered of a tree is typed wherever there is something to find.
+abbrev pub TreeConforms : Type 0
+TreeConforms = (sig : PlainSignature) (vs : List TypedVariable) (metas : Types) (written : DesugaredType) (fillings : Fillings) (tree : PlainType)
+    → IsTreeOf sig vs written fillings tree → HasNewTypes metas fillings → ReadTypes sig (types_read vs) metas
+    → (front : Context) (b : PlainType) → ElaboratesType sig (types_read vs) metas tree front b → WellFormedType sig front b
+    → SimplyFormed (families_of sig) (closed (item_constants sig (types_read vs)) metas) tree
+
+abbrev pub KindTreeConforms : Type 0
+KindTreeConforms = (sig : PlainSignature) (vs : List TypedVariable) (metas : Types) (written : DesugaredTelescope) (fillings : Fillings) (tree : PlainKind)
+    → IsKindTreeOf sig vs written fillings tree → HasNewTypes metas fillings → ReadTypes sig (types_read vs) metas
+    → (front : Context) (k : PlainKind) → ElaboratesKind sig (types_read vs) metas tree front k → WellFormedKind sig front k
+    → SimplyFormedKind (families_of sig) (closed (item_constants sig (types_read vs)) metas) tree

@@ -1,4 +1,5 @@
 pub use Rattle.celf_elaboration.specs.Readings
 pub use Rattle.celf_elaboration.specs.Declarations
 pub mod Becoming
+pub mod Trees
 pub mod Laws
