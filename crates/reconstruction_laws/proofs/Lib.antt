@@ -4,4 +4,4 @@ pub mod RereadingTypes
 pub mod LongBack
 pub mod Conforming
 pub mod ConformingTypes
-pub mod Trees
+pub mod TreesFormed

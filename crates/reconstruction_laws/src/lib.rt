@@ -3,4 +3,4 @@
 
 mod laws;
 
-pub use laws::readings;
+pub use laws::{readings, trees};
