@@ -5,3 +5,4 @@ pub mod LongBack
 pub mod Conforming
 pub mod ConformingTypes
 pub mod TreesFormed
+pub mod Fronted

@@ -48,10 +48,10 @@ use Rattle.reconstruction_laws.proofs.Conforming.{GoodFilling, GoodFillings, Nam
 use Rattle.reconstruction_laws.proofs.ConformingTypes.{telescope_back, type_back}
 use Rattle.reconstruction_laws.proofs.Meanings.{NamedHead, named_head, names_constant, names_implicit, names_local}
 
-the_type : {a b : SimpleType} → Some a ≡ Some b → a ≡ b
+pub the_type : {a b : SimpleType} → Some a ≡ Some b → a ≡ b
 the_type e = cc
 
-no_type : {u : SimpleType} → None ≡ Some u → ⊥
+pub no_type : {u : SimpleType} → None ≡ Some u → ⊥
 no_type e = cc
 
 scoped_constant : (g : Assignment) (ls : Locals) (c : ℕ) → scoped ls g (Const c) ≡ g (Const c)
@@ -125,7 +125,7 @@ none_read (w ∷ vs) zero v e = (w.type, refl, ap (λ (v : ImplicitVariable). v.
 none_read (w ∷ vs) (suc x) v e = none_read vs x v e
 
 -- a given type at a place past the signature, or in it
-given_past : (sig : PlainSignature) (xs : List PlainType) (x : ℕ) → given_type sig xs (length sig + x) ≡ slice_get xs x
+pub given_past : (sig : PlainSignature) (xs : List PlainType) (x : ℕ) → given_type sig xs (length sig + x) ≡ slice_get xs x
 given_past sig xs x = at (nat_lt (length sig + x) (length sig)) refl
   where
     at : (b : Bool) → nat_lt (length sig + x) (length sig) ≡ b → given_type sig xs (length sig + x) ≡ slice_get xs x
@@ -138,13 +138,13 @@ given_past sig xs x = at (nat_lt (length sig + x) (length sig)) refl
         left : (n : ℕ) → n + x - n ≡ x
         left n = omega arith
 
-given_below : (sig : PlainSignature) (xs : List PlainType) (c : ℕ) → c < length sig → given_type sig xs c ≡ constant_type sig c
+pub given_below : (sig : PlainSignature) (xs : List PlainType) (c : ℕ) → c < length sig → given_type sig xs c ≡ constant_type sig c
 given_below sig xs c h = ap (λ b. if b then constant_type sig c else slice_get xs (c - length sig)) (inside (length sig) h)
   where
     inside : (n : ℕ) → c < n → nat_lt c n ≡ true
     inside n h = grind (arith, h)
 
-from_map : {x : Option PlainType} {u : SimpleType} → option_map erase x ≡ Some u → (a : PlainType) × (x ≡ Some a) × (erase a ≡ u)
+pub from_map : {x : Option PlainType} {u : SimpleType} → option_map erase x ≡ Some u → (a : PlainType) × (x ≡ Some a) × (erase a ≡ u)
 from_map {x = None} e = absurd (no_type e)
 from_map {x = Some a} e = (a, refl, the_type e)
 

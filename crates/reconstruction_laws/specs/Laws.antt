@@ -2,10 +2,11 @@
 use Rattle.std.specs.Prelude.{ℕ, List, length}
 use Rattle.clf_syntax.specs.declared.tree.Head.{Head}
 use Rattle.clf_syntax.specs.Tree.{PlainObject}
-use Rattle.clf_syntax.specs.TypeTree.{PlainType, PlainTelescope, PlainKind}
+use Rattle.clf_syntax.specs.TypeTree.{PlainType, PlainTelescope, PlainKind, SimpleType}
 use Rattle.clf_syntax.specs.Simple.{SimplyFormed, SimplyFormedKind}
 use Rattle.use_contexts.specs.Context.{Context}
 use Rattle.typing_laws.specs.SimpleTyping.{families_of}
+use Rattle.subst_laws.specs.Environments.{Instantiation, instant}
 use Rattle.pattern_laws.specs.Instantiations.{Types, closed}
 use Rattle.hered_subst.specs.Substitution.{Environment, under, Substituted, SubstitutedType, SubstitutedTelescope}
 use Rattle.clf_sig.specs.Entry.{PlainSignature}
@@ -19,6 +20,7 @@ use Rattle.celf_elaboration.specs.Names.{ImplicitVariable, TypedVariable, types_
 use Rattle.celf_elaboration.specs.Declarations.{IsTreeOf}
 use Rattle.celf_elaboration.specs.Readings.{ReadsObject, ReadsType, ReadsTelescope}
 use Rattle.reconstruction_laws.specs.Becoming.{FillingsBecome, KeepsNamed}
+use Rattle.reconstruction_laws.specs.Fronts.{IsAllPutIn, FrontsBinders}
 use Rattle.reconstruction_laws.specs.Trees.{HasNewTypes, IsKindTreeOf, ElaboratesKind}
 
 -- Two readings of one text differ by their fillings alone: where the environment makes the fillings of one those of the other, it makes the one tree the other.
@@ -47,3 +49,12 @@ KindTreeConforms = (sig : PlainSignature) (vs : List TypedVariable) (metas : Typ
     → IsKindTreeOf sig vs written fillings tree → HasNewTypes metas fillings → ReadTypes sig (types_read vs) metas
     → (front : Context) (k : PlainKind) → ElaboratesKind sig (types_read vs) metas tree front k → WellFormedKind sig front k
     → SimplyFormedKind (families_of sig) (closed (item_constants sig (types_read vs)) metas) tree
+
+-- What is found of a declaration is one of its elaborations, once variables are put in front for its implicit variables and for what is left unnamed.
+abbrev pub DeclarationIsElaboration : Type 0
+DeclarationIsElaboration = (sig : PlainSignature) (xs : List PlainType) (metas : Types) (tree : PlainType) → ReadTypes sig xs metas
+    → SimplyFormed (families_of sig) (closed (item_constants sig xs) metas) tree
+    → (unnamed : List SimpleType) (final : Instantiation) (types : List PlainType) → IsAllPutIn sig xs metas unnamed final types
+    → (front : Context) (e : Environment) (binder_of : ℕ → ℕ) → FrontsBinders (length sig) types front e binder_of
+    → (core elaborated : PlainType) → SubstitutedType (instant final) tree core → SubstitutedType e core elaborated
+    → ElaboratesType sig xs metas tree front elaborated
