@@ -4,5 +4,7 @@ pub mod RereadingTypes
 pub mod LongBack
 pub mod Conforming
 pub mod ConformingTypes
+pub mod KindsAsTypes
 pub mod TreesFormed
 pub mod Fronted
+pub mod FamiliesElaborated

@@ -4,11 +4,10 @@ use Rattle.std.specs.List.{slice_get}
 use Rattle.std.specs.Option.{option_map}
 use Rattle.std.proofs.Common.{ap, arith, inl, subst, sym, ◌∙◌}
 use Rattle.clf_syntax.proofs.Lists.{get-front}
-use Rattle.clf_syntax.specs.declared.tree.Mode.TheVariants.{Persistent}
 use Rattle.clf_syntax.specs.declared.tree.Head.{Head}
 use Rattle.clf_syntax.specs.declared.tree.Head.TheVariants.{Const, Meta, Var}
 use Rattle.clf_syntax.specs.Tree.{PlainObject}
-use Rattle.clf_syntax.specs.TypeTree.{PlainType, PlainTelescope, PlainKind, SimpleType, binding, end, function}
+use Rattle.clf_syntax.specs.TypeTree.{PlainType, PlainTelescope, PlainKind, SimpleType, binding, end}
 use Rattle.clf_syntax.specs.Simple.{Assignment, Families, SimplyFormed, SimplyFormedKind, SimplyFormedTelescope, SimplyTyped, erase, extended}
 use Rattle.clf_syntax.specs.Renaming.{up}
 use Rattle.use_contexts.specs.Context.{Context, HasVariable}
@@ -46,6 +45,7 @@ use Rattle.reconstruction_laws.specs.Trees.{HasNewTypes, as_type}
 use Rattle.reconstruction_laws.proofs.Rereading.{known_length}
 use Rattle.reconstruction_laws.proofs.Conforming.{GoodFilling, GoodFillings, NameStays}
 use Rattle.reconstruction_laws.proofs.ConformingTypes.{telescope_back, type_back}
+use Rattle.reconstruction_laws.proofs.KindsAsTypes.{one_kind}
 use Rattle.reconstruction_laws.proofs.Meanings.{NamedHead, named_head, names_constant, names_implicit, names_local}
 
 pub the_type : {a b : SimpleType} → Some a ≡ Some b → a ≡ b
@@ -151,21 +151,6 @@ from_map {x = Some a} e = (a, refl, the_type e)
 kind_substituted : {v : Environment} {s r : PlainTelescope} → SubstitutedTelescope v s r → SubstitutedType v (as_type (kind_of s)) (as_type (kind_of r))
 kind_substituted in_end = in_top
 kind_substituted (in_binding p q) = in_function p (kind_substituted q)
-
-one_kind : (k l : PlainKind) → as_type k ≡ as_type l → k ≡ l
-one_kind [] [] e = refl
-one_kind [] (b ∷ l) e = absurd (cc)
-one_kind (a ∷ k) [] e = absurd (cc)
-one_kind (a ∷ k) (b ∷ l) e = conses (first a b (as_type k) (as_type l) e) (one_kind k l (rest a b (as_type k) (as_type l) e))
-  where
-    first : (a b c d : PlainType) → function Persistent a c ≡ function Persistent b d → a ≡ b
-    first a b c d e = cc
-
-    rest : (a b c d : PlainType) → function Persistent a c ≡ function Persistent b d → c ≡ d
-    rest a b c d e = cc
-
-    conses : {a b : PlainType} {k l : PlainKind} → a ≡ b → k ≡ l → a ∷ k ≡ b ∷ l
-    conses e f = cc
 
 formed_telescope : (arguments : Families) (s : PlainTelescope) (g : Assignment) → SimplyFormedKind arguments g (kind_of s) → SimplyFormedTelescope arguments g s
 formed_telescope arguments end g p = tt

@@ -1,5 +1,5 @@
 -- Laws of the pieces of reconstruction, as statements; the functions of the crate's `laws` state them.
-use Rattle.std.specs.Prelude.{ℕ, List, length}
+use Rattle.std.specs.Prelude.{ℕ, List, [], length}
 use Rattle.clf_syntax.specs.declared.tree.Head.{Head}
 use Rattle.clf_syntax.specs.Tree.{PlainObject}
 use Rattle.clf_syntax.specs.TypeTree.{PlainType, PlainTelescope, PlainKind, SimpleType}
@@ -7,13 +7,19 @@ use Rattle.clf_syntax.specs.Simple.{SimplyFormed, SimplyFormedKind}
 use Rattle.use_contexts.specs.Context.{Context}
 use Rattle.typing_laws.specs.SimpleTyping.{families_of}
 use Rattle.subst_laws.specs.Environments.{Instantiation, instant}
-use Rattle.pattern_laws.specs.Instantiations.{Types, closed}
-use Rattle.hered_subst.specs.Substitution.{Environment, under, Substituted, SubstitutedType, SubstitutedTelescope}
+use Rattle.pattern_laws.specs.Instantiations.{Types, closed, Instantiates}
+use Rattle.pattern_laws.specs.Equations.{Equation, SolvesEach, TypedEquations}
+use Rattle.joined_laws.specs.JoinedTypes.{JoinedKind}
+use Rattle.unify_laws.specs.Problems.{Problem, KeepsSolutions, Grows}
+use Rattle.reach_laws.specs.Unified.{IsPutIn}
+use Rattle.gathering.specs.Items.{KindGathers}
+use Rattle.hered_subst.specs.Substitution.{Environment, under, Substituted, SubstitutedType, SubstitutedTelescope, SubstitutedKind}
 use Rattle.clf_sig.specs.Entry.{PlainSignature}
 use Rattle.celf_sugar.specs.PlainTree.{DesugaredObject, DesugaredType, DesugaredTelescope}
 use Rattle.celf_places.specs.Places.{Place}
-use Rattle.clf_rules.specs.WellFormed.{WellFormedType, WellFormedKind}
-use Rattle.elaboration_laws.specs.ItemSetting.{item_constants, ReadTypes}
+use Rattle.clf_rules.specs.WellFormed.{WellFormedType, WellFormedKind, WellFormedSignature}
+use Rattle.elaboration_laws.specs.ItemSetting.{item_constants, item_setting, ReadTypes}
+use Rattle.elaboration_laws.specs.General.{fresh_problem}
 use Rattle.elaboration_laws.specs.InFront.{ElaboratesType}
 use Rattle.celf_elaboration.specs.Fillings.{Fillings, Scoped}
 use Rattle.celf_elaboration.specs.Names.{ImplicitVariable, TypedVariable, types_read}
@@ -58,3 +64,43 @@ DeclarationIsElaboration = (sig : PlainSignature) (xs : List PlainType) (metas :
     → (front : Context) (e : Environment) (binder_of : ℕ → ℕ) → FrontsBinders (length sig) types front e binder_of
     → (core elaborated : PlainType) → SubstitutedType (instant final) tree core → SubstitutedType e core elaborated
     → ElaboratesType sig xs metas tree front elaborated
+
+-- The same of the declaration of a family.
+abbrev pub FamilyIsElaboration : Type 0
+FamilyIsElaboration = (sig : PlainSignature) (xs : List PlainType) (metas : Types) (tree : PlainKind) → ReadTypes sig xs metas
+    → SimplyFormedKind (families_of sig) (closed (item_constants sig xs) metas) tree
+    → (unnamed : List SimpleType) (final : Instantiation) (types : List PlainType) → IsAllPutIn sig xs metas unnamed final types
+    → (front : Context) (e : Environment) (binder_of : ℕ → ℕ) → FrontsBinders (length sig) types front e binder_of
+    → (core elaborated : PlainKind) → SubstitutedKind (instant final) tree core → SubstitutedKind e core elaborated
+    → ElaboratesKind sig xs metas tree front elaborated
+
+-- The tree of a family's arguments with what is gathered of it.
+pub record KindIsGathered (sig : PlainSignature) (xs : List PlainType) (metas : Types) (tree : PlainKind) (q : List Equation) : Type 0 where
+  pub read : ReadTypes sig xs metas
+  pub formed : SimplyFormedKind (families_of sig) (closed (item_constants sig xs) metas) tree
+  pub typed : TypedEquations (item_constants sig xs) metas q
+  pub gathers : KindGathers sig (item_setting sig xs metas) [] [] tree q
+
+-- A well-formed elaboration of a family solves what is gathered of its tree.
+abbrev pub FamilyElaborationSolves : Type 0
+FamilyElaborationSolves = (sig : PlainSignature) (xs : List PlainType) (metas : Types) (tree : PlainKind) (q : List Equation) → WellFormedSignature sig → KindIsGathered sig xs metas tree q
+    → (front : Context) (k : PlainKind) (elaboration : ElaboratesKind sig xs metas tree front k) → WellFormedKind sig front k → SolvesEach (instant elaboration.fills) q
+
+-- An elaboration is an instance of a core: other objects, filled in for the core's metavariables over the same parameters, give a kind that is joined with it
+-- when the same variables are put in front.
+pub record KindIsInstanceOf (sig : PlainSignature) (xs : List PlainType) (metas parameters : Types) (put : Environment) (core k : PlainKind) : Type 0 where
+  pub fills : Instantiation
+  pub filled : PlainKind
+  pub elaborated : PlainKind
+  pub instantiates : Instantiates (item_constants sig xs) metas parameters fills
+  pub filling : SubstitutedKind (instant fills) core filled
+  pub putting : SubstitutedKind put filled elaborated
+  pub joined : JoinedKind k elaborated
+
+-- Each well-formed elaboration of a family is an instance of the core, which is the tree with all solutions put in that unification found for its equations.
+abbrev pub FamilyElaborationsAreInstances : Type 0
+FamilyElaborationsAreInstances = (sig : PlainSignature) (xs : List PlainType) (metas : Types) (tree core : PlainKind) (q : List Equation) → WellFormedSignature sig → KindIsGathered sig xs metas tree q
+    → (now : Problem) (s : Instantiation) → KeepsSolutions (item_constants sig xs) (fresh_problem metas q) now → Grows metas now.metas
+    → IsPutIn (item_constants sig xs) now.metas now.given s → SubstitutedKind (instant s) tree core
+    → (front : Context) (k : PlainKind) (elaboration : ElaboratesKind sig xs metas tree front k) → WellFormedKind sig front k
+    → KindIsInstanceOf sig xs now.metas elaboration.parameters elaboration.put core k

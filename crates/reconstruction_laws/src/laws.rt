@@ -1,5 +1,5 @@
 //! Laws of the pieces of reconstruction, stated by functions that do nothing.
-ghost use Rattle.reconstruction_laws.specs.Laws.{KindTreeConforms, ReadingsBecome, TreeConforms};
+ghost use Rattle.reconstruction_laws.specs.Laws.{DeclarationIsElaboration, FamilyElaborationSolves, FamilyElaborationsAreInstances, FamilyIsElaboration, KindTreeConforms, ReadingsBecome, TreeConforms};
 
 /// Two readings of one text differ by their fillings alone.
 pub fn readings()
@@ -10,4 +10,16 @@ pub fn readings()
 pub fn trees()
     ensures types { TreeConforms }
     ensures kinds { KindTreeConforms }
+{}
+
+/// What is found of a declaration, with its binders in front, is one of its elaborations.
+pub fn found()
+    ensures constants { DeclarationIsElaboration }
+    ensures families { FamilyIsElaboration }
+{}
+
+/// Well-formed elaborations of a family solve its equations, and are instances of its core.
+pub fn families()
+    ensures solves { FamilyElaborationSolves }
+    ensures instances { FamilyElaborationsAreInstances }
 {}

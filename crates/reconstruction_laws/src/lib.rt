@@ -3,4 +3,4 @@
 
 mod laws;
 
-pub use laws::{readings, trees};
+pub use laws::{families, found, readings, trees};
