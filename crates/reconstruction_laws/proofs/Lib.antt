@@ -8,3 +8,4 @@ pub mod KindsAsTypes
 pub mod TreesFormed
 pub mod Fronted
 pub mod FamiliesElaborated
+pub mod ExplicitObjects
