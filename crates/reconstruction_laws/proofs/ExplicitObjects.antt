@@ -27,10 +27,10 @@ use Rattle.celf_elaboration.specs.Names.{ImplicitVariable, Meaning, all_argument
 use Rattle.celf_elaboration.specs.Readings.{blank_at, lambda_local, with_pattern, ReadsImplicit, implicit_none, ReadsHead, reads_head, ReadsObject, reads_lam, reads_pair, reads_unit, reads_monadic, reads_atomic, reads_dropped, ReadsSpine, spine_end, spine_argument, spine_first, spine_second, ReadsSteps, steps_none, steps_next, ReadsTuple, tuple_end, tuple_entry}
 use Rattle.reconstruction_laws.proofs.Meanings.{the_meaning}
 
-nothing : {A : Type 0} {x : A} → None ≡ Some x → ⊥
+pub nothing : {A : Type 0} {x : A} → None ≡ Some x → ⊥
 nothing e = cc
 
-same_some : {A : Type 0} {x y : A} → Some x ≡ Some y → x ≡ y
+pub same_some : {A : Type 0} {x y : A} → Some x ≡ Some y → x ≡ y
 same_some e = cc
 
 pub from_combined : {A B C : Type 0} (f : A → B → C) (a : Option A) (b : Option B) (c : C) → combined f a b ≡ Some c → (x : A) × (y : B) × (a ≡ Some x) × (b ≡ Some y) × (f x y ≡ c)
@@ -85,7 +85,7 @@ blank_same simple_top r q e = refl
 blank_same (lax ts) r q e = absurd (cc)
 
 -- no implicit argument
-written_all : (sig : PlainSignature) (dollar : Bool) (c k : ℕ) → all_written sig dollar c ≡ Some k → (c ≡ k) × ((if dollar then 0 else implicit_arguments (entry_at sig c)) ≡ 0)
+pub written_all : (sig : PlainSignature) (dollar : Bool) (c k : ℕ) → all_written sig dollar c ≡ Some k → (c ≡ k) × ((if dollar then 0 else implicit_arguments (entry_at sig c)) ≡ 0)
 written_all sig true c k e = (same_some e, refl)
 written_all sig false c k e = at (entry_at sig c) e
   where

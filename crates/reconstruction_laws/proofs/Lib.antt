@@ -9,3 +9,4 @@ pub mod TreesFormed
 pub mod Fronted
 pub mod FamiliesElaborated
 pub mod ExplicitObjects
+pub mod ExplicitItems

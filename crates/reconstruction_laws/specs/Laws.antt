@@ -1,5 +1,5 @@
 -- Laws of the pieces of reconstruction, as statements; the functions of the crate's `laws` state them.
-use Rattle.std.specs.Prelude.{ℕ, List, [], length}
+use Rattle.std.specs.Prelude.{ℕ, ◌≡◌, true, List, [], length, Some, None}
 use Rattle.clf_syntax.specs.declared.tree.Head.{Head}
 use Rattle.clf_syntax.specs.Tree.{PlainObject}
 use Rattle.clf_syntax.specs.TypeTree.{PlainType, PlainTelescope, PlainKind, SimpleType}
@@ -15,7 +15,8 @@ use Rattle.reach_laws.specs.Unified.{IsPutIn}
 use Rattle.gathering.specs.Items.{KindGathers}
 use Rattle.hered_subst.specs.Substitution.{Environment, under, Substituted, SubstitutedType, SubstitutedTelescope, SubstitutedKind}
 use Rattle.clf_sig.specs.Entry.{PlainSignature}
-use Rattle.celf_sugar.specs.PlainTree.{DesugaredObject, DesugaredType, DesugaredTelescope}
+use Rattle.clf_sig.specs.Core.{PlainCore}
+use Rattle.celf_sugar.specs.PlainTree.{DesugaredObject, DesugaredType, DesugaredTelescope, DesugaredBody, DesugaredItem}
 use Rattle.celf_places.specs.Places.{Place}
 use Rattle.clf_rules.specs.WellFormed.{WellFormedType, WellFormedKind, WellFormedSignature}
 use Rattle.elaboration_laws.specs.ItemSetting.{item_constants, item_setting, ReadTypes}
@@ -23,7 +24,11 @@ use Rattle.elaboration_laws.specs.General.{fresh_problem}
 use Rattle.elaboration_laws.specs.InFront.{ElaboratesType}
 use Rattle.celf_elaboration.specs.Fillings.{Fillings, Scoped}
 use Rattle.celf_elaboration.specs.Names.{ImplicitVariable, TypedVariable, types_read}
+use Rattle.celf_elaboration.specs.Items.{ReadsBody}
 use Rattle.celf_elaboration.specs.Declarations.{IsTreeOf}
+use Rattle.celf_unknown.specs.Unknown.{first_unknown}
+use Rattle.celf_explicit.specs.Explicit.{explicit}
+use Rattle.celf_explicit.specs.Explicitness.{is_explicit}
 use Rattle.celf_elaboration.specs.Readings.{ReadsObject, ReadsType, ReadsTelescope}
 use Rattle.reconstruction_laws.specs.Becoming.{FillingsBecome, KeepsNamed}
 use Rattle.reconstruction_laws.specs.Fronts.{IsAllPutIn, FrontsBinders}
@@ -104,3 +109,19 @@ FamilyElaborationsAreInstances = (sig : PlainSignature) (xs : List PlainType) (m
     → IsPutIn (item_constants sig xs) now.metas now.given s → SubstitutedKind (instant s) tree core
     → (front : Context) (k : PlainKind) (elaboration : ElaboratesKind sig xs metas tree front k) → WellFormedKind sig front k
     → KindIsInstanceOf sig xs now.metas elaboration.parameters elaboration.put core k
+
+-- The body is read so, without fillings, and in no other way.
+pub record IsOneReading (sig : PlainSignature) (heads : ℕ → Head) (vs : List ImplicitVariable) (body : DesugaredBody) (core : PlainCore) : Type 0 where
+  pub reads : ReadsBody sig heads vs body [] core
+  pub only : (fillings : Fillings) (d : PlainCore) → ReadsBody sig heads vs body fillings d → (fillings ≡ []) × (d ≡ core)
+
+-- The core of an explicit item is its one reading with fillings, whatever implicit variables there are: so one relation reads what is explicit and what is not.
+abbrev pub ExplicitIsFilled : Type 0
+ExplicitIsFilled = (sig : PlainSignature) (heads : ℕ → Head) (vs : List ImplicitVariable) (item : DesugaredItem) (core : PlainCore)
+    → explicit sig item ≡ Some core → IsOneReading sig heads vs item.body core
+
+-- And back, where each name of the item has a meaning and it is explicit. Without that there is no way back: a neutral that is dropped is read whatever
+-- stands in it.
+abbrev pub FilledIsExplicit : Type 0
+FilledIsExplicit = (sig : PlainSignature) (heads : ℕ → Head) (vs : List ImplicitVariable) (item : DesugaredItem) (fillings : Fillings) (core : PlainCore)
+    → first_unknown sig item ≡ None → is_explicit sig item ≡ true → ReadsBody sig heads vs item.body fillings core → explicit sig item ≡ Some core

@@ -1,5 +1,5 @@
 //! Laws of the pieces of reconstruction, stated by functions that do nothing.
-ghost use Rattle.reconstruction_laws.specs.Laws.{DeclarationIsElaboration, FamilyElaborationSolves, FamilyElaborationsAreInstances, FamilyIsElaboration, KindTreeConforms, ReadingsBecome, TreeConforms};
+ghost use Rattle.reconstruction_laws.specs.Laws.{DeclarationIsElaboration, ExplicitIsFilled, FamilyElaborationSolves, FamilyElaborationsAreInstances, FamilyIsElaboration, FilledIsExplicit, KindTreeConforms, ReadingsBecome, TreeConforms};
 
 /// Two readings of one text differ by their fillings alone.
 pub fn readings()
@@ -22,4 +22,10 @@ pub fn found()
 pub fn families()
     ensures solves { FamilyElaborationSolves }
     ensures instances { FamilyElaborationsAreInstances }
+{}
+
+/// What is explicit has one reading with fillings, without any, and that is its core.
+pub fn explicit()
+    ensures filled { ExplicitIsFilled }
+    ensures back { FilledIsExplicit }
 {}
