@@ -24,6 +24,7 @@ use Rattle.gathering.proofs.TypedObjects.{variable_simple}
 use Rattle.elaboration_laws.proofs.Composites.{composed, in_turn}
 use Rattle.elaboration_laws.specs.InFront.{ElaboratesType, PutsInFront, StandsInFront}
 use Rattle.elaboration_laws.specs.ItemSetting.{ReadTypes, item_constants}
+use Rattle.celf_elaboration.specs.Names.{types_read}
 use Rattle.celf_elaboration.specs.Directives.{no_parameters}
 use Rattle.reconstruction_laws.specs.Fronts.{FrontsBinders, IsAllPutIn, IsInFront, binder_constants, named_count}
 use Rattle.reconstruction_laws.specs.Laws.{DeclarationIsElaboration}
@@ -349,5 +350,11 @@ module _ (sig : PlainSignature) (xs : List PlainType) where
     }
 
 pub declaration_is_elaboration : DeclarationIsElaboration
-declaration_is_elaboration sig xs metas tree read formed unnamed final types all front e binder_of fronts core elaborated p q =
-    elaborates sig xs metas read unnamed final types all front e binder_of fronts tree core elaborated formed p q
+declaration_is_elaboration sig vs metas tree read formed unnamed final types all front e binder_of fronts persistent core elaborated p q written = record {
+  front = front;
+  type = elaborated;
+  elaborates = elaborates sig (types_read vs) metas read unnamed final types all front e binder_of fronts tree core elaborated formed p q;
+  persistent = persistent;
+  implicit = refl;
+  class = refl;
+}

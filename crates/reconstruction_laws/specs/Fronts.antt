@@ -2,6 +2,8 @@
 -- Binders are numbered: first the implicit variables, then the unnamed ones, which stand for metavariables that are left. Before it is put in front, binder x
 -- is the constant of number x past the signature.
 use Rattle.std.specs.Prelude.{ℕ, ◌+◌, ◌-◌, ◌≡◌, ◌<◌, nat_lt, if◌then◌else◌, List, length, Option, Some, None, slice_get}
+use Rattle.clf_syntax.specs.declared.tree.Mode.{Mode}
+use Rattle.clf_syntax.specs.declared.tree.Mode.TheVariants.{Persistent}
 use Rattle.clf_syntax.specs.declared.tree.Head.{Head}
 use Rattle.clf_syntax.specs.declared.tree.Head.TheVariants.{Const, Var}
 use Rattle.clf_syntax.specs.TypeTree.{PlainType, SimpleType}
@@ -42,3 +44,6 @@ pub record FrontsBinders (n : ℕ) (types : List PlainType) (front : Context) (e
   pub constants : (c : ℕ) → c < n → e (Const c) ≡ keep (Const c)
   pub each : (x : ℕ) (a : PlainType) → slice_get types x ≡ Some a → (j : ℕ) × IsInFront n front e x a j × (binder_of j ≡ x)
   pub only : (j : ℕ) (b : PlainType) → HasVariable front j b → (a : PlainType) × (slice_get types (binder_of j) ≡ Some a) × IsInFront n front e (binder_of j) a j
+
+abbrev pub AllPersistent : Context → Type 0
+AllPersistent front = (i : ℕ) (e : Mode × PlainType) → slice_get front i ≡ Some e → e.0 ≡ Persistent

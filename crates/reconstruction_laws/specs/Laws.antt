@@ -1,5 +1,5 @@
 -- Laws of the pieces of reconstruction, as statements; the functions of the crate's `laws` state them.
-use Rattle.std.specs.Prelude.{ℕ, ◌≡◌, true, List, [], length, Some, None}
+use Rattle.std.specs.Prelude.{ℕ, ◌+◌, ◌≡◌, true, List, [], length, Some, None}
 use Rattle.clf_syntax.specs.declared.tree.Head.{Head}
 use Rattle.clf_syntax.specs.Tree.{PlainObject}
 use Rattle.clf_syntax.specs.TypeTree.{PlainType, PlainTelescope, PlainKind, SimpleType}
@@ -14,7 +14,7 @@ use Rattle.unify_laws.specs.Problems.{Problem, KeepsSolutions, Grows}
 use Rattle.reach_laws.specs.Unified.{IsPutIn}
 use Rattle.gathering.specs.Items.{KindGathers}
 use Rattle.hered_subst.specs.Substitution.{Environment, under, Substituted, SubstitutedType, SubstitutedTelescope, SubstitutedKind}
-use Rattle.clf_sig.specs.Entry.{PlainSignature}
+use Rattle.clf_sig.specs.Entry.{PlainSignature, constant_of, family_of}
 use Rattle.clf_sig.specs.Core.{PlainCore}
 use Rattle.celf_sugar.specs.PlainTree.{DesugaredObject, DesugaredType, DesugaredTelescope, DesugaredBody, DesugaredItem}
 use Rattle.celf_places.specs.Places.{Place}
@@ -25,14 +25,14 @@ use Rattle.elaboration_laws.specs.InFront.{ElaboratesType}
 use Rattle.celf_elaboration.specs.Fillings.{Fillings, Scoped}
 use Rattle.celf_elaboration.specs.Names.{ImplicitVariable, TypedVariable, types_read}
 use Rattle.celf_elaboration.specs.Items.{ReadsBody}
-use Rattle.celf_elaboration.specs.Declarations.{IsTreeOf}
+use Rattle.celf_elaboration.specs.Declarations.{IsTreeOf, with_binders, ElaboratesDeclaration}
 use Rattle.celf_unknown.specs.Unknown.{first_unknown}
-use Rattle.celf_explicit.specs.Explicit.{explicit}
+use Rattle.celf_explicit.specs.Explicit.{entry_of, explicit}
 use Rattle.celf_explicit.specs.Explicitness.{is_explicit}
 use Rattle.celf_elaboration.specs.Readings.{ReadsObject, ReadsType, ReadsTelescope}
 use Rattle.reconstruction_laws.specs.Becoming.{FillingsBecome, KeepsNamed}
-use Rattle.reconstruction_laws.specs.Fronts.{IsAllPutIn, FrontsBinders}
-use Rattle.reconstruction_laws.specs.Trees.{HasNewTypes, IsKindTreeOf, ElaboratesKind}
+use Rattle.reconstruction_laws.specs.Fronts.{IsAllPutIn, FrontsBinders, AllPersistent}
+use Rattle.reconstruction_laws.specs.Trees.{HasNewTypes, IsKindTreeOf, ElaboratesKind, kind_with_binders, ElaboratesFamily}
 
 -- Two readings of one text differ by their fillings alone: where the environment makes the fillings of one those of the other, it makes the one tree the other.
 pub record ReadingsDifferByFillings (sig : PlainSignature) (heads : ℕ → Head) (vs : List ImplicitVariable) (s : Environment) (ls : List Scoped) : Type 0 where
@@ -63,21 +63,21 @@ KindTreeConforms = (sig : PlainSignature) (vs : List TypedVariable) (metas : Typ
 
 -- What is found of a declaration is one of its elaborations, once variables are put in front for its implicit variables and for what is left unnamed.
 abbrev pub DeclarationIsElaboration : Type 0
-DeclarationIsElaboration = (sig : PlainSignature) (xs : List PlainType) (metas : Types) (tree : PlainType) → ReadTypes sig xs metas
-    → SimplyFormed (families_of sig) (closed (item_constants sig xs) metas) tree
-    → (unnamed : List SimpleType) (final : Instantiation) (types : List PlainType) → IsAllPutIn sig xs metas unnamed final types
-    → (front : Context) (e : Environment) (binder_of : ℕ → ℕ) → FrontsBinders (length sig) types front e binder_of
-    → (core elaborated : PlainType) → SubstitutedType (instant final) tree core → SubstitutedType e core elaborated
-    → ElaboratesType sig xs metas tree front elaborated
+DeclarationIsElaboration = (sig : PlainSignature) (vs : List TypedVariable) (metas : Types) (tree : PlainType) → ReadTypes sig (types_read vs) metas
+    → SimplyFormed (families_of sig) (closed (item_constants sig (types_read vs)) metas) tree
+    → (unnamed : List SimpleType) (final : Instantiation) (types : List PlainType) → IsAllPutIn sig (types_read vs) metas unnamed final types
+    → (front : Context) (e : Environment) (binder_of : ℕ → ℕ) → FrontsBinders (length sig) types front e binder_of → AllPersistent front
+    → (core elaborated : PlainType) → SubstitutedType (instant final) tree core → SubstitutedType e core elaborated → (written_implicit : ℕ)
+    → ElaboratesDeclaration sig vs written_implicit metas tree (entry_of (length front + written_implicit) (constant_of (with_binders front elaborated)))
 
 -- The same of the declaration of a family.
 abbrev pub FamilyIsElaboration : Type 0
-FamilyIsElaboration = (sig : PlainSignature) (xs : List PlainType) (metas : Types) (tree : PlainKind) → ReadTypes sig xs metas
-    → SimplyFormedKind (families_of sig) (closed (item_constants sig xs) metas) tree
-    → (unnamed : List SimpleType) (final : Instantiation) (types : List PlainType) → IsAllPutIn sig xs metas unnamed final types
-    → (front : Context) (e : Environment) (binder_of : ℕ → ℕ) → FrontsBinders (length sig) types front e binder_of
-    → (core elaborated : PlainKind) → SubstitutedKind (instant final) tree core → SubstitutedKind e core elaborated
-    → ElaboratesKind sig xs metas tree front elaborated
+FamilyIsElaboration = (sig : PlainSignature) (vs : List TypedVariable) (metas : Types) (tree : PlainKind) → ReadTypes sig (types_read vs) metas
+    → SimplyFormedKind (families_of sig) (closed (item_constants sig (types_read vs)) metas) tree
+    → (unnamed : List SimpleType) (final : Instantiation) (types : List PlainType) → IsAllPutIn sig (types_read vs) metas unnamed final types
+    → (front : Context) (e : Environment) (binder_of : ℕ → ℕ) → FrontsBinders (length sig) types front e binder_of → AllPersistent front
+    → (core elaborated : PlainKind) → SubstitutedKind (instant final) tree core → SubstitutedKind e core elaborated → (written_implicit : ℕ)
+    → ElaboratesFamily sig vs written_implicit metas tree (entry_of (length front + written_implicit) (family_of (kind_with_binders front elaborated)))
 
 -- The tree of a family's arguments with what is gathered of it.
 pub record KindIsGathered (sig : PlainSignature) (xs : List PlainType) (metas : Types) (tree : PlainKind) (q : List Equation) : Type 0 where
