@@ -1,13 +1,13 @@
 -- The tree of a text conforms to simple types where something conforms that comes of it by two environments that keep its names.
-use Rattle.std.specs.Prelude.{ℕ, zero, suc, ◌+◌, ◌≡◌, ◌<◌, Bool, true, false, List, [], ◌∷◌, ◌++◌, length, map, Option, Some, None, refl}
-use Rattle.std.proofs.Common.{ap, arith, subst, sym, ◌∙◌}
+use Rattle.std.specs.Prelude.{ℕ, ◌≡◌, true, false, List, [], ◌∷◌, ◌++◌, length, Some, None, refl}
+use Rattle.std.proofs.Common.{ap, subst, sym, ◌∙◌}
 use Rattle.clf_syntax.specs.declared.tree.Mode.{Mode}
 use Rattle.clf_syntax.specs.declared.tree.Head.{Head}
-use Rattle.clf_syntax.specs.declared.tree.Head.TheVariants.{Const, Meta, Var}
+use Rattle.clf_syntax.specs.declared.tree.Head.TheVariants.{Var}
 use Rattle.clf_syntax.specs.Tree as core
 use Rattle.clf_syntax.specs.Tree.{PlainObject, PlainNeutral, PlainExpression, PlainTuple, head_of, head_alone, steps_on}
 use Rattle.clf_syntax.specs.TypeTree.{SimpleType, SimpleTelescope, arrow, simple_with, lax, simple_end, simple_binding}
-use Rattle.clf_syntax.specs.Simple.{Assignment, SimplyTyped, SimplyTypedNeutral, SimplyTypedExpression, SimplyTypedTuple, extended_by, no_holes, simple_modes}
+use Rattle.clf_syntax.specs.Simple.{Assignment, SimplyTyped, SimplyTypedNeutral, SimplyTypedExpression, SimplyTypedTuple, extended_by, simple_modes}
 use Rattle.hered_subst.specs.Substitution.{Environment, keep, under, Substituted, SubstitutedExpression, SubstitutedTuple, KeepsHead, kept_bare, kept_app, kept_fst, kept_snd, through_lam, through_pair, through_unit, through_monadic, through_kept, through_done, step_kept, through_empty, through_entry}
 use Rattle.hered_subst.specs.TypedEnvironments.{is_metavariable}
 use Rattle.hered_subst.proofs.SimpleTyping.{of_typed}
@@ -243,11 +243,11 @@ module _ (sig : PlainSignature) (heads : ℕ → Head) (vs : List ImplicitVariab
       object_back h reads_unit = record { result = core.unit; twice = record { between = core.unit; once = through_unit; again = through_unit }; back = λ l k u i q. q }
       object_back {ls = ls} {p = p} h (reads_monadic {fs = fs} {gs = gs} {hs = hs} {es = es} r s i) = let (hf, hg) = good_parts fs gs hs i h in let a = steps_back hf r in let b = tuple_back hg s in
           let z = a.twice (core.done (core.tuple_of es)) (core.done (core.tuple_of b.results)) (record { between = core.done b.twice.between; once = through_done b.twice.once; again = through_done b.twice.again }) in record {
-        result = core.monadic (steps_on a.results (core.done (core.tuple_of b.results)));
-        twice = record { between = core.monadic z.between; once = through_monadic z.once; again = through_monadic z.again };
-        back = λ l k u i q. let (v, j, x) = q in
-            (v, j, a.back l k v (core.done (core.tuple_of es)) (core.done (core.tuple_of b.results)) (λ l' k' x'. b.back l' k' v (ap entries_at (i ∙ ap (λ v. Some v) j)) x') x);
-      }
+            result = core.monadic (steps_on a.results (core.done (core.tuple_of b.results)));
+            twice = record { between = core.monadic z.between; once = through_monadic z.once; again = through_monadic z.again };
+            back = λ l k u i q. let (v, j, x) = q in
+                (v, j, a.back l k v (core.done (core.tuple_of es)) (core.done (core.tuple_of b.results)) (λ l' k' x'. b.back l' k' v (ap entries_at (i ∙ ap (λ v. Some v) j)) x') x);
+          }
       object_back {ls = ls} {p = p} h (reads_atomic {u = u} {fs = fs} {gs = gs} {hs = hs} {x = x} b r s i) = let (hf, hg) = good_parts fs gs hs i h in long_back ls p u x (spine_back hg (head_back hf r) s)
       object_back {ls = ls} h (reads_dropped {t = a} b) = record {
         result = expansion a (head_alone (Var 0));
@@ -272,18 +272,22 @@ module _ (sig : PlainSignature) (heads : ℕ → Head) (vs : List ImplicitVariab
       steps_back {ls = ls} {ks = ks} h (steps_next {u = u} {b = bs} {fs = fs} {gs = gs} {ks' = gs'} {hs = hs} {x = x} {xs = xs} r s q i) =
           let (hfg, hk) = good_parts (fs ++ gs) gs' hs i h in let (hf, hg) = good_parts fs gs (fs ++ gs) refl hfg in
           let a = spine_back hg (head_back hf r) s in let b = steps_back hk q in record {
-        results = (pattern_modes (entries_at u) bs, a.result) ∷ b.results;
-        twice = λ c d z. let w = b.twice c d z in record {
-          between = core.step (pattern_modes (entries_at u) bs) a.between w.between;
-          once = step_kept a.once (subst (λ (v : Environment). SubstitutedExpression v (steps_on xs c) w.between) (sym (pattern_under (entries_at u) bs ls t)) w.once);
-          again = step_kept a.again (subst (λ (v : Environment). SubstitutedExpression v w.between (steps_on b.results d)) (sym (pattern_under (entries_at u) bs ls e)) w.again);
-        };
-        back = λ l k v c d f z. let (w, z1, z2, z3) = z in let (i, j) = a.back l k (lax w) z1 in
-            let p = pattern_known w bs ls l k (z2 ∙ ap (λ m. pattern_modes (entries_at m) bs) j) in
-            let known = subst (λ m. KnownLocals (with_pattern ls m bs) p.after) (sym (ap entries_at j)) p.known in
-            (w, i, z2, subst (λ (m : Assignment). SimplyTypedExpression m (steps_on xs c) v) (sym (p.same g))
-            (b.back p.after known v c d f (subst (λ (m : Assignment). SimplyTypedExpression m (steps_on b.results d) v) (p.same y) z3)));
-      }
+            results = (pattern_modes (entries_at u) bs, a.result) ∷ b.results;
+            twice = λ c d z. let w = b.twice c d z in record {
+              between = core.step (pattern_modes (entries_at u) bs) a.between w.between;
+              once = step_kept a.once (subst (λ (v : Environment). SubstitutedExpression v (steps_on xs c) w.between) (sym (pattern_under (entries_at u) bs ls t)) w.once);
+              again = step_kept a.again (subst (λ (v : Environment). SubstitutedExpression v w.between (steps_on b.results d)) (sym (pattern_under (entries_at u) bs ls e)) w.again);
+            };
+            back = λ l k v c d f z. let (w, z1, z2, z3) = z in let (i, j) = a.back l k (lax w) z1 in
+                let p = pattern_known w bs ls l k (z2 ∙ ap (λ m. pattern_modes (entries_at m) bs) j) in
+                let known = subst (λ m. KnownLocals (with_pattern ls m bs) p.after) (sym (ap entries_at j)) p.known in (
+                  w,
+                  i,
+                  z2,
+                  subst (λ (m : Assignment). SimplyTypedExpression m (steps_on xs c) v) (sym (p.same g))
+                      (b.back p.after known v c d f (subst (λ (m : Assignment). SimplyTypedExpression m (steps_on b.results d) v) (p.same y) z3)),
+                );
+          }
 
       tuple_back : {ls : List Scoped} {ps : List (Mode × SimpleType)} {u : DesugaredTuple} {fs : Fillings} {es : List (Mode × PlainObject)} → GoodFillings fs → ReadsTuple sig heads vs ls ps u fs es → TupleBack ls ps es
       tuple_back h tuple_end = record { results = []; twice = record { between = core.empty; once = through_empty; again = through_empty }; back = λ l k s i q. q }

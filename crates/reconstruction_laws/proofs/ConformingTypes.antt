@@ -1,8 +1,7 @@
 -- The same of types and telescopes.
-use Rattle.std.specs.Prelude.{ℕ, zero, suc, ◌≡◌, List, [], ◌∷◌, ◌++◌, length, map, Option, Some, refl}
+use Rattle.std.specs.Prelude.{ℕ, ◌≡◌, List, [], ◌∷◌, ◌++◌, length, map, Some, refl}
 use Rattle.std.specs.Option.{option_map}
 use Rattle.std.proofs.Common.{ap, subst, sym, ◌∙◌}
-use Rattle.clf_syntax.specs.declared.tree.Mode.{Mode}
 use Rattle.clf_syntax.specs.declared.tree.Head.{Head}
 use Rattle.clf_syntax.specs.Tree.{PlainObject}
 use Rattle.clf_syntax.specs.TypeTree as core_type
@@ -10,14 +9,14 @@ use Rattle.clf_syntax.specs.TypeTree.{PlainType, PlainTelescope, PlainKind, Simp
 use Rattle.clf_syntax.specs.Simple.{Assignment, SimplyFormed, SimplyFormedTelescope, SimplyTypedEach, erase, extended}
 use Rattle.hered_subst.specs.Substitution.{Environment, under, SubstitutedEach, each_none, each_next, SubstitutedType, in_family, in_function, in_both, in_top, in_monad, SubstitutedTelescope, in_end, in_binding}
 use Rattle.pattern_laws.specs.Equations.{Locals, scoped}
-use Rattle.clf_sig.specs.Entry.{PlainSignature, family_kind}
+use Rattle.clf_sig.specs.Entry.{PlainSignature}
 use Rattle.typing_laws.specs.SimpleTyping.{families_of}
 use Rattle.typing_laws.proofs.Erased.{put_type}
 use Rattle.celf_sugar.specs.declared.plain.PName.{PName}
 use Rattle.celf_sugar.specs.PlainTree.{DesugaredObject, DesugaredType, DesugaredTelescope}
 use Rattle.celf_elaboration.specs.Fillings.{Fillings, Scoped, KnownLocals}
 use Rattle.celf_elaboration.specs.Names.{ImplicitVariable, Meaning, meaning}
-use Rattle.celf_elaboration.specs.Readings.{type_local, ReadsFilled, filled_none, filled_next, ReadsIndices, indices_none, indices_next, indices_beyond, ReadsType, reads_family, reads_function, reads_both, reads_top, reads_monad, ReadsTelescope, reads_end, reads_binding}
+use Rattle.celf_elaboration.specs.Readings.{ReadsFilled, filled_none, filled_next, ReadsIndices, indices_none, indices_next, indices_beyond, ReadsType, reads_family, reads_function, reads_both, reads_top, reads_monad, ReadsTelescope, reads_end, reads_binding}
 use Rattle.reconstruction_laws.proofs.Conforming.{GoodFillings, NameStays, ObjectBack, filled, good_parts, object_back}
 use Rattle.subst_laws.proofs.Environs.{under_sum}
 
@@ -86,37 +85,40 @@ module _ (sig : PlainSignature) (heads : ℕ → Head) (vs : List ImplicitVariab
       let (hf, hg) = good_parts sig heads vs t e g y fs gs hs i h in index_back ls n ns u ts (object_back sig heads vs t e g y named hf p) (indices_back hg q)
   indices_back {ls = ls} h (indices_beyond {fs = fs} {gs = gs} {hs = hs} {n = n} {ns = ns} p q i) =
       let (hf, hg) = good_parts sig heads vs t e g y fs gs hs i h in let a = object_back sig heads vs t e g y named hf p in let b = indices_back hg q in record {
-    results = a.result ∷ b.results;
-    twice = record { between = a.twice.between ∷ b.twice.between; once = each_next a.twice.once b.twice.once; again = each_next a.twice.again b.twice.again };
-    back = λ l k p. absurd p;
-  }
+        results = a.result ∷ b.results;
+        twice = record { between = a.twice.between ∷ b.twice.between; once = each_next a.twice.once b.twice.once; again = each_next a.twice.again b.twice.again };
+        back = λ l k p. absurd p;
+      }
 
   mutual
     pub type_back : {ls : List Scoped} {w : DesugaredType} {fs : Fillings} {a : PlainType} → Good fs → ReadsType sig heads vs ls w fs a → TypeBack ls a
     type_back {ls = ls} h (reads_family {f = f} {k = k} {fs = fs} {gs = gs} {hs = hs} {ns = ns} {os = os} i j p q r) =
         let (hf, hg) = good_parts sig heads vs t e g y fs gs hs r h in let b = filled_back os hf p (indices_back hg q) in record {
-      result = core_type.family f b.results;
-      twice = record { between = core_type.family f b.twice.between; once = in_family b.twice.once; again = in_family b.twice.again };
-      back = λ l m z. let (ts, x, v) = z in let same = the_types (sym x ∙ ap (option_map (map erase)) j) in
-          (ts, x, subst (λ us. SimplyTypedEach (scoped l g) (ns ++ os) us) (sym same) (b.back l m (subst (λ us. SimplyTypedEach (scoped l y) b.results us) same v)));
-    }
+          result = core_type.family f b.results;
+          twice = record { between = core_type.family f b.twice.between; once = in_family b.twice.once; again = in_family b.twice.again };
+          back = λ l m z. let (ts, x, v) = z in let same = the_types (sym x ∙ ap (option_map (map erase)) j) in
+              (ts, x, subst (λ us. SimplyTypedEach (scoped l g) (ns ++ os) us) (sym same) (b.back l m (subst (λ us. SimplyTypedEach (scoped l y) b.results us) same v)));
+        }
     type_back {ls = ls} h (reads_function {m = m} {n = n} {fs = fs} {gs = gs} {hs = hs} {c = c} {d = d} p q r) =
         let (hf, hg) = good_parts sig heads vs t e g y fs gs hs r h in let a = type_back hf p in let b = type_back hg q in record {
-      result = core_type.function m a.result b.result;
-      twice = record {
-        between = core_type.function m a.twice.between b.twice.between;
-        once = in_function a.twice.once (subst (λ (v : Environment). SubstitutedType v d b.twice.between) (sym (under_sum (length ls) t)) b.twice.once);
-        again = in_function a.twice.again (subst (λ (v : Environment). SubstitutedType v b.twice.between b.result) (sym (under_sum (length ls) e)) b.twice.again);
-      };
-      back = λ l k z. (a.back l k z.0, b.back ((m, erase c) ∷ l) (erase c, l, refl, refl, k)
-          (subst (λ (v : SimpleType). SimplyFormed (families_of sig) (extended v (scoped l y)) b.result) (put_type a.twice.again ∙ put_type a.twice.once) z.1));
-    }
+          result = core_type.function m a.result b.result;
+          twice = record {
+            between = core_type.function m a.twice.between b.twice.between;
+            once = in_function a.twice.once (subst (λ (v : Environment). SubstitutedType v d b.twice.between) (sym (under_sum (length ls) t)) b.twice.once);
+            again = in_function a.twice.again (subst (λ (v : Environment). SubstitutedType v b.twice.between b.result) (sym (under_sum (length ls) e)) b.twice.again);
+          };
+          back = λ l k z. (
+            a.back l k z.0,
+            b.back ((m, erase c) ∷ l) (erase c, l, refl, refl, k)
+                (subst (λ (v : SimpleType). SimplyFormed (families_of sig) (extended v (scoped l y)) b.result) (put_type a.twice.again ∙ put_type a.twice.once) z.1),
+          );
+        }
     type_back h (reads_both {fs = fs} {gs = gs} {hs = hs} p q r) =
         let (hf, hg) = good_parts sig heads vs t e g y fs gs hs r h in let a = type_back hf p in let b = type_back hg q in record {
-      result = core_type.both a.result b.result;
-      twice = record { between = core_type.both a.twice.between b.twice.between; once = in_both a.twice.once b.twice.once; again = in_both a.twice.again b.twice.again };
-      back = λ l k z. (a.back l k z.0, b.back l k z.1);
-    }
+          result = core_type.both a.result b.result;
+          twice = record { between = core_type.both a.twice.between b.twice.between; once = in_both a.twice.once b.twice.once; again = in_both a.twice.again b.twice.again };
+          back = λ l k z. (a.back l k z.0, b.back l k z.1);
+        }
     type_back h reads_top = record { result = core_type.top; twice = record { between = core_type.top; once = in_top; again = in_top }; back = λ l k z. z }
     type_back h (reads_monad p) = let a = telescope_back h p in record {
       result = core_type.monad a.result;
@@ -128,12 +130,15 @@ module _ (sig : PlainSignature) (heads : ℕ → Head) (vs : List ImplicitVariab
     telescope_back h reads_end = record { result = core_type.end; twice = record { between = core_type.end; once = in_end; again = in_end }; back = λ l k z. z }
     telescope_back {ls = ls} h (reads_binding {m = m} {n = n} {fs = fs} {gs = gs} {hs = hs} {c = c} {u = d} p q r) =
         let (hf, hg) = good_parts sig heads vs t e g y fs gs hs r h in let a = type_back hf p in let b = telescope_back hg q in record {
-      result = core_type.binding m a.result b.result;
-      twice = record {
-        between = core_type.binding m a.twice.between b.twice.between;
-        once = in_binding a.twice.once (subst (λ (v : Environment). SubstitutedTelescope v d b.twice.between) (sym (under_sum (length ls) t)) b.twice.once);
-        again = in_binding a.twice.again (subst (λ (v : Environment). SubstitutedTelescope v b.twice.between b.result) (sym (under_sum (length ls) e)) b.twice.again);
-      };
-      back = λ l k z. (a.back l k z.0, b.back ((m, erase c) ∷ l) (erase c, l, refl, refl, k)
-          (subst (λ (v : SimpleType). SimplyFormedTelescope (families_of sig) (extended v (scoped l y)) b.result) (put_type a.twice.again ∙ put_type a.twice.once) z.1));
-    }
+          result = core_type.binding m a.result b.result;
+          twice = record {
+            between = core_type.binding m a.twice.between b.twice.between;
+            once = in_binding a.twice.once (subst (λ (v : Environment). SubstitutedTelescope v d b.twice.between) (sym (under_sum (length ls) t)) b.twice.once);
+            again = in_binding a.twice.again (subst (λ (v : Environment). SubstitutedTelescope v b.twice.between b.result) (sym (under_sum (length ls) e)) b.twice.again);
+          };
+          back = λ l k z. (
+            a.back l k z.0,
+            b.back ((m, erase c) ∷ l) (erase c, l, refl, refl, k)
+                (subst (λ (v : SimpleType). SimplyFormedTelescope (families_of sig) (extended v (scoped l y)) b.result) (put_type a.twice.again ∙ put_type a.twice.once) z.1),
+          );
+        }

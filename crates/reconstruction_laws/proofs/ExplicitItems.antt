@@ -1,5 +1,5 @@
 -- The explicit reading of types and of whole items is their one reading with fillings, of which there are none.
-use Rattle.std.specs.Prelude.{ℕ, zero, suc, ◌≡◌, ◌&&◌, ◌||◌, Bool, true, false, if◌then◌else◌, List, [], ◌∷◌, ◌++◌, length, map, Option, Some, None, is_none, is_some, option_map, option_and_then, refl}
+use Rattle.std.specs.Prelude.{ℕ, zero, ◌≡◌, ◌&&◌, true, false, List, [], ◌∷◌, ◌++◌, map, Option, Some, None, is_none, is_some, option_and_then, refl}
 use Rattle.std.proofs.Common.{ap, subst, sym, ◌∙◌}
 use Rattle.clf_syntax.specs.declared.tree.Mode.{Mode}
 use Rattle.clf_syntax.specs.declared.tree.Mode.TheVariants.{Persistent}
@@ -8,16 +8,14 @@ use Rattle.clf_syntax.specs.Tree.{PlainObject}
 use Rattle.clf_syntax.specs.TypeTree as core_type
 use Rattle.clf_syntax.specs.TypeTree.{PlainType, PlainTelescope, PlainKind, SimpleType}
 use Rattle.clf_syntax.specs.Simple.{erase}
-use Rattle.clf_sig.specs.Entry.{PlainClass, PlainSignature, class_at, constant_of, entry_at, family_kind, family_of, kind_in, place_of}
+use Rattle.clf_sig.specs.Entry.{PlainClass, PlainSignature, class_at, constant_of, family_kind, family_of, kind_in, place_of}
 use Rattle.clf_sig.specs.Core.{PlainCore, declares, queries, traces, equates, checks}
 use Rattle.celf_surface.specs.declared.surface.Span.{Span}
 use Rattle.celf_sugar.specs.declared.plain.PName.{PName}
-use Rattle.celf_sugar.specs.PlainTree.{DesugaredObject, DesugaredType, family, function, both, top, monad, DesugaredTelescope, end, binding, of_family as written_family, of_constant as written_constant, DesugaredBody, declare, query, trace, equal, check, DesugaredItem}
+use Rattle.celf_sugar.specs.PlainTree.{DesugaredObject, DesugaredType, family, function, both, top, monad, DesugaredTelescope, end, binding, of_family as written_family, of_constant as written_constant, DesugaredBody, declare, query, trace, equal, check}
 use Rattle.celf_names.specs.Names.{family_named, family_only}
-use Rattle.celf_unknown.specs.Unknown.{first_unknown}
 use Rattle.celf_places.specs.Combined.{combined}
 use Rattle.celf_places.specs.Heads.{Local, all_written, argument_entries, argument_entry, arguments_of, family_head}
-use Rattle.celf_places.specs.Places.{Place, next_part}
 use Rattle.celf_places.specs.SimpleTypes.{local_of, simple_type}
 use Rattle.celf_explicit.specs.Types.{at_indices, kind_of, read_indices, read_telescope, read_type}
 use Rattle.celf_explicit.specs.Objects.{read_object}
@@ -26,7 +24,7 @@ use Rattle.celf_explicit.specs.Explicitness.{is_explicit}
 use Rattle.celf_explicit.proofs.SimpleTypeOfCore.{simple_type_of_core}
 use Rattle.celf_explicit.proofs.WhereExplicit.{core_where_explicit}
 use Rattle.celf_elaboration.specs.Fillings.{Fillings, Scoped}
-use Rattle.celf_elaboration.specs.Names.{ImplicitVariable, implicit_arguments}
+use Rattle.celf_elaboration.specs.Names.{ImplicitVariable}
 use Rattle.celf_elaboration.specs.Readings.{type_local, implicit_indices, ReadsObject, ReadsFilled, filled_none, ReadsIndices, indices_none, indices_next, indices_beyond, ReadsType, reads_family, reads_function, reads_both, reads_top, reads_monad, ReadsTelescope, reads_end, reads_binding}
 use Rattle.celf_elaboration.specs.Items.{ReadsBody, reads_family_declaration, reads_constant_declaration, reads_query, reads_trace, reads_equation, reads_check}
 use Rattle.reconstruction_laws.specs.Laws.{ExplicitIsFilled, FilledIsExplicit, IsOneReading}
@@ -100,7 +98,7 @@ module _ (sig : PlainSignature) (heads : ℕ → Head) (vs : List ImplicitVariab
       other fs c (reads_family {f = f'} {k = k'} {ts = ts} {fs = x} {gs = y} {ns = ns} {os = os'} i' j' p q r) =
           let ef = same_some (sym i' ∙ i) in let ek = same_some (sym j' ∙ ap (family_kind sig) ef ∙ j) in
           let p' = subst (λ v. ReadsFilled sig heads vs ss v (map erase k) x ns ts) n (subst (λ v. ReadsFilled sig heads vs ss (implicit_indices sig heads vs h v) (map erase k) x ns ts) ef
-              (subst (λ v. ReadsFilled sig heads vs ss (implicit_indices sig heads vs h f') (map erase v) x ns ts) ek p)) in
+          (subst (λ v. ReadsFilled sig heads vs ss (implicit_indices sig heads vs h f') (map erase v) x ns ts) ek p)) in
           let (a1, a2, a3) = none_filled p' in let (b1, b2) = b.only y os' (subst (λ v. ReadsIndices sig heads vs ss v is y os') a3 q) in
           (none_both x y fs a1 b1 r, ap (λ v. core_type.family v (ns ++ os')) ef ∙ ap (λ v. core_type.family f (v ++ os')) a2 ∙ ap (core_type.family f) b2)
 

@@ -1,7 +1,7 @@
 -- The explicit reading of an object is its one reading with fillings, of which there are none.
-use Rattle.std.specs.Prelude.{ℕ, zero, suc, ◌+◌, ◌≡◌, ◌⊎◌, ◌&&◌, ◌||◌, Bool, true, false, if◌then◌else◌, List, [], ◌∷◌, ◌++◌, length, map, Option, Some, None, option_map, option_and_then, refl, slice_get}
+use Rattle.std.specs.Prelude.{ℕ, zero, suc, ◌+◌, ◌≡◌, ◌&&◌, ◌||◌, Bool, true, false, if◌then◌else◌, List, [], ◌∷◌, ◌++◌, map, Option, Some, None, option_map, option_and_then, refl, slice_get}
 use Rattle.std.specs.Option.{option_or}
-use Rattle.std.proofs.Common.{ap, inl, inr, subst, sym, ⊎_elim, ◌∙◌}
+use Rattle.std.proofs.Common.{ap, subst, sym, ◌∙◌}
 use Rattle.clf_syntax.specs.declared.tree.Mode.{Mode}
 use Rattle.clf_syntax.specs.declared.tree.Head.{Head}
 use Rattle.clf_syntax.specs.declared.tree.Head.TheVariants.{Const, Var}
@@ -12,15 +12,14 @@ use Rattle.clf_syntax.specs.Renaming.{ren_neutral, up}
 use Rattle.eta_laws.specs.Eta.{eta, expansion}
 use Rattle.pattern_laws.specs.Patterns.{blank}
 use Rattle.clf_sig.specs.Entry.{PlainEntry, PlainSignature, entry_at, family_of, simple_types}
-use Rattle.celf_surface.specs.declared.surface.SMode.{SMode}
 use Rattle.celf_surface.specs.declared.surface.Span.{Span}
 use Rattle.celf_sugar.specs.declared.plain.PName.{PName}
 use Rattle.celf_sugar.specs.declared.plain.PBinder.{PBinder}
 use Rattle.celf_sugar.specs.PlainTree.{DesugaredObject, lam, pair, unit, monadic, atomic, hole, DesugaredSpine, end_of_spine, and_then, argument, first, second, DesugaredSteps, no_steps, step, DesugaredTuple, end_of_tuple, entry}
 use Rattle.celf_names.specs.Names.{constant_named}
 use Rattle.celf_places.specs.Combined.{combined, with_mode}
-use Rattle.celf_places.specs.Heads.{Local, Typed, all_written, constant_head, constant_typed, has_name, has_no_implicit, head, is_named, local_from, place_of_head}
-use Rattle.celf_places.specs.Places.{Place, behind_act, behind_spine, entries_at, function_parts, marked, next_part, pair_parts}
+use Rattle.celf_places.specs.Heads.{Local, Typed, all_written, constant_typed, has_no_implicit, head, is_named, local_from, place_of_head}
+use Rattle.celf_places.specs.Places.{Place, behind_spine, entries_at, function_parts, marked, next_part, pair_parts}
 use Rattle.celf_explicit.specs.Objects.{expression_of, long_at, pattern_modes, read_act, read_object, read_spine, read_steps, read_tuple, step_entries, under_spine, with_pattern as locals_after, with_steps}
 use Rattle.celf_elaboration.specs.Fillings.{Fillings, Scoped}
 use Rattle.celf_elaboration.specs.Names.{ImplicitVariable, Meaning, all_arguments, as_local, constant_meaning, implicit_arguments, implicit_from, meaning}
@@ -255,7 +254,7 @@ module _ (sig : PlainSignature) (heads : ℕ → Head) (vs : List ImplicitVariab
         ended fs ys ks steps_none = (refl, refl, refl)
     one_steps (step bs h es text) ls ss xs seen e =
         let (z, zs, i, j, k) = from_combined (◌∷◌) (option_map (with_mode (pattern_modes (step_entries sig ls h es) bs)) (combined under_spine (head sig ls h) (read_spine sig ls (place_of_head (head sig ls h)) es)))
-            (read_steps sig (locals_after ls (step_entries sig ls h es) bs) text) xs e in
+        (read_steps sig (locals_after ls (step_entries sig ls h es) bs) text) xs e in
         let (x, i', k') = from_map (with_mode (pattern_modes (step_entries sig ls h es) bs)) (combined under_spine (head sig ls h) (read_spine sig ls (place_of_head (head sig ls h)) es)) z i in
         let (a, y, l, m, o) = from_combined under_spine (head sig ls h) (read_spine sig ls (place_of_head (head sig ls h)) es) x i' in
         let place : behind_spine (place_of_head (head sig ls h)) es ≡ behind_spine a.1 es = ap (λ v. behind_spine (place_of_head v) es) l in
@@ -285,9 +284,12 @@ module _ (sig : PlainSignature) (heads : ℕ → Head) (vs : List ImplicitVariab
                 let (i1, i2, i3) = f.only f1 r' p' q1 in
                 let (j1, j2, j3) = g.only f2 x' u' (subst (λ (v : Place). ReadsSpine sig heads vs ss (head_alone a.0) v es f2 x' u') i3 (subst (λ (v : PlainNeutral). ReadsSpine sig heads vs ss v p' es f2 x' u') i2 q2)) in
                 let at = j3 ∙ sym place in
-                let (k1, k2, k3) = rest.only f3 ws ks (subst (λ (v : Place). ReadsSteps sig heads vs (with_pattern ss (entries_at v) bs) text f3 ws ks) at q3) in
-                (none_both (f1 ++ f2) f3 fs (ap (λ v. v ++ f2) i1 ∙ j1) k1 i, ap (λ (v : Place). (pattern_modes (entries_at v) bs, x') ∷ ws) at
-                ∙ ap (λ v. (pattern_modes (step_entries sig ls h es) bs, v) ∷ ws) j2 ∙ ap (λ v. (pattern_modes (step_entries sig ls h es) bs, spine_on y (head_alone a.0)) ∷ v) k2, k3)
+                let (k1, k2, k3) = rest.only f3 ws ks (subst (λ (v : Place). ReadsSteps sig heads vs (with_pattern ss (entries_at v) bs) text f3 ws ks) at q3) in (
+                  none_both (f1 ++ f2) f3 fs (ap (λ v. v ++ f2) i1 ∙ j1) k1 i,
+                  ap (λ (v : Place). (pattern_modes (entries_at v) bs, x') ∷ ws) at
+                      ∙ ap (λ v. (pattern_modes (step_entries sig ls h es) bs, v) ∷ ws) j2 ∙ ap (λ v. (pattern_modes (step_entries sig ls h es) bs, spine_on y (head_alone a.0)) ∷ v) k2,
+                  k3,
+                )
 
     one_tuple : (u : DesugaredTuple) (ls : List Local) (ss : List Scoped) (ps : List (Mode × SimpleType)) (es : List (Mode × PlainObject)) → Seen ls ss → read_tuple sig ls ps u ≡ Some es → OneTuple ss ps u es
     one_tuple end_of_tuple ls ss ps es seen e = subst (λ v. OneTuple ss ps end_of_tuple v) (same_some e) (record { reads = tuple_end; only = λ fs ds q. ended fs ds q })

@@ -45,11 +45,11 @@ family_elaborations_are_instances sig xs metas tree core q formed_sig gathered n
     let i = elaborations_are_instances sig xs metas (as_type tree) (as_type core) q formed_sig (gathered_as_type gathered) now s keeps grows put_in (type_substituted c) front (as_type k) elaboration (type_well_formed sig front k r) in
     let a = stays_kind core i.filling in
     let b = stays_kind a.kind (subst (λ (v : PlainType). SubstitutedType elaboration.put v i.elaborated) a.same i.putting) in record {
-  fills = i.fills;
-  filled = a.kind;
-  elaborated = b.kind;
-  instantiates = i.instantiates;
-  filling = a.becomes;
-  putting = b.becomes;
-  joined = joined_kind k b.kind (subst (λ (v : PlainType). JoinedType (as_type k) v) b.same i.joined);
-}
+      fills = i.fills;
+      filled = a.kind;
+      elaborated = b.kind;
+      instantiates = i.instantiates;
+      filling = a.becomes;
+      putting = b.becomes;
+      joined = joined_kind k b.kind (subst (λ (v : PlainType). JoinedType (as_type k) v) b.same i.joined);
+    }

@@ -266,10 +266,10 @@ module _ (sig : PlainSignature) (xs : List PlainType) where
         let (filled, r, formed_filled, s) = (typed_has_result true (families_of sig) c z unbinding typed_unbinding).type core formed_core in
         let (x, k, l, m) = (typed_has_result true (families_of sig) z y putting typed_putting).type filled formed_filled in
         let same = determined_type ((composition (families_of sig) c z y unbinding putting e typed_unbinding typed_putting putting_does_both).type core filled x formed_core r k) q in record {
-      filled = filled;
-      by_fills = (composition (families_of sig) g c z (instant final) unbinding (instant fills) typed_final typed_unbinding fills_do_both).type tree core filled formed p r;
-      by_putting = subst (λ (v : PlainType). SubstitutedType putting filled v) same k;
-    }
+          filled = filled;
+          by_fills = (composition (families_of sig) g c z (instant final) unbinding (instant fills) typed_final typed_unbinding fills_do_both).type tree core filled formed p r;
+          by_putting = subst (λ (v : PlainType). SubstitutedType putting filled v) same k;
+        }
 
     -- the head of a binder: the constant of an implicit variable, or a parameter
     abbrev head_by : ℕ → Bool → Head

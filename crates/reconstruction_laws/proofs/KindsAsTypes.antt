@@ -1,11 +1,11 @@
 -- Kinds as types of functions to <T>.
 use Rattle.std.specs.Prelude.{◌≡◌, List, [], ◌∷◌, refl}
-use Rattle.std.proofs.Common.{ap, subst, sym}
+use Rattle.std.proofs.Common.{ap}
 use Rattle.clf_syntax.specs.declared.tree.Mode.TheVariants.{Persistent}
-use Rattle.clf_syntax.specs.TypeTree.{PlainKind, PlainType, function, top}
+use Rattle.clf_syntax.specs.TypeTree.{PlainKind, PlainType, function}
 use Rattle.clf_syntax.specs.Simple.{Assignment, Families, SimplyFormed, SimplyFormedKind, erase, extended}
 use Rattle.use_contexts.specs.Context.{Context}
-use Rattle.hered_subst.specs.Substitution.{Environment, SubstitutedKind, SubstitutedType, in_argument, in_function, in_no_argument, in_top, under}
+use Rattle.hered_subst.specs.Substitution.{Environment, SubstitutedKind, SubstitutedType, in_argument, in_function, in_no_argument, in_top}
 use Rattle.joined_laws.specs.JoinedTypes.{JoinedKind, JoinedType, joined_argument, joined_function, joined_no_argument}
 use Rattle.pattern_laws.specs.Equations.{Equation}
 use Rattle.clf_sig.specs.Entry.{PlainSignature}

@@ -1,9 +1,9 @@
 -- The simple type of an eta-long form goes back from one neutral to another.
 use Rattle.std.specs.Prelude.{ℕ, zero, suc, ◌+◌, ◌≡◌, ◌<◌, ◌≤◌, true, false, length, refl}
-use Rattle.std.proofs.Common.{ap, arith, inl, sym, ⊎_elim, ◌∙◌}
+use Rattle.std.proofs.Common.{ap, arith, inl, ⊎_elim, ◌∙◌}
 use Rattle.clf_syntax.specs.declared.tree.Head.{Head}
 use Rattle.clf_syntax.specs.declared.tree.Head.TheVariants.{Meta, Var}
-use Rattle.clf_syntax.specs.Tree.{PlainNeutral, app, atomic, fst, head_alone, head_of, snd}
+use Rattle.clf_syntax.specs.Tree.{PlainNeutral, app, fst, head_alone, head_of, snd}
 use Rattle.clf_syntax.specs.TypeTree.{SimpleType, SimpleTelescope, base, arrow, simple_with, simple_top, lax, simple_end, simple_binding}
 use Rattle.clf_syntax.specs.Simple.{Assignment, MayStand, SimplyTyped, SimplyTypedNeutral, SimplyTypedTuple, extended, extended_by, no_holes, simple_modes}
 use Rattle.clf_syntax.specs.Renaming.{ren_neutral, up}
@@ -52,10 +52,14 @@ stands_back r q w s p = ⊎_elim (λ a. inl a) (λ a. absurd (no_meta (head_of q
 mutual
   pub eta_back : (t : SimpleType) (g y : Assignment) (r q : PlainNeutral) → GoesBack g y r q → is_metavariable (head_of q) ≡ false → (w : SimpleType) → SimplyTyped y (eta t q) w → SimplyTyped g (eta t r) w
   eta_back (base a) g y r q b s w p = (stands_back r q w s p.0, b w p.1)
-  eta_back (arrow m d c) g y r q b s w p = let (e, v, i, x) = p in
-      (e, v, i, eta_back c (extended e g) (extended e y) (app m (ren_neutral (up 1) r) (eta d (head_alone (Var 0)))) (app m (ren_neutral (up 1) q) (eta d (head_alone (Var 0))))
-      (λ z k. (k.0, raised_back e g y r q b (arrow m k.0 z) k.1, eta_back d (extended e g) (extended e y) (head_alone (Var 0)) (head_alone (Var 0)) (λ w l. l) refl k.0 k.2))
-      (meta_renamed (up 1) q ∙ s) v x)
+  eta_back (arrow m d c) g y r q b s w p = let (e, v, i, x) = p in (
+    e,
+    v,
+    i,
+    eta_back c (extended e g) (extended e y) (app m (ren_neutral (up 1) r) (eta d (head_alone (Var 0)))) (app m (ren_neutral (up 1) q) (eta d (head_alone (Var 0))))
+        (λ z k. (k.0, raised_back e g y r q b (arrow m k.0 z) k.1, eta_back d (extended e g) (extended e y) (head_alone (Var 0)) (head_alone (Var 0)) (λ w l. l) refl k.0 k.2))
+        (meta_renamed (up 1) q ∙ s) v x,
+  )
   eta_back (simple_with c d) g y r q b s w p = let (e, v, i, x, z) = p in
       (e, v, i, eta_back c g y (fst r) (fst q) (λ w k. (k.0, b (simple_with w k.0) k.1)) s e x, eta_back d g y (snd r) (snd q) (λ w k. (k.0, b (simple_with k.0 w) k.1)) s v z)
   eta_back simple_top g y r q b s w p = p
@@ -70,9 +74,13 @@ mutual
 
   variables_back : (ts : SimpleTelescope) (n : ℕ) (g y : Assignment) → AgreeFor n g y → length (simple_modes ts) ≤ n → (u : SimpleTelescope) → SimplyTypedTuple y (variables ts) u → SimplyTypedTuple g (variables ts) u
   variables_back simple_end n g y a h u p = p
-  variables_back (simple_binding m t ts) n g y a h u p = let (d, v, i, x, z) = p in
-      (d, v, i, eta_back t g y (head_alone (Var (length (simple_modes ts)))) (head_alone (Var (length (simple_modes ts)))) (λ w k. a (length (simple_modes ts)) (less (length (simple_modes ts)) h) ∙ k) refl d x,
-      variables_back ts n g y a (lower (length (simple_modes ts)) h) v z)
+  variables_back (simple_binding m t ts) n g y a h u p = let (d, v, i, x, z) = p in (
+    d,
+    v,
+    i,
+    eta_back t g y (head_alone (Var (length (simple_modes ts)))) (head_alone (Var (length (simple_modes ts)))) (λ w k. a (length (simple_modes ts)) (less (length (simple_modes ts)) h) ∙ k) refl d x,
+    variables_back ts n g y a (lower (length (simple_modes ts)) h) v z,
+  )
     where
       less : (k : ℕ) → suc k ≤ n → k < n
       less k h = omega (arith, h)

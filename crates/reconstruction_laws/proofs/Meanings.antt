@@ -86,7 +86,7 @@ found_local k name [] t e = absurd (no_typed e)
 found_local k name (l ∷ ls) t e = ⊎_elim
     (λ x. record { number = 0; local = l; head = ap (λ (t : Typed). t.0) (sym (the_typed x)) ∙ ap Var (none_more k); below = omega arith; there = refl; place = ap (λ (t : Typed). t.1) (sym (the_typed x)) })
     (λ x. let f = found_local (k + 1) name ls t x in
-        record { number = suc f.number; local = f.local; head = f.head ∙ ap Var (one_more k f.number); below = higher f.number f.below; there = f.there; place = f.place })
+    record { number = suc f.number; local = f.local; head = f.head ∙ ap Var (one_more k f.number); below = higher f.number f.below; there = f.there; place = f.place })
     (from_if (has_name name (as_local l)) (Some (Var k, l.place)) (local_from (k + 1) name (map as_local ls)) (Some t) e)
   where
     none_more : (k : ℕ) → k ≡ k + 0
@@ -110,7 +110,7 @@ found_implicit heads x name [] m e = absurd (no_meaning e)
 found_implicit heads x name (v ∷ vs) m e = ⊎_elim
     (λ y. record { number = 0; variable = v; head = ap (λ (m : Meaning). m.head) (sym (the_meaning y)) ∙ ap heads (none_more x); there = refl; place = ap (λ (m : Meaning). m.place) (sym (the_meaning y)) })
     (λ y. let f = found_implicit heads (x + 1) name vs m y in
-        record { number = suc f.number; variable = f.variable; head = f.head ∙ ap heads (one_more x f.number); there = f.there; place = f.place })
+    record { number = suc f.number; variable = f.variable; head = f.head ∙ ap heads (one_more x f.number); there = f.there; place = f.place })
     (from_if (same_bytes name v.name) (Some (record { head = heads x; place = Some v.type; implicit = 0 })) (implicit_from heads (x + 1) name vs) (Some m) e)
   where
     none_more : (k : ℕ) → k ≡ k + 0

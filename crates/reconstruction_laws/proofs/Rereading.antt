@@ -1,14 +1,12 @@
 -- Two readings of one text differ by their fillings alone.
-use Rattle.std.specs.Prelude.{ℕ, zero, suc, ◌+◌, ◌≡◌, ◌<◌, ◌&&◌, Bool, true, false, List, [], ◌∷◌, ◌++◌, length, map, Option, Some, None, refl}
-use Rattle.std.proofs.Common.{ap, arith, append-nil, append_assoc, subst, sym, ◌∙◌}
+use Rattle.std.specs.Prelude.{ℕ, suc, ◌≡◌, ◌&&◌, Bool, true, false, List, [], ◌∷◌, ◌++◌, length, Some, None, refl}
+use Rattle.std.proofs.Common.{ap, arith, append_assoc, subst, sym, ◌∙◌}
 use Rattle.clf_syntax.specs.declared.tree.Mode.{Mode}
 use Rattle.clf_syntax.specs.declared.tree.Head.{Head}
-use Rattle.clf_syntax.specs.declared.tree.Head.TheVariants.{Const, Var}
+use Rattle.clf_syntax.specs.declared.tree.Head.TheVariants.{Var}
 use Rattle.clf_syntax.specs.Tree as core
 use Rattle.clf_syntax.specs.Tree.{PlainObject, PlainNeutral, PlainExpression, PlainTuple, head_of, head_alone, steps_on}
-use Rattle.clf_syntax.specs.TypeTree as core_type
-use Rattle.clf_syntax.specs.TypeTree.{PlainType, PlainTelescope, PlainKind, SimpleType, SimpleTelescope, base, arrow, simple_with, simple_top, lax}
-use Rattle.clf_syntax.specs.Simple.{erase}
+use Rattle.clf_syntax.specs.TypeTree.{SimpleType, SimpleTelescope, base, arrow, simple_with, simple_top, lax}
 use Rattle.clf_syntax.specs.Renaming.{ren_neutral, up}
 use Rattle.hered_subst.specs.Substitution.{Environment, keep, ren_image, under, Substituted, SubstitutedExpression, SubstitutedTuple, KeepsHead, kept_bare, kept_app, kept_fst, kept_snd, through_lam, through_pair, through_unit, through_monadic, through_kept, through_done, step_kept, through_empty, through_entry}
 use Rattle.hered_subst.specs.TypedEnvironments.{is_metavariable}
@@ -25,10 +23,10 @@ use Rattle.celf_sugar.specs.declared.plain.PName.{PName}
 use Rattle.celf_sugar.specs.declared.plain.PBinder.{PBinder}
 use Rattle.celf_sugar.specs.PlainTree.{DesugaredObject, DesugaredSpine, DesugaredSteps, DesugaredTuple}
 use Rattle.celf_places.specs.Places.{Place, marked, entries_at, function_parts, next_part, pair_parts}
-use Rattle.celf_explicit.specs.Objects.{long_at, pattern_modes, expression_of}
+use Rattle.celf_explicit.specs.Objects.{long_at, pattern_modes}
 use Rattle.celf_elaboration.specs.Fillings.{Filling, Fillings, Scoped, KnownLocals}
 use Rattle.celf_elaboration.specs.Names.{ImplicitVariable, Meaning, meaning}
-use Rattle.celf_elaboration.specs.Readings.{blank_at, with_pattern, ReadsImplicit, implicit_none, implicit_next, ReadsHead, reads_head, ReadsObject, reads_lam, reads_pair, reads_unit, reads_monadic, reads_atomic, reads_dropped, reads_hole, ReadsSpine, spine_end, spine_argument, spine_first, spine_second, ReadsSteps, steps_none, steps_next, ReadsTuple, tuple_end, tuple_entry}
+use Rattle.celf_elaboration.specs.Readings.{with_pattern, ReadsImplicit, implicit_none, implicit_next, ReadsHead, reads_head, ReadsObject, reads_lam, reads_pair, reads_unit, reads_monadic, reads_atomic, reads_dropped, reads_hole, ReadsSpine, spine_end, spine_argument, spine_first, spine_second, ReadsSteps, steps_none, steps_next, ReadsTuple, tuple_end, tuple_entry}
 use Rattle.reconstruction_laws.specs.Becoming.{FillingsBecome, KeepsNamed}
 use Rattle.reconstruction_laws.proofs.Meanings.{NamedHead, named_head, names_constant, names_implicit, names_local, the_meaning}
 use Rattle.subst_laws.proofs.Environs.{under_sum}
@@ -156,11 +154,12 @@ module _ (sig : PlainSignature) (heads : ℕ → Head) (vs : List ImplicitVariab
     steps_become {ls = ls} {js = js} x y (steps_next {u = u} {b = b} {h = h} {es = es} {ss = ss} {fs = f1} {gs = f2} {ks' = f3} {hs = fs} {x = r} {xs = xs} p1 p2 p3 e) (steps_next {u = v} {fs = g1} {gs = g2} {ks' = g3} {hs = gs} {x = q} {xs = ys} q1 q2 q3 e') f =
         let (i1, i2, i3) = head_become (f2 ++ (f3 ++ x)) (g2 ++ (g3 ++ y)) p1 q1 (regroup f1 f2 (f3 ++ x) g1 g2 (g3 ++ y) (parts fs (f1 ++ f2) f3 gs (g1 ++ g2) g3 x y e e' f)) in
         let (j1, j2, j3) = spine_become (f3 ++ x) (g3 ++ y) i1 i2 p2 q2 i3 in
-        let (k1, k2, k3) = steps_become x y p3 (subst (λ (w : Place). ReadsSteps sig heads vs (with_pattern ls (entries_at w) b) ss g3 ys js) (sym j2) q3) j3 in
-        (k1,
-        (λ c d p. subst (λ (w : Place). SubstitutedExpression (S ls) (core.step (pattern_modes (entries_at u) b) r (steps_on xs c)) (core.step (pattern_modes (entries_at w) b) q (steps_on ys d))) j2
-        (step_kept j1.kept (subst (λ (w : Environment). SubstitutedExpression w (steps_on xs c) (steps_on ys d)) (sym (pattern_under (entries_at u) b ls s)) (k2 c d p)))),
-        k3)
+        let (k1, k2, k3) = steps_become x y p3 (subst (λ (w : Place). ReadsSteps sig heads vs (with_pattern ls (entries_at w) b) ss g3 ys js) (sym j2) q3) j3 in (
+          k1,
+          (λ c d p. subst (λ (w : Place). SubstitutedExpression (S ls) (core.step (pattern_modes (entries_at u) b) r (steps_on xs c)) (core.step (pattern_modes (entries_at w) b) q (steps_on ys d))) j2
+              (step_kept j1.kept (subst (λ (w : Environment). SubstitutedExpression w (steps_on xs c) (steps_on ys d)) (sym (pattern_under (entries_at u) b ls s)) (k2 c d p)))),
+          k3,
+        )
 
     tuple_become : {ls : List Scoped} {ps : List (Mode × SimpleType)} {u : DesugaredTuple} {fs gs : Fillings} {es ds : List (Mode × PlainObject)} → (x y : Fillings)
         → ReadsTuple sig heads vs ls ps u fs es → ReadsTuple sig heads vs ls ps u gs ds → FillingsBecome s (fs ++ x) (gs ++ y)

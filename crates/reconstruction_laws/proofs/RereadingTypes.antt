@@ -1,7 +1,6 @@
 -- Two readings of a written type differ by their fillings alone.
-use Rattle.std.specs.Prelude.{ℕ, zero, suc, ◌≡◌, List, [], ◌∷◌, ◌++◌, length, map, Option, Some, refl}
+use Rattle.std.specs.Prelude.{ℕ, ◌≡◌, List, [], ◌∷◌, ◌++◌, length, map, Some, refl}
 use Rattle.std.proofs.Common.{ap, append-nil, subst, sym, ◌∙◌}
-use Rattle.clf_syntax.specs.declared.tree.Mode.{Mode}
 use Rattle.clf_syntax.specs.declared.tree.Head.{Head}
 use Rattle.clf_syntax.specs.Tree.{PlainObject}
 use Rattle.clf_syntax.specs.TypeTree as core_type
@@ -13,7 +12,7 @@ use Rattle.clf_sig.specs.Entry.{PlainSignature, family_kind}
 use Rattle.celf_sugar.specs.PlainTree.{DesugaredObject, DesugaredType, DesugaredTelescope}
 use Rattle.celf_elaboration.specs.Fillings.{Fillings, Scoped}
 use Rattle.celf_elaboration.specs.Names.{ImplicitVariable}
-use Rattle.celf_elaboration.specs.Readings.{type_local, implicit_indices, ReadsFilled, filled_none, filled_next, ReadsIndices, indices_none, indices_next, indices_beyond, ReadsType, reads_family, reads_function, reads_both, reads_top, reads_monad, ReadsTelescope, reads_end, reads_binding}
+use Rattle.celf_elaboration.specs.Readings.{implicit_indices, ReadsFilled, filled_none, filled_next, ReadsIndices, indices_none, indices_next, indices_beyond, ReadsType, reads_family, reads_function, reads_both, reads_top, reads_monad, ReadsTelescope, reads_end, reads_binding}
 use Rattle.reconstruction_laws.specs.Becoming.{FillingsBecome, KeepsNamed}
 use Rattle.reconstruction_laws.specs.Laws.{ReadingsBecome}
 use Rattle.reconstruction_laws.proofs.Rereading.{object_become, one_filling, parts}
@@ -59,7 +58,7 @@ module _ (sig : PlainSignature) (heads : ℕ → Head) (vs : List ImplicitVariab
         let ec = the_number (sym i' ∙ i) in
         let ek = the_kind (sym j' ∙ ap (family_kind sig) ec ∙ j) in
         let q1' = subst (λ v. ReadsFilled sig heads vs ls (implicit_indices sig heads vs h v) (map erase k) g1 ns' ts) ec
-            (subst (λ v. ReadsFilled sig heads vs ls (implicit_indices sig heads vs h c') (map erase v) g1 ns' ts) ek q1) in
+        (subst (λ v. ReadsFilled sig heads vs ls (implicit_indices sig heads vs h c') (map erase v) g1 ns' ts) ek q1) in
         let (r1, r2, r3) = filled_become (f2 ++ x) (g2 ++ y) p1 q1' (parts sig heads vs s keeps fs f1 f2 gs g1 g2 x y e e' f) in
         let (r4, r5) = indices_become x y p2 (subst (λ v. ReadsIndices sig heads vs ls v is g2 os') (sym r2) q2) r3 in
         (subst (λ v. SubstitutedType (S ls) (core_type.family c (ns ++ os)) (core_type.family v (ns' ++ os'))) (sym ec) (in_family (each_append r1 r4)), r5)

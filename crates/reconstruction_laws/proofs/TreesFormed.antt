@@ -1,5 +1,5 @@
 -- The tree of a declaration is simply formed where an elaboration is well formed.
-use Rattle.std.specs.Prelude.{ℕ, zero, suc, ◌+◌, ◌-◌, ◌≡◌, ◌<◌, ◌≤◌, Bool, true, false, if◌then◌else◌, nat_lt, List, [], ◌∷◌, ◌++◌, length, map, Option, Some, None, refl}
+use Rattle.std.specs.Prelude.{ℕ, zero, suc, ◌+◌, ◌-◌, ◌≡◌, ◌<◌, ◌≤◌, Bool, true, false, if◌then◌else◌, nat_lt, List, [], ◌∷◌, length, map, Option, Some, None, refl}
 use Rattle.std.specs.List.{slice_get}
 use Rattle.std.specs.Option.{option_map}
 use Rattle.std.proofs.Common.{ap, arith, inl, subst, sym, ◌∙◌}
@@ -27,10 +27,10 @@ use Rattle.typing_laws.specs.SimpleTyping.{constants_of, families_of, simple_of}
 use Rattle.typing_laws.proofs.Erased.{of_constant, put_type}
 use Rattle.typing_laws.proofs.FormedTypes.{well_formed_is_simply_formed}
 use Rattle.gathering.proofs.TypedObjects.{variable_simple}
-use Rattle.elaboration_laws.specs.InFront.{ElaboratesType, PutsInFront, StandsInFront}
+use Rattle.elaboration_laws.specs.InFront.{PutsInFront, StandsInFront}
 use Rattle.elaboration_laws.specs.ItemSetting.{ReadTypes, given_type, item_constants}
 use Rattle.elaboration_laws.proofs.Composites.{typed_under}
-use Rattle.metavars.specs.Fresh.{Scope, new_types, scope_of}
+use Rattle.metavars.specs.Fresh.{new_types, scope_of}
 use Rattle.metavars.proofs.FreshTyped.{fresh_is_typed}
 use Rattle.metavars.proofs.Gets.{get-behind}
 use Rattle.celf_sugar.specs.declared.plain.PName.{PName}
@@ -265,11 +265,13 @@ module _ (sig : PlainSignature) (vs : List TypedVariable) (metas parameters : Ty
 
   good_fillings : (k : ℕ) (fs : Fillings) → AreNew k fs → ((j : ℕ) (u : SimpleType) → slice_get (types_of_new fs) j ≡ Some u → metas (k + j) ≡ Some u) → GoodFillings sig heads us (instant t) e g y fs
   good_fillings k [] p h = tt
-  good_fillings k (f ∷ fs) p h = (good_filling f (subst (λ (o : PlainObject). SimplyTyped (scoped f.locals g) o f.type) (sym p.0)
-      (fresh_is_typed (scoped f.locals g) k (scope_of f.locals) f.type (λ j u i. scoped_metavariable g f.locals (k + j) ∙ h j u (get-front (new_types (scope_of f.locals) f.type) (types_of_new fs) j u i))
-      (λ i u j. scope_variable g f.locals i u j))),
-      good_fillings (k + length (new_types (scope_of f.locals) f.type)) fs p.1
-      (λ j u i. ap metas (moved k (length (new_types (scope_of f.locals) f.type)) j) ∙ h (length (new_types (scope_of f.locals) f.type) + j) u (get-behind (new_types (scope_of f.locals) f.type) (types_of_new fs) j ∙ i)))
+  good_fillings k (f ∷ fs) p h = (
+    good_filling f (subst (λ (o : PlainObject). SimplyTyped (scoped f.locals g) o f.type) (sym p.0)
+        (fresh_is_typed (scoped f.locals g) k (scope_of f.locals) f.type (λ j u i. scoped_metavariable g f.locals (k + j) ∙ h j u (get-front (new_types (scope_of f.locals) f.type) (types_of_new fs) j u i))
+        (λ i u j. scope_variable g f.locals i u j))),
+    good_fillings (k + length (new_types (scope_of f.locals) f.type)) fs p.1
+        (λ j u i. ap metas (moved k (length (new_types (scope_of f.locals) f.type)) j) ∙ h (length (new_types (scope_of f.locals) f.type) + j) u (get-behind (new_types (scope_of f.locals) f.type) (types_of_new fs) j ∙ i)),
+  )
     where
       moved : (k n j : ℕ) → k + n + j ≡ k + (n + j)
       moved k n j = omega arith

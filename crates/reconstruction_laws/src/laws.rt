@@ -1,5 +1,7 @@
 //! Laws of the pieces of reconstruction, stated by functions that do nothing.
-ghost use Rattle.reconstruction_laws.specs.Laws.{DeclarationIsElaboration, ExplicitIsFilled, FamilyElaborationSolves, FamilyElaborationsAreInstances, FamilyIsElaboration, FilledIsExplicit, KindTreeConforms, ReadingsBecome, TreeConforms};
+ghost use Rattle.reconstruction_laws.specs.Laws.{DeclarationIsElaboration, ExplicitIsFilled, FamilyElaborationSolves};
+ghost use Rattle.reconstruction_laws.specs.Laws.{FamilyElaborationsAreInstances, FamilyIsElaboration, FilledIsExplicit};
+ghost use Rattle.reconstruction_laws.specs.Laws.{KindTreeConforms, ReadingsBecome, TreeConforms};
 
 /// Two readings of one text differ by their fillings alone.
 pub fn readings()
