@@ -30,7 +30,7 @@ use Rattle.reconstruction_laws.specs.Fronts.{FrontsBinders, IsAllPutIn, IsInFron
 use Rattle.reconstruction_laws.specs.Laws.{DeclarationIsElaboration}
 use Rattle.reconstruction_laws.proofs.TreesFormed.{from_map, given_below, given_past, no_type, the_type}
 
-get_below : {X : Type 0} (xs : List X) (i : ℕ) (x : X) → slice_get xs i ≡ Some x → i < length xs
+pub get_below : {X : Type 0} (xs : List X) (i : ℕ) (x : X) → slice_get xs i ≡ Some x → i < length xs
 get_below {X = X} [] i x e = absurd (none e)
   where
     none : {x : X} → None ≡ Some x → ⊥
@@ -100,6 +100,9 @@ module _ (sig : PlainSignature) (xs : List PlainType) where
       at false i = let h = sum_back c (length sig) (is_past c (length sig) i) in
           let (a, k, q) = from_map (ap (option_map erase) (sym (given_past sig xs (c - length sig))) ∙ ap (item_constants sig xs) h ∙ e) in as_implicit (c - length sig) a h k q
 
+  pub given_bound : (unnamed : List SimpleType) (k : ℕ) (u : SimpleType) → item_constants sig xs k ≡ Some u → binder_constants sig xs unnamed k ≡ Some u
+  given_bound unnamed k u i = ap (λ b. if b then item_constants sig xs k else slice_get unnamed (k - bound)) (lt_true k bound (item_below k u i)) ∙ i
+
   module _ (metas : Types) (read : ReadTypes sig xs metas) (unnamed : List SimpleType) (final : Instantiation) (types : List PlainType) (all : IsAllPutIn sig xs metas unnamed final types)
       (front : Context) (e : Environment) (binder_of : ℕ → ℕ) (fronts : FrontsBinders (length sig) types front e binder_of) where
     abbrev binders : Types
@@ -121,11 +124,8 @@ module _ (sig : PlainSignature) (xs : List PlainType) where
     abbrev y : Assignment
     y = simple_of sig front
 
-    below_bound : (k : ℕ) (u : SimpleType) → item_constants sig xs k ≡ Some u → binders k ≡ Some u
-    below_bound k u i = ap (λ b. if b then item_constants sig xs k else slice_get unnamed (k - bound)) (lt_true k bound (item_below k u i)) ∙ i
-
     wider : (h : Head) (u : SimpleType) → g h ≡ Some u → closed binders metas h ≡ Some u
-    wider (Const k) u i = below_bound k u i
+    wider (Const k) u i = given_bound unnamed k u i
     wider (Var j) u i = absurd (no_type i)
     wider (Meta m) u i = i
 

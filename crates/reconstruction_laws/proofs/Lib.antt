@@ -10,3 +10,4 @@ pub mod Fronted
 pub mod FamiliesElaborated
 pub mod ExplicitObjects
 pub mod ExplicitItems
+pub mod Solved

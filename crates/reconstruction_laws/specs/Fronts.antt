@@ -1,15 +1,17 @@
 -- The binders of a declaration, as they stand in what is found of it, and their variables in a front context.
 -- Binders are numbered: first the implicit variables, then the unnamed ones, which stand for metavariables that are left. Before it is put in front, binder x
 -- is the constant of number x past the signature.
-use Rattle.std.specs.Prelude.{ℕ, ◌+◌, ◌-◌, ◌≡◌, ◌<◌, nat_lt, if◌then◌else◌, List, length, Some, slice_get}
+use Rattle.std.specs.Prelude.{ℕ, ◌+◌, ◌-◌, ◌≡◌, ◌<◌, false, nat_lt, if◌then◌else◌, List, length, Some, None, slice_get}
 use Rattle.clf_syntax.specs.declared.tree.Mode.{Mode}
 use Rattle.clf_syntax.specs.declared.tree.Mode.TheVariants.{Persistent}
 use Rattle.clf_syntax.specs.declared.tree.Head.TheVariants.{Const, Var}
+use Rattle.clf_syntax.specs.Tree.{PlainObject}
 use Rattle.clf_syntax.specs.TypeTree.{PlainType, SimpleType}
 use Rattle.clf_syntax.specs.Simple.{erase}
 use Rattle.use_contexts.specs.Context.{Context, HasVariable}
 use Rattle.hered_subst.specs.Substitution.{Environment, keep, SubstitutedType}
 use Rattle.subst_laws.specs.Environments.{Instantiation, instant}
+use Rattle.store_laws.specs.Mentions.{mentions}
 use Rattle.clf_sig.specs.Entry.{PlainSignature}
 use Rattle.pattern_laws.specs.Instantiations.{Types, Instantiates}
 use Rattle.elaboration_laws.specs.ItemSetting.{item_constants}
@@ -30,6 +32,16 @@ pub record IsAllPutIn (sig : PlainSignature) (xs : List PlainType) (metas : Type
   pub implicit : (x : ℕ) (a b : PlainType) → slice_get xs x ≡ Some a → slice_get types x ≡ Some b → SubstitutedType (instant final) a b
   pub others : (j : ℕ) (b : PlainType) → slice_get types (length xs + j) ≡ Some b → slice_get unnamed j ≡ Some (erase b)
   pub count : length types ≡ length xs + length unnamed
+
+-- Each metavariable of an item has an object in which no metavariable is left that is there after unification and has no solution.
+abbrev pub NothingLeft : Types → Types → Instantiation → Instantiation → Type 0
+NothingLeft metas after given s = (m : ℕ) (a : SimpleType) → metas m ≡ Some a
+    → (o : PlainObject) × (s m ≡ Some o) × ((k : ℕ) (u : SimpleType) → after k ≡ Some u → given k ≡ None → mentions k o ≡ false)
+
+-- the types of the implicit variables with all solutions put in
+pub record TypesBecome (s : Instantiation) (xs types : List PlainType) : Type 0 where
+  pub becomes : (x : ℕ) (a b : PlainType) → slice_get xs x ≡ Some a → slice_get types x ≡ Some b → SubstitutedType (instant s) a b
+  pub count : length types ≡ length xs
 
 -- Binder x, of the type a, has the variable of this number in the front context: that is put for its constant, in its own type too.
 pub record IsInFront (n : ℕ) (front : Context) (e : Environment) (x : ℕ) (a : PlainType) (number : ℕ) : Type 0 where

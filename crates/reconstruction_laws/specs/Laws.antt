@@ -31,7 +31,7 @@ use Rattle.celf_explicit.specs.Explicit.{entry_of, explicit}
 use Rattle.celf_explicit.specs.Explicitness.{is_explicit}
 use Rattle.celf_elaboration.specs.Readings.{ReadsObject, ReadsType, ReadsTelescope}
 use Rattle.reconstruction_laws.specs.Becoming.{FillingsBecome, KeepsNamed}
-use Rattle.reconstruction_laws.specs.Fronts.{IsAllPutIn, FrontsBinders, AllPersistent}
+use Rattle.reconstruction_laws.specs.Fronts.{IsAllPutIn, NothingLeft, TypesBecome, FrontsBinders, AllPersistent}
 use Rattle.reconstruction_laws.specs.Trees.{HasNewTypes, IsKindTreeOf, ElaboratesKind, kind_with_binders, ElaboratesFamily}
 
 -- Two readings of one text differ by their fillings alone: where the environment makes the fillings of one those of the other, it makes the one tree the other.
@@ -78,6 +78,11 @@ FamilyIsElaboration = (sig : PlainSignature) (vs : List TypedVariable) (metas : 
     → (front : Context) (e : Environment) (binder_of : ℕ → ℕ) → FrontsBinders (length sig) types front e binder_of → AllPersistent front
     → (core elaborated : PlainKind) → SubstitutedKind (instant final) tree core → SubstitutedKind e core elaborated → (written_implicit : ℕ)
     → ElaboratesFamily sig vs written_implicit metas tree (entry_of (length front + written_implicit) (family_of (kind_with_binders front elaborated)))
+
+-- Where unification leaves nothing, its solutions all put in are what a declaration without unnamed binders needs.
+abbrev pub SolvedIsAllPutIn : Type 0
+SolvedIsAllPutIn = (sig : PlainSignature) (xs : List PlainType) (metas after : Types) (given s : Instantiation) → Grows metas after → IsPutIn (item_constants sig xs) after given s
+    → NothingLeft metas after given s → (types : List PlainType) → TypesBecome s xs types → IsAllPutIn sig xs metas [] s types
 
 -- The tree of a family's arguments with what is gathered of it.
 pub record KindIsGathered (sig : PlainSignature) (xs : List PlainType) (metas : Types) (tree : PlainKind) (q : List Equation) : Type 0 where

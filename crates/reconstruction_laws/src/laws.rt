@@ -1,7 +1,7 @@
 //! Laws of the pieces of reconstruction, stated by functions that do nothing.
 ghost use Rattle.reconstruction_laws.specs.Laws.{DeclarationIsElaboration, ExplicitIsFilled, FamilyElaborationSolves};
 ghost use Rattle.reconstruction_laws.specs.Laws.{FamilyElaborationsAreInstances, FamilyIsElaboration, FilledIsExplicit};
-ghost use Rattle.reconstruction_laws.specs.Laws.{KindTreeConforms, ReadingsBecome, TreeConforms};
+ghost use Rattle.reconstruction_laws.specs.Laws.{KindTreeConforms, ReadingsBecome, SolvedIsAllPutIn, TreeConforms};
 
 /// Two readings of one text differ by their fillings alone.
 pub fn readings()
@@ -18,6 +18,7 @@ pub fn trees()
 pub fn found()
     ensures constants { DeclarationIsElaboration }
     ensures families { FamilyIsElaboration }
+    ensures solved { SolvedIsAllPutIn }
 {}
 
 /// Well-formed elaborations of a family solve its equations, and are instances of its core.
