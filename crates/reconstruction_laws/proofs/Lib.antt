@@ -11,3 +11,4 @@ pub mod FamiliesElaborated
 pub mod ExplicitObjects
 pub mod ExplicitItems
 pub mod Solved
+pub mod Worked

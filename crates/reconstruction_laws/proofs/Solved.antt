@@ -1,11 +1,11 @@
 -- Where unification leaves nothing, its solutions are all put in.
-use Rattle.std.specs.Prelude.{ℕ, ◌+◌, ◌-◌, ◌≡◌, ◌<◌, Bool, true, false, if◌then◌else◌, nat_lt, List, [], length, Option, Some, None, refl, slice_get}
-use Rattle.std.proofs.Common.{ap, arith, inl, inr, subst, sym, ⊎_elim, ◌∙◌}
+use Rattle.std.specs.Prelude.{ℕ, ◌+◌, ◌≡◌, ◌<◌, true, false, List, [], length, Option, Some, None, refl}
+use Rattle.std.proofs.Common.{arith, subst, sym, ⊎_elim, ◌∙◌}
 use Rattle.clf_syntax.specs.declared.tree.Head.{Head}
 use Rattle.clf_syntax.specs.declared.tree.Head.TheVariants.{Const, Meta, Var}
 use Rattle.clf_syntax.specs.Tree.{PlainObject}
 use Rattle.clf_syntax.specs.TypeTree.{PlainType, SimpleType}
-use Rattle.clf_syntax.specs.Simple.{Assignment, SimplyTyped, erase}
+use Rattle.clf_syntax.specs.Simple.{Assignment, SimplyTyped}
 use Rattle.hered_subst.specs.TypedEnvironments.{is_metavariable}
 use Rattle.hered_subst.proofs.SimpleTyping.{of_typed, to_typed}
 use Rattle.subst_laws.specs.Environments.{Instantiation}
@@ -17,7 +17,7 @@ use Rattle.unify_laws.specs.Problems.{Grows}
 use Rattle.reach_laws.specs.Unified.{IsPutIn}
 use Rattle.elaboration_laws.specs.ItemSetting.{item_constants}
 use Rattle.celf_elaboration.specs.Directives.{no_parameters}
-use Rattle.reconstruction_laws.specs.Fronts.{NothingLeft, binder_constants, named_count}
+use Rattle.reconstruction_laws.specs.Fronts.{NothingLeft, binder_constants}
 use Rattle.reconstruction_laws.specs.Laws.{SolvedIsAllPutIn}
 use Rattle.reconstruction_laws.proofs.Fronted.{get_below, given_bound}
 

@@ -4,3 +4,4 @@ pub mod Becoming
 pub mod Trees
 pub mod Fronts
 pub mod Laws
+pub mod Examples

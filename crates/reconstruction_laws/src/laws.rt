@@ -1,4 +1,5 @@
 //! Laws of the pieces of reconstruction, stated by functions that do nothing.
+ghost use Rattle.reconstruction_laws.specs.Examples.{Worked};
 ghost use Rattle.reconstruction_laws.specs.Laws.{DeclarationIsElaboration, ExplicitIsFilled, FamilyElaborationSolves};
 ghost use Rattle.reconstruction_laws.specs.Laws.{FamilyElaborationsAreInstances, FamilyIsElaboration, FilledIsExplicit};
 ghost use Rattle.reconstruction_laws.specs.Laws.{KindTreeConforms, ReadingsBecome, SolvedIsAllPutIn, TreeConforms};
@@ -31,4 +32,9 @@ pub fn families()
 pub fn explicit()
     ensures filled { ExplicitIsFilled }
     ensures back { FilledIsExplicit }
+{}
+
+/// A declaration with something to be found, worked out by hand.
+pub fn example()
+    ensures { Worked }
 {}

@@ -3,4 +3,4 @@
 
 mod laws;
 
-pub use laws::{explicit, families, found, readings, trees};
+pub use laws::{example, explicit, families, found, readings, trees};
