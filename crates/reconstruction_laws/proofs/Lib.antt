@@ -1,0 +1,14 @@
+pub mod Meanings
+pub mod Rereading
+pub mod RereadingTypes
+pub mod LongBack
+pub mod Conforming
+pub mod ConformingTypes
+pub mod KindsAsTypes
+pub mod TreesFormed
+pub mod Fronted
+pub mod FamiliesElaborated
+pub mod ExplicitObjects
+pub mod ExplicitItems
+pub mod Solved
+pub mod Worked
