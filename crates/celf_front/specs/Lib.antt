@@ -1,0 +1,3 @@
+pub mod Needs
+pub mod Listed
+pub mod Placing
