@@ -1,2 +1,4 @@
 pub mod Placed
 pub mod Circles
+pub mod Replacing
+pub mod Fronts

@@ -1,3 +1,5 @@
 pub mod Needs
 pub mod Listed
 pub mod Placing
+pub mod Replaced
+pub mod InFront

@@ -2,9 +2,12 @@
 #![tactic(auto)]
 
 mod circle;
+mod heads;
 mod listed;
 mod needs;
+mod objects;
 mod placing;
+mod types;
 
 pub use needs::Needs;
 pub use placing::{Placing, place};
