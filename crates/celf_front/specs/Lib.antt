@@ -3,3 +3,5 @@ pub mod Listed
 pub mod Placing
 pub mod Replaced
 pub mod InFront
+pub mod BinderTypes
+pub mod UnderFront

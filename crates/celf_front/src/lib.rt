@@ -2,6 +2,7 @@
 #![tactic(auto)]
 
 mod circle;
+mod front;
 mod heads;
 mod listed;
 mod needs;
@@ -9,5 +10,6 @@ mod objects;
 mod placing;
 mod types;
 
+pub use front::under_front;
 pub use needs::Needs;
 pub use placing::{Placing, place};
