@@ -3,3 +3,4 @@ pub mod Circles
 pub mod Replacing
 pub mod Fronts
 pub mod UnderFronts
+pub mod Occurrings

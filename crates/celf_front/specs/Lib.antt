@@ -5,3 +5,5 @@ pub mod Replaced
 pub mod InFront
 pub mod BinderTypes
 pub mod UnderFront
+pub mod Occurring
+pub mod OccurringParts

@@ -7,6 +7,8 @@ mod heads;
 mod listed;
 mod needs;
 mod objects;
+mod occurring;
+mod occurring_types;
 mod placing;
 mod types;
 
