@@ -4,3 +4,4 @@ pub mod Replacing
 pub mod Fronts
 pub mod UnderFronts
 pub mod Occurrings
+pub mod Marks

@@ -7,3 +7,5 @@ pub mod BinderTypes
 pub mod UnderFront
 pub mod Occurring
 pub mod OccurringParts
+pub mod Mentions
+pub mod Marking

@@ -5,6 +5,7 @@ mod circle;
 mod front;
 mod heads;
 mod listed;
+mod mentions;
 mod needs;
 mod objects;
 mod occurring;
@@ -13,5 +14,6 @@ mod placing;
 mod types;
 
 pub use front::under_front;
+pub use mentions::needs_of;
 pub use needs::Needs;
 pub use placing::{Placing, place};
