@@ -5,3 +5,4 @@ pub mod Fronts
 pub mod UnderFronts
 pub mod Occurrings
 pub mod Marks
+pub mod Listings

@@ -9,3 +9,4 @@ pub mod Occurring
 pub mod OccurringParts
 pub mod Mentions
 pub mod Marking
+pub mod Metavariables
