@@ -6,3 +6,5 @@ pub mod UnderFronts
 pub mod Occurrings
 pub mod Marks
 pub mod Listings
+pub mod Orders
+pub mod Renamed

@@ -10,3 +10,5 @@ pub mod OccurringParts
 pub mod Mentions
 pub mod Marking
 pub mod Metavariables
+pub mod Fronted
+pub mod Replacements

@@ -3,6 +3,7 @@
 
 mod circle;
 mod front;
+mod fronted;
 mod heads;
 mod listed;
 mod mentions;
@@ -15,6 +16,7 @@ mod placing;
 mod types;
 
 pub use front::under_front;
+pub use fronted::{Fronted, front_of};
 pub use mentions::needs_of;
 pub use metavariables::{list_of_class, list_of_type};
 pub use needs::Needs;
