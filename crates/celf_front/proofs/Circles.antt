@@ -1,14 +1,14 @@
 -- The way to the circle of binders.
 use Rattle.std.specs.Prelude.{ℕ, ◌≡◌, ◌≢◌, ◌<◌, ◌≤◌, List, [], ◌∷◌, ◌++◌, Contains, AllPairs, Bool, true, false, length}
-use Rattle.std.proofs.Common.{refl, ap, sym, subst, arith, get_or, ◌⊎◌, inl, inr, eq-or-lt_of_le, take, drop, drop-cons, ◌∙◌, suc}
+use Rattle.std.proofs.Common.{ap, sym, subst, arith, get_or, inl, inr, eq-or-lt_of_le, take, drop, drop-cons, ◌∙◌, suc}
 use Rattle.std.proofs.lemmas.List.{get_or_default, take-append-drop}
 use Rattle.std.proofs.lemmas.List.Elements.{Contains-get_or}
 use Rattle.std.proofs.lemmas.List.Quantifiers.{all_pairs_push}
-use Rattle.celf_elaboration.specs.Binders.{IsUnplaced, IsReady, Leads, LeadsTo, IsCircle, stuck_here}
+use Rattle.celf_elaboration.specs.Binders.{IsUnplaced, Leads, LeadsTo, IsCircle, stuck_here}
 use Rattle.celf_front.specs.declared.listed.Listed.{Listed}
 use Rattle.celf_front.specs.Needs.{flag}
 use Rattle.celf_front.specs.Listed.{IsListed}
-use Rattle.celf_front.specs.Placing.{ComesTo, NoneIsReady, RunsFrom}
+use Rattle.celf_front.specs.PlacingSteps.{ComesTo, NoneIsReady, RunsFrom}
 
 -- The way begins at the first binder.
 abbrev pub Begins : ℕ → List ℕ → ℕ → Type 0
@@ -37,9 +37,6 @@ leads_more count needs placed (i ∷ j ∷ way) b c l to = (l.0, leads_more coun
 
 once_more : (way : List ℕ) (b : ℕ) → AllPairs (λ i j. i ≢ j) way → (Contains way b → ⊥) → AllPairs (λ i j. i ≢ j) (way ++ b ∷ [])
 once_more way b once new = all_pairs_push (λ i j. i ≢ j) way b once (λ k d lt e. new (subst (λ x. Contains way x) e (Contains-get_or way k d lt)))
-
-pub way_none : (count : ℕ) (needs : ℕ → ℕ → Bool) (placed : List ℕ) (first : ℕ) (way : List ℕ) → way ≡ [] → IsUnplaced count needs placed first → IsWay count needs placed first way first
-way_none count needs placed first way none u = rw none (record { begins = refl; leads = tt; once = λ i j d lt less. absurd (omega arith); unplaced = u })
 
 -- A binder that can't be placed mentions one that is not placed.
 pub leads_on : (count : ℕ) (needs : ℕ → ℕ → Bool) (placed : List ℕ) (b c : ℕ) → NoneIsReady count needs placed → IsUnplaced count needs placed b → c ≤ count

@@ -1,9 +1,7 @@
 -- Binders in front: their heads under further binders, and their types in a context.
-use Rattle.std.specs.Prelude.{ℕ, ◌+◌, ◌-◌, ◌≡◌, ◌<◌, nat_lt, if◌then◌else◌, List, [], ◌∷◌, ◌++◌, length, refl, Option, Some, None}
-use Rattle.std.proofs.Common.{arith, ap, sym, ◌∙◌, append_assoc}
-use Rattle.std.proofs.lemmas.Grind.{common_steps}
-use Rattle.clf_syntax.specs.declared.tree.Head.{Head}
-use Rattle.clf_syntax.specs.declared.tree.Head.TheVariants.{Const, Var, Meta}
+use Rattle.std.specs.Prelude.{ℕ, ◌+◌, ◌-◌, ◌≡◌, nat_lt, if◌then◌else◌, List, length, refl, Option, Some, None}
+use Rattle.std.proofs.Common.{arith, ap}
+use Rattle.clf_syntax.specs.declared.tree.Head.TheVariants.{Var}
 use Rattle.clf_syntax.specs.Renaming.{ren_head, up}
 use Rattle.celf_front.specs.InFront.{binder_at, bound_head, front_head, in_front}
 use Rattle.celf_front.proofs.Replacing.{Lifts, Keeps}

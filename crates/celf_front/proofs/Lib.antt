@@ -7,4 +7,3 @@ pub mod Occurrings
 pub mod Marks
 pub mod Listings
 pub mod Orders
-pub mod Renamed

@@ -1,9 +1,8 @@
 -- How metavariables are listed.
-use Rattle.std.specs.Prelude.{ℕ, ◌+◌, ◌≡◌, ◌<◌, ◌≤◌, List, [], ◌∷◌, ◌++◌, length, Option, Some, None, Contains, refl}
-use Rattle.std.specs.List.{filter_map}
-use Rattle.std.proofs.Common.{arith, ap, sym, ◌∙◌, subst, get_or, take, ◌⊎◌, inl, inr, append_assoc}
-use Rattle.std.proofs.lemmas.List.{append-nil, take_more}
-use Rattle.std.proofs.lemmas.List.Elements.{Contains-append_left, Contains-append_right, Contains-push, Contains-push_cases, filter_map-append}
+use Rattle.std.specs.Prelude.{ℕ, ◌+◌, ◌≡◌, ◌<◌, List, [], ◌∷◌, ◌++◌, length, Contains}
+use Rattle.std.proofs.Common.{ap, sym, ◌∙◌, subst, get_or, take, inl, inr, append_assoc}
+use Rattle.std.proofs.lemmas.List.{take_more}
+use Rattle.std.proofs.lemmas.List.Elements.{Contains-append_left, Contains-push, Contains-push_cases, filter_map-append}
 use Rattle.clf_syntax.specs.declared.tree.Head.{Head}
 use Rattle.celf_front.specs.Metavariables.{meta_in, metavariables, FirstOfEach, of_none, of_new, of_again, ListsMore}
 
@@ -11,7 +10,7 @@ use Rattle.celf_front.specs.Metavariables.{meta_in, metavariables, FirstOfEach, 
 pub once_all : (all once : List ℕ) (m : ℕ) → FirstOfEach all once → Contains once m → Contains all m
 once_all _ _ m of_none has = has
 once_all _ _ m (of_new {all} {once} {m = k} f new) has = elim (Contains-push_cases once k m has) [
-    inl h ↦ Contains-append_left all (k ∷ []) m (once_all all once m f h)
+  | inl h ↦ Contains-append_left all (k ∷ []) m (once_all all once m f h)
   | inr e ↦ subst (Contains (all ++ k ∷ [])) e (Contains-push all k)
 ]
 once_all _ _ m (of_again {all} {once} {m = k} f again) has = Contains-append_left all (k ∷ []) m (once_all all once m f has)
@@ -19,11 +18,11 @@ once_all _ _ m (of_again {all} {once} {m = k} f again) has = Contains-append_lef
 pub all_once : (all once : List ℕ) (m : ℕ) → FirstOfEach all once → Contains all m → Contains once m
 all_once _ _ m of_none has = has
 all_once _ _ m (of_new {all} {once} {m = k} f new) has = elim (Contains-push_cases all k m has) [
-    inl h ↦ Contains-append_left once (k ∷ []) m (all_once all once m f h)
+  | inl h ↦ Contains-append_left once (k ∷ []) m (all_once all once m f h)
   | inr e ↦ subst (Contains (once ++ k ∷ [])) e (Contains-push once k)
 ]
 all_once _ _ m (of_again {all} {once} {m = k} f again) has = elim (Contains-push_cases all k m has) [
-    inl h ↦ all_once all once m f h
+  | inl h ↦ all_once all once m f h
   | inr e ↦ all_once all once m f (subst (Contains all) e again)
 ]
 
@@ -32,9 +31,6 @@ lists_again m listed has all f = of_again f (once_all all listed m f has)
 
 pub lists_new : (m : ℕ) (listed : List ℕ) → (Contains listed m → ⊥) → ListsMore (m ∷ []) listed (listed ++ m ∷ [])
 lists_new m listed new all f = of_new f (λ has. new (all_once all listed m f has))
-
-pub lists_none : (listed : List ℕ) → ListsMore [] listed listed
-lists_none listed all f = subst (λ xs. FirstOfEach xs listed) (sym (append-nil all)) f
 
 pub lists_next : (more others old mid new : List ℕ) → ListsMore more old mid → ListsMore others mid new → ListsMore (more ++ others) old new
 lists_next more others old mid new a b all f = subst (λ xs. FirstOfEach xs new) (append_assoc all more others) (b (all ++ more) (a all f))

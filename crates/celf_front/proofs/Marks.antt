@@ -1,6 +1,6 @@
 -- How the table of what is mentioned is made.
-use Rattle.std.specs.Prelude.{ℕ, ◌+◌, ◌-◌, ◌==◌, nat_lt, if◌then◌else◌, ◌≡◌, ◌<◌, ◌≤◌, ◌≢◌, List, [], ◌∷◌, ◌++◌, length, map, Option, Some, None, Bool, true, false, Contains, refl}
-use Rattle.std.specs.List.{slice_index_or, slice_set, position}
+use Rattle.std.specs.Prelude.{ℕ, ◌+◌, ◌-◌, ◌==◌, nat_lt, if◌then◌else◌, ◌≡◌, ◌<◌, ◌≤◌, List, [], ◌∷◌, ◌++◌, length, map, Option, Some, None, Bool, true, false, Contains}
+use Rattle.std.specs.List.{slice_set, position}
 use Rattle.std.proofs.Common.{arith, ap, sym, ◌∙◌, subst, get_or, ◌⊎◌, inl, inr, length-set}
 use Rattle.std.proofs.lemmas.Grind.{common_steps}
 use Rattle.std.proofs.lemmas.Bool.{cases_lt, cases_eq}
@@ -13,11 +13,9 @@ use Rattle.clf_syntax.specs.declared.tree.Head.TheVariants.{Const, Var, Meta}
 use Rattle.clf_syntax.specs.declared.tree.Ty.{Ty}
 use Rattle.clf_syntax.specs.PlainTypes.{plain_ty}
 use Rattle.clf_syntax.specs.TypeTree.{PlainType, top}
-use Rattle.celf_front.specs.declared.needs.Needs.{Needs}
-use Rattle.celf_front.specs.InFront.{binder_at}
-use Rattle.celf_front.specs.Needs.{flag, count_of, mentions}
+use Rattle.celf_front.specs.Needs.{flag}
 use Rattle.celf_front.specs.Occurring.{heads_in_type}
-use Rattle.celf_front.specs.Mentions.{binder_in, MentionsBinder, AreNeeds, binder_type_at}
+use Rattle.celf_front.specs.Mentions.{binder_in, AreNeeds, binder_type_at}
 use Rattle.celf_front.specs.Marking.{marked_at, IsMarked, IsRow, AreRows}
 
 within_if : (b : Bool) (r : Option ℕ) (k j : ℕ) → (r ≡ Some j → j < k) → (if b then None else r) ≡ Some j → j < k
@@ -28,13 +26,6 @@ pub binder_within : (n : ℕ) (binders : List ℕ) (h : Head) (j : ℕ) → bind
 binder_within n binders (Const c) j e = within_if (nat_lt c n) (position (λ b. b == c - n) binders) (length binders) j (λ f. (position-Some (λ b. b == c - n) binders j 0 f).0) e
 binder_within n binders (Var i) j e = absurd cc
 binder_within n binders (Meta m) j e = absurd cc
-
-pub none_marked : (n : ℕ) (binders : List ℕ) (heads : List Head) (row : List Bool) → length row ≡ length binders → ((j : ℕ) → flag row j ≡ false) → IsMarked n binders heads 0 row
-none_marked n binders heads row size none = record {
-  size = size;
-  comes = λ j on. absurd (let off : flag row j ≡ false = none j in cc);
-  set = λ j k lt e. absurd (omega arith);
-}
 
 below_next : (i k : ℕ) → k < i + 1 → (k < i) ⊎ (k ≡ i)
 below_next i k lt = elim (cases_lt k i) [ inl less ↦ inl less | inr most ↦ inr (omega arith) ]
@@ -51,13 +42,13 @@ now_marked : (n : ℕ) (binders : List ℕ) (heads : List Head) (i : ℕ) (row :
 now_marked n binders heads i row b at here within = record {
   size = length-set row b true ∙ at.size;
   comes = λ j on. elim (cases_eq j b) [
-      inl is ↦ (i, omega arith, here ∙ ap Some (sym is))
+    | inl is ↦ (i, omega arith, here ∙ ap Some (sym is))
     | inr other ↦ let (k, lt, e) = at.comes j (sym (get_or-set_other row b j true false other) ∙ on) in (k, omega arith, e)
   ];
   set = λ j k lt e. elim (cases_eq j b) [
-      inl is ↦ rw is (get_or-set_same row b true false within)
+    | inl is ↦ rw is (get_or-set_same row b true false within)
     | inr other ↦ get_or-set_other row b j true false other ∙ elim (below_next i k lt) [
-        inl less ↦ at.set j k less e
+      | inl less ↦ at.set j k less e
       | inr is ↦ absurd (let same : binder_in n binders (get_or heads k (Const 0)) ≡ Some b = rw is here in other (some_same j b (sym e ∙ same)))
     ]
   ];
@@ -69,12 +60,6 @@ now_marked n binders heads i row b at here within = record {
 marked_by : (n : ℕ) (binders : List ℕ) (heads : List Head) (i : ℕ) (row : List Bool) (r : Option ℕ) → IsMarked n binders heads i row → binder_in n binders (get_or heads i (Const 0)) ≡ r → IsMarked n binders heads (i + 1) (marked_at r row)
 marked_by n binders heads i row None at e = not_marked n binders heads i row at e
 marked_by n binders heads i row (Some b) at e = now_marked n binders heads i row b at e (rw at.size (binder_within n binders (get_or heads i (Const 0)) b e))
-
-pub marked_more : (n : ℕ) (binders : List ℕ) (heads : List Head) (i : ℕ) (row new : List Bool) (h : Head) → IsMarked n binders heads i row → i < length heads → h ≡ get_or heads i h
-    → new ≡ marked_at (binder_in n binders h) row → IsMarked n binders heads (i + 1) new
-marked_more n binders heads i row new h at lt here is =
-    let same : get_or heads i (Const 0) ≡ h = get_or_default heads i (Const 0) h lt ∙ sym here in
-    rw is (marked_by n binders heads i row (binder_in n binders h) at (ap (binder_in n binders) same))
 
 pub row_made : (n : ℕ) (binders : List ℕ) (a : PlainType) (heads : List Head) (i : ℕ) (row : List Bool) → heads ≡ heads_in_type a → length heads ≤ i → i ≤ length heads → IsMarked n binders heads i row → IsRow n binders a row
 row_made n binders a heads i row all past within at = record {
@@ -88,7 +73,7 @@ pub rows_more : (n : ℕ) (types : List PlainType) (binders : List ℕ) (i : ℕ
 rows_more n types binders i rows row at made = record {
   size = grind (arith, common_steps, at.size);
   each = λ k lt. elim (below_next i k lt) [
-      inl less ↦ subst (IsRow n binders (binder_type_at types binders k)) (earlier k less) (at.each k less)
+    | inl less ↦ subst (IsRow n binders (binder_type_at types binders k)) (earlier k less) (at.each k less)
     | inr is ↦ rw is (subst (IsRow n binders (binder_type_at types binders i)) newest made)
   ];
 }

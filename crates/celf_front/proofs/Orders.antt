@@ -1,11 +1,9 @@
 -- What an order and a circle of binders have: places of the list, each once, and after those that its type mentions.
-use Rattle.std.specs.Prelude.{ℕ, ◌+◌, ◌-◌, ◌≡◌, ◌≢◌, ◌<◌, ◌≤◌, List, [], ◌∷◌, ◌++◌, suc, zero, length, map, true, Bool, Contains, AllPairs}
-use Rattle.std.proofs.Common.{arith, ap, sym, ◌∙◌, subst, get_or, take, append_assoc, length-append, ◌⊎◌, inl, inr}
+use Rattle.std.specs.Prelude.{ℕ, ◌+◌, ◌≡◌, ◌<◌, List, [], ◌∷◌, ◌++◌, suc, zero, length, Bool}
+use Rattle.std.proofs.Common.{arith, sym, subst, get_or, length-append}
 use Rattle.std.proofs.lemmas.List.{length-map, get_or-map, get_or-append-add}
-use Rattle.std.proofs.lemmas.Grind.{common_steps}
-use Rattle.std.proofs.lemmas.List.Elements.{Contains-append_left, Contains-append_right, Contains-push}
 use Rattle.clf_syntax.specs.TypeTree.{PlainType}
-use Rattle.celf_elaboration.specs.Binders.{IsUnplaced, IsReady, IsNext, PlacesRest, all_placed, places_next, IsOrder, Leads, LeadsTo, IsCircle}
+use Rattle.celf_elaboration.specs.Binders.{PlacesRest, all_placed, places_next, Leads, IsCircle}
 use Rattle.celf_front.specs.declared.needs.Needs.{Needs}
 use Rattle.celf_front.specs.declared.placing.Placing.{Placing}
 use Rattle.celf_front.specs.declared.placing.Placing.TheVariants.{Order, Circle}

@@ -1,15 +1,9 @@
 -- How placing goes on.
-use Rattle.std.specs.Prelude.{ℕ, ◌≡◌, ◌<◌, List, [], ◌∷◌, ◌++◌, Contains, Bool, true, false}
+use Rattle.std.specs.Prelude.{ℕ, ◌<◌, List, [], ◌∷◌, ◌++◌, Contains, Bool}
 use Rattle.std.proofs.Common.{append_assoc, subst}
 use Rattle.std.proofs.lemmas.List.{append-nil}
-use Rattle.celf_elaboration.specs.Binders.{IsUnplaced, IsReady, IsNext, PlacesRest, places_next, all_placed, PlacesUntil, stuck_here, stuck_later, IsOrder}
-use Rattle.celf_front.specs.declared.listed.Listed.{Listed}
-use Rattle.celf_front.specs.Needs.{flag}
-use Rattle.celf_front.specs.Listed.{IsListed}
-use Rattle.celf_front.specs.Placing.{ComesTo, NoneIsReady}
-
-pub comes_none : (count : ℕ) (needs : ℕ → ℕ → Bool) → ComesTo count needs []
-comes_none count needs = record { orders = λ rest p. p; sticks = λ stuck p. p }
+use Rattle.celf_elaboration.specs.Binders.{IsUnplaced, IsNext, places_next, all_placed, stuck_later, IsOrder}
+use Rattle.celf_front.specs.PlacingSteps.{ComesTo}
 
 pub comes_next : (count : ℕ) (needs : ℕ → ℕ → Bool) (placed : List ℕ) (i : ℕ) → ComesTo count needs placed → IsNext count needs placed i → ComesTo count needs (placed ++ i ∷ [])
 comes_next count needs placed i at next = record {

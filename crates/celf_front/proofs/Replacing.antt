@@ -1,6 +1,6 @@
 -- Heads are replaced along spines, tuples, steps and entries part by part; and replaced heads are a substitution.
 use Rattle.std.specs.Prelude.{ℕ, ◌+◌, ◌-◌, ◌≡◌, ◌<◌, ◌≤◌, nat_lt, if◌then◌else◌, ◌∷◌, ◌++◌, [], List, refl, map, length, Bool, true, false}
-use Rattle.std.proofs.Common.{ap, sym, ◌∙◌, arith, drop, get_or}
+use Rattle.std.proofs.Common.{ap, ◌∙◌, arith, drop, get_or}
 use Rattle.std.proofs.lemmas.List.{map-append}
 use Rattle.std.proofs.lemmas.Grind.{common_steps}
 use Rattle.clf_syntax.specs.declared.tree.Mode.{Mode}
@@ -9,7 +9,6 @@ use Rattle.clf_syntax.specs.declared.tree.Head.TheVariants.{Const, Var, Meta}
 use Rattle.clf_syntax.specs.declared.tree.Step.{Step}
 use Rattle.clf_syntax.specs.declared.tree.TupleEntry.{TupleEntry}
 use Rattle.clf_syntax.specs.declared.tree.TeleEntry.{TeleEntry}
-use Rattle.clf_syntax.specs.declared.tree.Ty.{Ty}
 use Rattle.clf_syntax.specs.Tree.{PlainObject, lam, pair, unit, monadic, atomic, hole, PlainNeutral, head_alone, app, fst, snd, PlainExpression, step, done, PlainTuple, empty, entry, PlainElimination, arg, first, second, eliminated, spine_on, steps_on, tuple_of}
 use Rattle.clf_syntax.specs.TypeTree.{PlainType, family, function, both, top, monad, PlainTelescope, end, binding, PlainKind, telescope_of}
 use Rattle.clf_syntax.specs.Plain.{plain_step, plain_entry}

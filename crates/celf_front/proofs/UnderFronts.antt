@@ -1,16 +1,15 @@
 -- The types of binders in front, as functions and arguments, are the entries of a front context.
-use Rattle.std.specs.Prelude.{ℕ, ◌≡◌, ◌<◌, ◌-◌, List, [], ◌∷◌, ◌++◌, length, map, refl, reverse, Some}
-use Rattle.std.specs.List.{slice_get, slice_index_or}
-use Rattle.std.proofs.Common.{arith, ap, sym, ◌∙◌, append_assoc, drop, get_or, suc}
+use Rattle.std.specs.Prelude.{ℕ, ◌≡◌, ◌<◌, ◌-◌, List, [], ◌∷◌, ◌++◌, length, map, refl, reverse}
+use Rattle.std.specs.List.{slice_index_or}
+use Rattle.std.proofs.Common.{arith, ap, ◌∙◌, append_assoc, get_or, suc}
 use Rattle.std.proofs.lemmas.List.{get_or-reverse, length-map, length-reverse, map-append}
 use Rattle.std.proofs.lemmas.Option.{slice_get-get_or}
-use Rattle.std.proofs.lemmas.Grind.{common_steps}
 use Rattle.clf_syntax.specs.declared.tree.Mode.TheVariants.{Persistent}
 use Rattle.clf_syntax.specs.declared.tree.Ty.{Ty}
 use Rattle.clf_syntax.specs.PlainTypes.{plain_ty}
 use Rattle.clf_syntax.specs.TypeTree.{PlainType, PlainKind, function, top}
 use Rattle.use_contexts.specs.Context.{Context}
-use Rattle.clf_sig.specs.Entry.{PlainClass, family_of, constant_of}
+use Rattle.clf_sig.specs.Entry.{family_of, constant_of}
 use Rattle.celf_elaboration.specs.Declarations.{with_binders}
 use Rattle.celf_elaboration.specs.Items.{in_family_class, in_constant_class}
 use Rattle.celf_front.specs.InFront.{in_front, front_head}

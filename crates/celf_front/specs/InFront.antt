@@ -4,7 +4,6 @@ use Rattle.std.specs.List.{position}
 use Rattle.clf_syntax.specs.declared.tree.Head.{Head}
 use Rattle.clf_syntax.specs.declared.tree.Head.TheVariants.{Const, Var, Meta}
 use Rattle.hered_subst.specs.Substitution.{Environment, keep}
-use Rattle.celf_front.specs.declared.heads.Front.{Front}
 
 -- The binders in front are listed newest first, by the numbers that their constants have past the first n.
 -- the variable of the binder that constant c stands for
@@ -24,6 +23,3 @@ front_head n front d (Meta m) = Meta m
 -- The environment that puts variables for the constants of binders.
 abbrev pub in_front : ℕ → List ℕ → Environment
 in_front n front h = keep (front_head n front 0 h)
-
-abbrev pub heads_by : Front → ℕ → Head → Head
-heads_by f = front_head f.first f.binders.now

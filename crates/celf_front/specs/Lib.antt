@@ -1,8 +1,10 @@
 pub mod Needs
 pub mod Listed
 pub mod Placing
+pub mod PlacingSteps
 pub mod Replaced
 pub mod InFront
+pub mod FrontHeads
 pub mod BinderTypes
 pub mod UnderFront
 pub mod Occurring
@@ -11,4 +13,3 @@ pub mod Mentions
 pub mod Marking
 pub mod Metavariables
 pub mod Fronted
-pub mod Replacements

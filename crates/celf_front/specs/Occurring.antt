@@ -1,8 +1,7 @@
 -- The heads of a tree in the order in which they stand, each as often as it stands there.
-use Rattle.std.specs.Prelude.{ℕ, List, [], ◌∷◌, ◌++◌, Contains}
+use Rattle.std.specs.Prelude.{List, [], ◌∷◌, ◌++◌}
 use Rattle.std.specs.List.{flat_map}
 use Rattle.clf_syntax.specs.declared.tree.Head.{Head}
-use Rattle.clf_syntax.specs.declared.tree.Head.TheVariants.{Const}
 use Rattle.clf_syntax.specs.Tree.{PlainObject, lam, pair, unit, monadic, atomic, hole, PlainNeutral, head_alone, app, fst, snd, PlainExpression, step, done, PlainTuple, empty, entry}
 use Rattle.clf_syntax.specs.TypeTree.{PlainType, family, function, both, top, monad, PlainTelescope, end, binding, PlainKind}
 use Rattle.clf_sig.specs.Entry.{PlainClass, family_of, constant_of}
@@ -48,7 +47,3 @@ heads_in_kind k = flat_map heads_in_type k
 abbrev pub heads_in_class : PlainClass → List Head
 heads_in_class (family_of k) = heads_in_kind k
 heads_in_class (constant_of a) = heads_in_type a
-
--- The type mentions constant c.
-abbrev pub MentionsConstant : ℕ → PlainType → Type 0
-MentionsConstant c a = Contains (heads_in_type a) (Const c)

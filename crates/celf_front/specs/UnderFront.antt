@@ -1,5 +1,5 @@
 -- A kind or a type with binders in front.
-use Rattle.std.specs.Prelude.{ℕ, ◌≡◌, List, [], ◌∷◌, ◌++◌, Some, reverse}
+use Rattle.std.specs.Prelude.{ℕ, ◌≡◌, List, [], ◌∷◌, Some, reverse}
 use Rattle.std.specs.List.{slice_get}
 use Rattle.clf_syntax.specs.declared.tree.Mode.TheVariants.{Persistent}
 use Rattle.clf_syntax.specs.TypeTree.{PlainType, PlainKind}

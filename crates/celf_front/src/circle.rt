@@ -3,7 +3,7 @@ ghost use Rattle.std.specs.Prelude.{◌≡◌, ◌<◌, ℕ, IfOk, length, slice
 ghost use Rattle.std.specs.List.{Contains};
 ghost use Rattle.celf_elaboration.specs.Binders.{IsUnplaced, IsCircle};
 ghost use Rattle.celf_front.specs.Needs.{count_of, mentions};
-ghost use Rattle.celf_front.specs.Placing.{ComesTo, NoneIsReady, RunsFrom};
+ghost use Rattle.celf_front.specs.PlacingSteps.{ComesTo, NoneIsReady, RunsFrom};
 ghost use Rattle.celf_front.specs.Listed.{IsListed};
 
 use crate::listed::Listed;

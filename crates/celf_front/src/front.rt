@@ -3,7 +3,7 @@ ghost use Rattle.std.specs.Prelude.{◌≡◌, ◌<◌, ◌++◌, ℕ, map, leng
 ghost use Rattle.clf_syntax.specs.Wide.{IsWant};
 ghost use Rattle.clf_syntax.specs.PlainTypes.{plain_ty, plain_kind};
 ghost use Rattle.clf_sig.specs.Signature.{plain_class};
-ghost use Rattle.celf_front.specs.InFront.{heads_by};
+ghost use Rattle.celf_front.specs.FrontHeads.{heads_by};
 ghost use Rattle.celf_front.specs.Replaced.{replaced_type, replaced_kind};
 ghost use Rattle.celf_front.specs.BinderTypes.{binder_type as type_of_binder, binder_types as types_of_binders, functions_to};
 ghost use Rattle.celf_front.specs.UnderFront.{IsUnderFront};
@@ -66,12 +66,7 @@ fn newest_first(alloc: Global, order: &[u32]) -> Result<Vec<u32>, AllocError>
 }
 
 /// The binders' types as functions to the type.
-fn type_under(
-    alloc: Global,
-    front: &Front<'_>,
-    types: &[Ty],
-    ty: &Ty,
-) -> Result<Ty, Shortage>
+fn type_under(alloc: Global, front: &Front<'_>, types: &[Ty], ty: &Ty) -> Result<Ty, Shortage>
     requires { (k : ℕ) → k < length front.now.binders.now
         → slice_index front.now.binders.now k < length types.now }
     ensures { IfOk result (λ t. plain_ty t
@@ -99,12 +94,7 @@ fn function(alloc: Global, dom: Ty, cod: Ty) -> Result<Ty, AllocError>
 }
 
 /// The binders' types as arguments before those of the kind.
-fn kind_under(
-    alloc: Global,
-    front: &Front<'_>,
-    types: &[Ty],
-    kind: &Kind,
-) -> Result<Kind, Shortage>
+fn kind_under(alloc: Global, front: &Front<'_>, types: &[Ty], kind: &Kind) -> Result<Kind, Shortage>
     requires { (k : ℕ) → k < length front.now.binders.now
         → slice_index front.now.binders.now k < length types.now }
     ensures { IfOk result (λ k. plain_kind k
@@ -117,11 +107,7 @@ fn kind_under(
 }
 
 /// The types of the binders, the oldest first.
-fn binder_types(
-    alloc: Global,
-    front: &Front<'_>,
-    types: &[Ty],
-) -> Result<Items<Ty>, Shortage>
+fn binder_types(alloc: Global, front: &Front<'_>, types: &[Ty]) -> Result<Items<Ty>, Shortage>
     requires { (k : ℕ) → k < length front.now.binders.now
         → slice_index front.now.binders.now k < length types.now }
     ensures { IfOk result (λ ts. map plain_ty ts

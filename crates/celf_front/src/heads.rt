@@ -2,7 +2,8 @@
 ghost use Rattle.std.specs.Prelude.{◌≡◌, ◌+◌, ◌==◌, ◌-◌, IfOk};
 ghost use Rattle.std.specs.List.{position};
 ghost use Rattle.clf_syntax.specs.declared.tree.Head.TheVariants.{Const, Var};
-ghost use Rattle.celf_front.specs.InFront.{heads_by, binder_at};
+ghost use Rattle.celf_front.specs.FrontHeads.{heads_by};
+ghost use Rattle.celf_front.specs.InFront.{binder_at};
 
 use clf_syntax::{Head, Shortage};
 

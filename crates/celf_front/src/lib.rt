@@ -1,4 +1,4 @@
-//! The binders in front of a declaration: their order.
+//! The binders in front of a declaration: their list, their order, and the kind or type with them in front.
 #![tactic(auto)]
 
 mod circle;

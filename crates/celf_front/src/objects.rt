@@ -1,7 +1,7 @@
 //! Binders' heads in objects become their variables.
 ghost use Rattle.std.specs.Prelude.{◌≡◌, IfOk, map};
 ghost use Rattle.clf_syntax.specs.Plain.{plain_obj, plain_neutral, plain_elim, plain_expr, plain_step, plain_entry};
-ghost use Rattle.celf_front.specs.InFront.{heads_by};
+ghost use Rattle.celf_front.specs.FrontHeads.{heads_by};
 ghost use Rattle.celf_front.specs.Replaced as spec;
 
 use crate::heads::{Front, deeper, front_head};
@@ -11,7 +11,12 @@ use std::alloc::Global;
 
 #[cycle(front)]
 #[tactic(auto, using(clf_syntax::specs::Plain::plain_laws, crate::proofs::Replacing::replacing_laws))]
-pub fn front_object(alloc: Global, obj: &Obj, front: &Front<'_>, depth: u64) -> Result<Obj, Shortage>
+pub fn front_object(
+    alloc: Global,
+    obj: &Obj,
+    front: &Front<'_>,
+    depth: u64,
+) -> Result<Obj, Shortage>
     ensures { IfOk result (λ x. plain_obj x
         ≡ spec.replaced (heads_by front.now) depth (plain_obj obj.now)) }
 {

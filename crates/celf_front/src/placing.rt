@@ -4,7 +4,8 @@ ghost use Rattle.std.specs.List.{Contains};
 ghost use Rattle.clf_syntax.specs.Wide.{IsWant};
 ghost use Rattle.celf_elaboration.specs.Binders.{IsUnplaced, IsNext, LeadsTo};
 ghost use Rattle.celf_front.specs.Needs.{count_of, mentions};
-ghost use Rattle.celf_front.specs.Placing.{IsPlacing, ComesTo, NoneIsReady};
+ghost use Rattle.celf_front.specs.Placing.{IsPlacing};
+ghost use Rattle.celf_front.specs.PlacingSteps.{ComesTo, NoneIsReady};
 ghost use Rattle.celf_front.specs.Listed.{IsListed};
 
 use crate::circle::circle_from;

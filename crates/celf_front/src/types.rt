@@ -3,7 +3,7 @@ ghost use Rattle.std.specs.Prelude.{◌≡◌, IfOk, map};
 ghost use Rattle.clf_syntax.specs.Plain.{plain_obj};
 ghost use Rattle.clf_syntax.specs.PlainTypes.{plain_ty, plain_tele, plain_tele_entry};
 ghost use Rattle.clf_syntax.specs.TypeTree.{family as family_type, telescope_of};
-ghost use Rattle.celf_front.specs.InFront.{heads_by};
+ghost use Rattle.celf_front.specs.FrontHeads.{heads_by};
 ghost use Rattle.celf_front.specs.Replaced as spec;
 
 use crate::heads::{Front, deeper};

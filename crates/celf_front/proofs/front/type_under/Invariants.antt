@@ -1,6 +1,6 @@
 use Rattle.std.proofs.Common.{◌≡◌, map, length}
 use Rattle.clf_syntax.specs.PlainTypes.{plain_ty}
-use Rattle.celf_front.specs.InFront.{heads_by}
+use Rattle.celf_front.specs.FrontHeads.{heads_by}
 use Rattle.celf_front.specs.Replaced.{replaced_type}
 use Rattle.celf_front.specs.BinderTypes.{binder_types, functions_to}
 use Rattle.celf_front.proofs.front.type_under.Given as goal

@@ -1,6 +1,5 @@
-use Rattle.std.proofs.Common.{map, length, ◌∙◌, ap, sym}
+use Rattle.std.proofs.Common.{map, length, ◌∙◌, ap}
 use Rattle.clf_syntax.specs.PlainTypes.{plain_ty}
-use Rattle.clf_sig.specs.Signature.{plain_class}
 use Rattle.celf_front.specs.Fronted.{at_places}
 use Rattle.celf_front.proofs.Orders.{order_places, circle_places, places_typed}
 use Rattle.celf_front.proofs.fronted.front_of.Goals as goal

@@ -1,4 +1,4 @@
-use Rattle.std.proofs.Common.{arith, ap, ◌++◌, ◌∙◌}
+use Rattle.std.proofs.Common.{ap, ◌++◌, ◌∙◌}
 use Rattle.clf_syntax.specs.PlainTypes.{plain_ty}
 use Rattle.celf_front.specs.Occurring.{heads_in_type}
 use Rattle.celf_front.proofs.Marks.{row_made}

@@ -1,8 +1,8 @@
-use Rattle.std.proofs.Common.{arith, ◌≡◌, ◌<◌, ◌+◌, List, map, length, drop, sym, ◌∙◌, ap}
+use Rattle.std.proofs.Common.{arith, ◌≡◌, ◌<◌, ◌+◌, map, length, drop, sym, ◌∙◌, ap}
 use Rattle.clf_syntax.specs.declared.tree.Expr.{out-Expr}
 use Rattle.clf_syntax.specs.Tree.{PlainExpression, steps_on, done, tuple_of}
 use Rattle.clf_syntax.specs.Plain.{plain_expr, plain_step, plain_entry, plain-Expr, plain-step-modes}
-use Rattle.celf_front.specs.InFront.{heads_by}
+use Rattle.celf_front.specs.FrontHeads.{heads_by}
 use Rattle.celf_front.specs.Replaced as spec
 use Rattle.celf_front.proofs.Replacing.{steps-next, step-pushed, steps-ended}
 use Rattle.celf_front.proofs.objects.+front.Goals as goal

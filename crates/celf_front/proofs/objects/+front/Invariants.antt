@@ -3,7 +3,7 @@ use Rattle.std.proofs.Common.{◌≡◌, ◌++◌, drop, map}
 use Rattle.clf_syntax.specs.declared.tree.Expr.{out-Expr}
 use Rattle.clf_syntax.specs.Plain.{plain_elim, plain_step, plain_entry, plain_expr}
 use Rattle.clf_syntax.specs.Tree.{steps_on, done, tuple_of}
-use Rattle.celf_front.specs.InFront.{heads_by}
+use Rattle.celf_front.specs.FrontHeads.{heads_by}
 use Rattle.celf_front.specs.Replaced as spec
 use Rattle.celf_front.proofs.objects.+front.Given as goal
 

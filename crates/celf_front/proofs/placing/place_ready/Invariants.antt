@@ -1,6 +1,6 @@
 use Rattle.celf_front.specs.Needs.{mentions}
 use Rattle.celf_front.specs.Listed.{IsListed, left}
-use Rattle.celf_front.specs.Placing.{ComesTo}
+use Rattle.celf_front.specs.PlacingSteps.{ComesTo}
 use Rattle.celf_front.proofs.placing.place_ready.Given as goal
 
 abbrev pub invariant-loop-binder : goal.invariant-loop-binder

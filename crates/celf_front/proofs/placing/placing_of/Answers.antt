@@ -1,7 +1,7 @@
-use Rattle.std.proofs.Common.{ℕ, ◌<◌, subst, sym, ◌∙◌}
+use Rattle.std.proofs.Common.{ℕ, ◌<◌, subst}
 use Rattle.std.specs.List.{Contains}
 use Rattle.celf_elaboration.specs.Binders.{IsOrder}
-use Rattle.celf_front.specs.Needs.{count_of, mentions}
+use Rattle.celf_front.specs.Needs.{mentions}
 use Rattle.celf_front.proofs.Placed.{comes_all}
 use Rattle.celf_front.proofs.placing.placing_of.Goals as goal
 

@@ -3,7 +3,7 @@ use Rattle.clf_syntax.specs.PlainTypes.{plain_tele_entry}
 use Rattle.clf_syntax.specs.TypeTree.{PlainTelescope, telescope_of}
 use Rattle.clf_syntax.specs.Renumbered.{entries_on}
 use Rattle.clf_syntax.proofs.Renumbered.{entries_on-end}
-use Rattle.celf_front.specs.InFront.{heads_by}
+use Rattle.celf_front.specs.FrontHeads.{heads_by}
 use Rattle.celf_front.specs.Replaced as spec
 use Rattle.celf_front.proofs.Replacing.{entries-next, entry-pushed, entries-ended}
 use Rattle.celf_front.proofs.types.+front_type.Goals as goal

@@ -2,7 +2,7 @@ use Rattle.std.proofs.Common.{◌≡◌, drop, map}
 use Rattle.clf_syntax.specs.PlainTypes.{plain_tele_entry}
 use Rattle.clf_syntax.specs.TypeTree.{telescope_of}
 use Rattle.clf_syntax.specs.Renumbered.{entries_on}
-use Rattle.celf_front.specs.InFront.{heads_by}
+use Rattle.celf_front.specs.FrontHeads.{heads_by}
 use Rattle.celf_front.specs.Replaced as spec
 use Rattle.celf_front.proofs.types.+front_type.Given as goal
 

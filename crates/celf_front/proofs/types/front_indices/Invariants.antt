@@ -1,6 +1,6 @@
 use Rattle.std.proofs.Common.{◌≡◌, ◌++◌, drop, map}
 use Rattle.clf_syntax.specs.Plain.{plain_obj}
-use Rattle.celf_front.specs.InFront.{heads_by}
+use Rattle.celf_front.specs.FrontHeads.{heads_by}
 use Rattle.celf_front.specs.Replaced as spec
 use Rattle.celf_front.proofs.types.front_indices.Given as goal
 
