@@ -5,7 +5,8 @@ ghost use Rattle.clf_syntax.specs.PlainTypes.{plain_ty, plain_kind};
 ghost use Rattle.clf_sig.specs.Signature.{plain_class};
 ghost use Rattle.celf_front.specs.FrontHeads.{heads_by};
 ghost use Rattle.celf_front.specs.Replaced.{replaced_type, replaced_kind};
-ghost use Rattle.celf_front.specs.BinderTypes.{binder_type as type_of_binder, binder_types as types_of_binders, functions_to};
+ghost use Rattle.celf_front.specs.BinderTypes.{binder_type as type_of_binder, binder_types as types_of_binders};
+ghost use Rattle.celf_front.specs.BinderTypes.{functions_to};
 ghost use Rattle.celf_front.specs.UnderFront.{IsUnderFront};
 
 use crate::heads::Front;
@@ -15,8 +16,8 @@ use clf_syntax::{Kind, Mode, Shortage, Ty, Want};
 use sqlite_items::{Boxed, Items};
 use std::alloc::{AllocError, Global};
 
-/// The class with binders in front. The first numbers of constants are those of the signature; past these binder `x` has
-/// the constant `first + x` and the type `types[x]`. The order says which binder comes first.
+/// The class with binders in front. The first numbers of constants are those of the signature; past these binder `x`
+/// has the constant `first + x` and the type `types[x]`. The order says which binder comes first.
 pub fn under_front(
     alloc: Global,
     first: u32,

@@ -22,9 +22,9 @@ pub enum Fronted {
     Circle(Items<u32>),
 }
 
-/// The class with its binders in front, in the order that their types allow. The first numbers of constants are those of
-/// the signature; past these binder `x` has the constant `first + x` and the type `types[x]`. The list of binders says
-/// which one goes first where both may.
+/// The class with its binders in front, in the order that their types allow. The first numbers of constants are those
+/// of the signature; past these binder `x` has the constant `first + x` and the type `types[x]`. The list of binders
+/// says which one goes first where both may.
 pub fn front_of(
     alloc: Global,
     first: u32,

@@ -4,7 +4,8 @@ ghost use Rattle.std.specs.List.{flat_map};
 ghost use Rattle.clf_syntax.specs.Plain.{plain_obj};
 ghost use Rattle.clf_syntax.specs.PlainTypes.{plain_ty, plain_tele, plain_tele_entry};
 ghost use Rattle.clf_sig.specs.Signature.{plain_class};
-ghost use Rattle.celf_front.specs.Occurring.{heads_in, heads_in_type, heads_in_telescope, heads_in_kind, heads_in_class};
+ghost use Rattle.celf_front.specs.Occurring.{heads_in, heads_in_type, heads_in_telescope};
+ghost use Rattle.celf_front.specs.Occurring.{heads_in_kind, heads_in_class};
 ghost use Rattle.celf_front.specs.OccurringParts.{heads_in_tele_entry};
 
 use crate::occurring::note_object;

@@ -14,7 +14,7 @@ use Rattle.clf_syntax.proofs.TypeRenaming.{conses, functions, boths, bindings}
 use Rattle.clf_syntax.proofs.Renumbered.{renamed-type}
 use Rattle.celf_front.specs.Replaced.{replaced, replaced_neutral, replaced_expression, replaced_tuple, replaced_type, replaced_telescope}
 use Rattle.celf_front.specs.Occurring.{heads_in, heads_in_neutral, heads_in_expression, heads_in_tuple, heads_in_type, heads_in_telescope}
-use Rattle.celf_front.specs.Replacements.{Renames}
+use Rattle.front_laws.specs.Replacements.{Renames}
 
 left : (f g : ℕ → Head → Head) (r : Renumbering) (hs is : List Head) → Renames f g r (hs ++ is) → Renames f g r hs
 left f g r hs is n h has = n h (Contains-append_left hs is h has)

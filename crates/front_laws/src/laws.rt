@@ -1,0 +1,9 @@
+//! Laws of binders in front, stated by functions that do nothing.
+ghost use Rattle.front_laws.specs.Laws.{BindersHaveVariables};
+
+/// Where a binder's type mentions neither itself nor a newer binder, its variable has the type that comes of it with
+/// variables put for all binders.
+#[tactic(auto, using(crate::proofs::Variables::front_laws))]
+pub fn front_variables()
+    ensures { BindersHaveVariables }
+{}
