@@ -1,3 +1,4 @@
 pub mod Renamed
 pub mod Raised
 pub mod Variables
+pub mod Orders
