@@ -22,7 +22,7 @@ abbrev pub past : ℕ → Option ℕ → Option ℕ
 past k None = None
 past k (Some j) = Some (k + j)
 
-none_found : (m n : ℕ) → m ≤ n → cond (nat_lt m n) (Some m) None ≡ None → m ≡ n
+pub none_found : (m n : ℕ) → m ≤ n → cond (nat_lt m n) (Some m) None ≡ None → m ≡ n
 none_found m n most none = grind (arith, common_steps)
 
 found_past : (k m n : ℕ) → cond (nat_lt (k + m) (k + n)) (Some (k + m)) None ≡ past k (cond (nat_lt m n) (Some m) None)
@@ -34,7 +34,7 @@ position_past p xs ys none =
     let whole : position_or_len p (xs ++ ys) ≡ length xs + position_or_len p ys = passed_all (λ x. not (p x)) xs ys all in
     rw (whole, length-append xs ys) (found_past (length xs) (position_or_len p ys) (length ys))
 
-binder_past : (n c : ℕ) (newer older : List ℕ) → binder_at n newer c ≡ None → binder_at n (newer ++ older) c ≡ past (length newer) (binder_at n older c)
+pub binder_past : (n c : ℕ) (newer older : List ℕ) → binder_at n newer c ≡ None → binder_at n (newer ++ older) c ≡ past (length newer) (binder_at n older c)
 binder_past n c newer older none = either (nat_lt c n) none
   where
     either : (b : Bool) → (if b then None else position (λ x. x == c - n) newer) ≡ None → (if b then None else position (λ x. x == c - n) (newer ++ older)) ≡ past (length newer) (if b then None else position (λ x. x == c - n) older)
