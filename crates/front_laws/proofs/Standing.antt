@@ -66,15 +66,15 @@ none_passes p xs none k lt =
 pub finds : (n : ℕ) (binders : List ℕ) (c p : ℕ) → AreDistinct binders → n ≤ c → p < length binders → get_or binders p 0 ≡ c - n → binder_in n binders (Const c) ≡ Some p
 finds n binders c p apart most lt e = from (binder_in n binders (Const c)) refl
   where
-    not_none : binder_in n binders (Const c) ≡ None → ⊥
-    not_none none = let off = none_passes (λ b. b == c - n) binders (searched (nat_lt c n) refl none) p lt in let on : (get_or binders p 0 == c - n) ≡ true = eq-eqb (get_or binders p 0) (c - n) e in cc
+    above : c < n → ⊥
+    above l = omega arith
 
     searched : (b : Bool) → nat_lt c n ≡ b → (if b then None else position (λ x. x == c - n) binders) ≡ None → position (λ x. x == c - n) binders ≡ None
     searched true is f = absurd (above (ltb-true c n is))
     searched false is f = f
 
-    above : c < n → ⊥
-    above l = omega arith
+    not_none : binder_in n binders (Const c) ≡ None → ⊥
+    not_none none = let off = none_passes (λ b. b == c - n) binders (searched (nat_lt c n) refl none) p lt in let on : (get_or binders p 0 == c - n) ≡ true = eq-eqb (get_or binders p 0) (c - n) e in cc
 
     from : (r : Option ℕ) → binder_in n binders (Const c) ≡ r → binder_in n binders (Const c) ≡ Some p
     from None is = absurd (not_none is)

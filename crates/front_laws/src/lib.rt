@@ -3,4 +3,4 @@
 
 mod laws;
 
-pub use laws::front_variables;
+pub use laws::{front_in_order, front_variables};
