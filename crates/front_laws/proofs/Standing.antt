@@ -23,7 +23,7 @@ AreDistinct xs = AllPairs (λ x y. x ≢ y) xs
 
 pub same_place : (xs : List ℕ) (p q : ℕ) → AreDistinct xs → p < length xs → q < length xs → get_or xs p 0 ≡ get_or xs q 0 → p ≡ q
 same_place xs p q apart ltp ltq e = elim (cases_lt p q) [
-    inl less ↦ absurd (apart p q 0 less ltq e)
+  | inl less ↦ absurd (apart p q 0 less ltq e)
   | inr most ↦ elim (cases_lt q p) [ inl more ↦ absurd (apart q p 0 more ltp (sym e)) | inr least ↦ omega arith ]
 ]
 
@@ -46,8 +46,8 @@ found_in n binders (Const c) j e = from (nat_lt c n) refl e
     from : (b : Bool) → nat_lt c n ≡ b → (if b then None else position (λ x. x == c - n) binders) ≡ Some j → (d : ℕ) × (Const c ≡ Const d) × (n ≤ d) × (j < length binders) × (get_or binders j 0 ≡ d - n)
     from true is f = absurd cc
     from false is f =
-      let (lt, on, first) = position-Some (λ x. x == c - n) binders j 0 f in
-      (c, refl, not_below c n is, lt, eqb-true (get_or binders j 0) (c - n) on)
+        let (lt, on, first) = position-Some (λ x. x == c - n) binders j 0 f in
+        (c, refl, not_below c n is, lt, eqb-true (get_or binders j 0) (c - n) on)
 found_in n binders (Var i) j e = absurd cc
 found_in n binders (Meta m) j e = absurd cc
 

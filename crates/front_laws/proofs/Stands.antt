@@ -38,9 +38,9 @@ only_one x y (suc k) lt e = absurd (omega arith)
 decide : (xs : List ℕ) (x : ℕ) → Contains xs x ⊎ (Contains xs x → ⊥)
 decide [] x = inr (λ has. absurd (let lt : has.0 < length {A = ℕ} [] = has.1 in omega arith))
 decide (y ∷ xs) x = elim (cases_eq y x) [
-    inl e ↦ inl (0, omega arith, e)
+  | inl e ↦ inl (0, omega arith, e)
   | inr other ↦ elim (decide xs x) [
-      inl has ↦ inl (suc has.0, omega (arith, has.1), has.2)
+    | inl has ↦ inl (suc has.0, omega (arith, has.1), has.2)
     | inr out ↦ inr (λ has. out (tail_has y xs x other has.0 has.1 has.2))
   ]
 ]
@@ -57,7 +57,7 @@ around binders before after q =
 -- one that is placed from here on, by its number
 from_here : (binders after : List ℕ) (q y : ℕ) → Contains (reverse (at_places binders after) ++ get_or binders q 0 ∷ []) y → (p : ℕ) × Contains (q ∷ after) p × (get_or binders p 0 ≡ y)
 from_here binders after q y has = elim (Contains-append_cases (reverse (at_places binders after)) (get_or binders q 0 ∷ []) y has) [
-    inl later ↦ let (p, there, e) = at_one binders after y (in_reverse (at_places binders after) y later) in (p, Contains-append_right (q ∷ []) after p there, e)
+  | inl later ↦ let (p, there, e) = at_one binders after y (in_reverse (at_places binders after) y later) in (p, Contains-append_right (q ∷ []) after p there, e)
   | inr own ↦ (q, (0, omega arith, refl), only_one (get_or binders q 0) y own.0 own.1 own.2)
 ]
 
@@ -92,7 +92,7 @@ stands_at n types binders t before after q front a needs apart lt order within i
     let (made, variable, carried) = binders_have_variables n types newer older x a front (subst (λ bs. IsFront n types bs front) whole is) at none in
     let rest = rest_at (length binders) (mentions t) [] (before ++ q ∷ []) after (subst (PlacesRest (length binders) (mentions t) []) (sym (append_assoc before (q ∷ []) after)) order) in
     let out : Contains newer x → ⊥ = λ has. (let (p, there, e) = at_one binders after x (in_reverse (at_places binders after) x has) in
-      later_new (length binders) (mentions t) (before ++ q ∷ []) after rest q (subst (Contains after) (same_place binders p q apart (within p (Contains-append_right (q ∷ []) after p there)) lt e) there) (Contains-push before q)) in
+    later_new (length binders) (mentions t) (before ++ q ∷ []) after rest q (subst (Contains after) (same_place binders p q apart (within p (Contains-append_right (q ∷ []) after p there)) lt e) there) (Contains-push before q)) in
     let found : binder_at n (newer ++ x ∷ older) (n + x) ≡ Some (length newer + 0)
     = binder_past n (n + x) newer (x ∷ older) (not_found n newer x out) ∙ ap (past (length newer)) (found_first n x older) in
     let number : length newer + 0 + 0 ≡ length newer = omega arith in
@@ -113,8 +113,6 @@ binders_stand n types binders class answer i x a apart has at =
     let within : (k : ℕ) → Contains i.order k → k < length binders
     = λ k (p, less, f). rw (← (get_or_default i.order p 0 k less ∙ f)) (rest_within (length binders) (mentions i.needs) [] i.order i.is_order p less) in
     let whole = stands_at n types binders i.needs before after q i.under.front a i.are_needs apart lt (subst (IsOrder (length binders) (mentions i.needs)) is i.is_order)
-      (λ k there. within k (subst (λ o. Contains o k) (sym is) (Contains-append_right before (q ∷ after) k there)))
-      (subst (λ o. IsFront n types (reverse (at_places binders o)) i.under.front) is i.under.binders) (rw here at) in
+    (λ k there. within k (subst (λ o. Contains o k) (sym is) (Contains-append_right before (q ∷ after) k there)))
+    (subst (λ o. IsFront n types (reverse (at_places binders o)) i.under.front) is i.under.binders) (rw here at) in
     subst (λ y. IsVariableOf n (reverse (at_places binders i.order)) i.under.front y a) here (subst (λ o. IsVariableOf n (reverse (at_places binders o)) i.under.front (get_or binders q 0) a) (sym is) whole)
-
-pub ruleset order_laws = (binders_stand)

@@ -43,5 +43,3 @@ binders_have_variables n types newer older x a front is at none =
     let moved : replaced_type (front_head n (newer ++ x ∷ older)) 0 a ≡ ren_type (up (length newer + 1)) b
     = ap (λ bs. replaced_type (front_head n bs) 0 a) (sym whole) ∙ raised ∙ ap (λ k. ren_type (up k) (replaced_type (front_head n older) 0 a)) count ∙ ap (ren_type (up (length newer + 1))) (sym own) in
     (replaced_type (front_head n (newer ++ x ∷ older)) 0 a, (Persistent, b, entry, moved), put_type n (newer ++ x ∷ older) a)
-
-pub ruleset front_laws = (binders_have_variables)
