@@ -1,10 +1,9 @@
 -- What the order of binders gives: a place with those before it, and those that its type mentions.
-use Rattle.std.specs.Prelude.{ℕ, ◌+◌, ◌-◌, ◌≡◌, ◌<◌, List, [], ◌∷◌, ◌++◌, suc, zero, length, map, reverse, true, Bool, Contains, Some, None, Option}
-use Rattle.std.specs.List.{slice_index_or}
-use Rattle.std.proofs.Common.{arith, ap, sym, ◌∙◌, subst, get_or, refl, append_assoc, ◌⊎◌, inl, inr}
+use Rattle.std.specs.Prelude.{ℕ, ◌≡◌, ◌<◌, List, [], ◌∷◌, ◌++◌, suc, zero, length, Bool, Contains}
+use Rattle.std.proofs.Common.{arith, ap, sym, subst, append_assoc}
 use Rattle.std.proofs.lemmas.List.{append-nil}
-use Rattle.std.proofs.lemmas.List.Elements.{Contains-append_left, Contains-append_right, Contains-push, Contains-push_cases}
-use Rattle.celf_elaboration.specs.Binders.{IsUnplaced, IsReady, IsNext, PlacesRest, all_placed, places_next, IsOrder}
+use Rattle.std.proofs.lemmas.List.Elements.{Contains-append_left}
+use Rattle.celf_elaboration.specs.Binders.{IsNext, PlacesRest, all_placed, places_next}
 
 -- Each binder is in the order.
 pub placed_all : (count : ℕ) (needs : ℕ → ℕ → Bool) (placed rest : List ℕ) → PlacesRest count needs placed rest → (q : ℕ) → q < count → (Contains (placed ++ rest) q → ⊥) → ⊥

@@ -1,7 +1,7 @@
 -- Heads under more binders in front: where a tree mentions none of the newer ones, its heads rise past them.
-use Rattle.std.specs.Prelude.{ℕ, ◌+◌, ◌-◌, ◌≡◌, ◌<◌, ◌≤◌, ◌==◌, nat_lt, if◌then◌else◌, cond, not, List, [], ◌∷◌, ◌++◌, suc, zero, length, refl, Option, Some, None, Bool, true, false, Contains}
+use Rattle.std.specs.Prelude.{ℕ, ◌+◌, ◌-◌, ◌≡◌, ◌≤◌, ◌==◌, nat_lt, if◌then◌else◌, cond, not, List, [], ◌∷◌, ◌++◌, length, refl, Option, Some, None, Bool, true, false}
 use Rattle.std.specs.List.{position, position_or_len, prefix_len}
-use Rattle.std.proofs.Common.{arith, ap, sym, ◌∙◌, length-append}
+use Rattle.std.proofs.Common.{arith, ap, ◌∙◌, length-append}
 use Rattle.std.proofs.lemmas.Grind.{common_steps}
 use Rattle.std.proofs.lemmas.List.Sums.{prefix_len-le-length}
 use Rattle.clf_syntax.specs.declared.tree.Head.{Head}

@@ -1,16 +1,15 @@
 -- A tree whose heads are replaced, renamed, is the tree with other replacements of its heads.
 use Rattle.std.specs.Prelude.{ℕ, ◌+◌, ◌≡◌, List, [], ◌∷◌, ◌++◌, map, length, refl, Contains}
 use Rattle.std.specs.List.{flat_map}
-use Rattle.std.proofs.Common.{ap, sym, ◌∙◌, arith}
+use Rattle.std.proofs.Common.{ap, ◌∙◌, arith}
 use Rattle.std.proofs.lemmas.List.Elements.{Contains-append_left, Contains-append_right}
-use Rattle.clf_syntax.specs.declared.tree.Mode.{Mode}
 use Rattle.clf_syntax.specs.declared.tree.Head.{Head}
 use Rattle.clf_syntax.specs.Tree.{PlainObject, lam, pair, unit, monadic, atomic, hole, PlainNeutral, head_alone, app, fst, snd, PlainExpression, step, done, PlainTuple, empty, entry}
 use Rattle.clf_syntax.specs.TypeTree.{PlainType, family, function, both, top, monad, PlainTelescope, end, binding}
 use Rattle.clf_syntax.specs.Renaming.{Renumbering, ren_type}
 use Rattle.clf_syntax.specs.Renumbered.{renumber, renumber_neutral, renumber_expression, renumber_tuple, renumber_type, renumber_telescope}
 use Rattle.clf_syntax.proofs.RenamingLaws.{pairs, apps, binds, entries}
-use Rattle.clf_syntax.proofs.TypeRenaming.{conses, functions, boths, bindings}
+use Rattle.clf_syntax.proofs.TypeRenaming.{functions, boths, bindings}
 use Rattle.clf_syntax.proofs.Renumbered.{renamed-type}
 use Rattle.celf_front.specs.Replaced.{replaced, replaced_neutral, replaced_expression, replaced_tuple, replaced_type, replaced_telescope}
 use Rattle.celf_front.specs.Occurring.{heads_in, heads_in_neutral, heads_in_expression, heads_in_tuple, heads_in_type, heads_in_telescope}

@@ -1,22 +1,21 @@
 -- In the order that their types allow, each binder's type mentions older ones alone.
-use Rattle.std.specs.Prelude.{ℕ, ◌+◌, ◌-◌, ◌≡◌, ◌≢◌, ◌<◌, ◌≤◌, ◌==◌, nat_lt, if◌then◌else◌, cond, List, [], ◌∷◌, ◌++◌, suc, zero, length, map, reverse, true, false, Bool, not, Contains, AllPairs, Some, None, Option}
-use Rattle.std.specs.List.{slice_get, slice_index_or, position, position_or_len}
-use Rattle.std.proofs.Common.{arith, ap, sym, ◌∙◌, subst, get_or, refl, append_assoc, eq-eqb, length-append, ◌⊎◌, inl, inr}
-use Rattle.std.proofs.lemmas.Bool.{cases_lt, cases_eq, eqb-true}
+use Rattle.std.specs.Prelude.{ℕ, ◌+◌, ◌-◌, ◌≡◌, ◌≢◌, ◌<◌, ◌≤◌, ◌==◌, nat_lt, if◌then◌else◌, List, ◌∷◌, length, reverse, true, false, Bool, not, Contains, AllPairs, Some, None, Option}
+use Rattle.std.specs.List.{position, position_or_len}
+use Rattle.std.proofs.Common.{arith, ap, sym, ◌∙◌, subst, get_or, refl, eq-eqb, inl, inr}
+use Rattle.std.proofs.lemmas.Bool.{cases_lt, eqb-true}
 use borrow.Author.Tests.{ltb-true}
 use Rattle.std.proofs.lemmas.List.Sums.{fails_before_first, prefix_len-le-length}
 use Rattle.std.proofs.lemmas.Grind.{common_steps}
-use Rattle.std.proofs.lemmas.List.{get_or_default, get_or-map, length-map, map-append, reverse-append, reverse-reverse}
-use Rattle.std.proofs.lemmas.List.Elements.{Contains-get_or, Contains-append_left, Contains-append_right, Contains-push, Contains-append_cases}
+use Rattle.std.proofs.lemmas.List.{get_or-map, length-map, reverse-reverse}
+use Rattle.std.proofs.lemmas.List.Elements.{Contains-get_or}
 use Rattle.std.proofs.lemmas.List.Sorted.{Contains-permutation, IsPermutation-reverse}
 use Rattle.std.proofs.lemmas.List.Quantifiers.{position-Some}
-use Rattle.std.proofs.lemmas.Option.{get_or_from_slice_get}
 use Rattle.clf_syntax.specs.declared.tree.Head.{Head}
 use Rattle.clf_syntax.specs.declared.tree.Head.TheVariants.{Const, Var, Meta}
 use Rattle.celf_front.specs.InFront.{binder_at}
 use Rattle.celf_front.specs.Mentions.{binder_in}
 use Rattle.celf_front.specs.Fronted.{at_places}
-use Rattle.front_laws.proofs.Raised.{binder_past, past, none_found}
+use Rattle.front_laws.proofs.Raised.{none_found}
 
 abbrev pub AreDistinct : List ℕ → Type 0
 AreDistinct xs = AllPairs (λ x y. x ≢ y) xs

@@ -1,21 +1,19 @@
 -- In the order that their types allow each binder has its variable.
-use Rattle.std.specs.Prelude.{ℕ, ◌+◌, ◌-◌, ◌≡◌, ◌≢◌, ◌<◌, ◌≤◌, List, [], ◌∷◌, ◌++◌, suc, zero, length, map, reverse, true, false, Bool, Contains, AllPairs, Some, None, Option}
-use Rattle.std.specs.List.{slice_get, slice_index_or}
+use Rattle.std.specs.Prelude.{ℕ, ◌+◌, ◌-◌, ◌≡◌, ◌<◌, ◌≤◌, List, [], ◌∷◌, ◌++◌, suc, zero, length, map, reverse, Contains, Some, None, Option}
+use Rattle.std.specs.List.{slice_get}
 use Rattle.std.proofs.Common.{arith, ap, sym, ◌∙◌, subst, get_or, refl, append_assoc, ◌⊎◌, inl, inr}
 use Rattle.std.proofs.lemmas.Bool.{cases_eq}
-use Rattle.std.proofs.lemmas.Grind.{common_steps}
 use Rattle.std.proofs.lemmas.List.{get_or_default, map-append, reverse-append}
-use Rattle.std.proofs.lemmas.List.Elements.{Contains-append_left, Contains-append_right, Contains-push, Contains-append_cases, Contains-get_or}
+use Rattle.std.proofs.lemmas.List.Elements.{Contains-append_right, Contains-push, Contains-append_cases, Contains-get_or}
 use Rattle.std.proofs.lemmas.Option.{get_or_from_slice_get}
-use Rattle.clf_syntax.specs.declared.tree.Head.{Head}
 use Rattle.clf_syntax.specs.declared.tree.Head.TheVariants.{Const, Var}
 use Rattle.clf_syntax.specs.TypeTree.{PlainType, top}
 use Rattle.use_contexts.specs.Context.{Context}
-use Rattle.celf_elaboration.specs.Binders.{IsOrder, PlacesRest, IsNext}
+use Rattle.celf_elaboration.specs.Binders.{IsOrder, PlacesRest}
 use Rattle.hered_subst.specs.Substitution.{keep}
 use Rattle.celf_front.specs.declared.needs.Needs.{Needs}
 use Rattle.celf_front.specs.Needs.{mentions}
-use Rattle.celf_front.specs.InFront.{in_front, binder_at, bound_head}
+use Rattle.celf_front.specs.InFront.{binder_at, bound_head}
 use Rattle.celf_front.specs.Mentions.{binder_in, AreNeeds, binder_type_at}
 use Rattle.celf_front.specs.Occurring.{heads_in_type}
 use Rattle.celf_front.specs.Fronted.{at_places}

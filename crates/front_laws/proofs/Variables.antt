@@ -1,21 +1,19 @@
 -- The variable of a binder in front, and its type.
-use Rattle.std.specs.Prelude.{ℕ, ◌+◌, ◌≡◌, List, [], ◌∷◌, ◌++◌, length, Some, None, Contains, Option}
+use Rattle.std.specs.Prelude.{ℕ, ◌+◌, ◌≡◌, List, [], ◌∷◌, ◌++◌, length, Some}
 use Rattle.std.specs.List.{slice_get}
 use Rattle.std.proofs.Common.{ap, sym, subst, ◌∙◌, append_assoc, length-append, refl}
-use Rattle.clf_syntax.specs.declared.tree.Mode.{Mode}
 use Rattle.clf_syntax.specs.declared.tree.Mode.TheVariants.{Persistent}
-use Rattle.clf_syntax.specs.declared.tree.Head.{Head}
 use Rattle.clf_syntax.specs.TypeTree.{PlainType}
 use Rattle.clf_syntax.specs.Renaming.{ren_type, up}
-use Rattle.use_contexts.specs.Context.{Context, HasVariable}
+use Rattle.use_contexts.specs.Context.{Context}
 use Rattle.hered_subst.specs.Substitution.{SubstitutedType}
 use Rattle.hered_subst.proofs.Types.{determined_type}
 use Rattle.celf_front.specs.InFront.{in_front, front_head}
 use Rattle.celf_front.specs.Replaced.{replaced_type}
-use Rattle.celf_front.specs.UnderFront.{IsFront, no_binder, one_binder}
+use Rattle.celf_front.specs.UnderFront.{IsFront, one_binder}
 use Rattle.celf_front.proofs.Replacing.{replaces_type}
 use Rattle.celf_front.proofs.Fronts.{front_lifts, front_keeps}
-use Rattle.front_laws.specs.Laws.{MentionsNone, BindersHaveVariables}
+use Rattle.front_laws.specs.Laws.{BindersHaveVariables}
 use Rattle.front_laws.proofs.Renamed.{renamed_type}
 use Rattle.front_laws.proofs.Raised.{raised_past}
 
