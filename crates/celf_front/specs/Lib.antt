@@ -1,0 +1,15 @@
+pub mod Needs
+pub mod Listed
+pub mod Placing
+pub mod PlacingSteps
+pub mod Replaced
+pub mod InFront
+pub mod FrontHeads
+pub mod BinderTypes
+pub mod UnderFront
+pub mod Occurring
+pub mod OccurringParts
+pub mod Mentions
+pub mod Marking
+pub mod Metavariables
+pub mod Fronted
