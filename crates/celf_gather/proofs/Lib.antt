@@ -1,0 +1,4 @@
+pub mod Stopping
+pub mod Raised
+pub mod Contexts
+pub mod Along
