@@ -1,4 +1,6 @@
 pub mod Stopping
 pub mod Raised
 pub mod Contexts
+pub mod Lists
+pub mod Heads
 pub mod Along

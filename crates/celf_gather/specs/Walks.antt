@@ -1,6 +1,9 @@
 -- Inner: what contracts see of the structs that gathering works with.
 use Rattle.std.specs.Prelude.{◌≡◌, List, ◌++◌, map}
 use Rattle.clf_syntax.specs.declared.tree.TeleEntry.{TeleEntry}
+use Rattle.clf_syntax.specs.declared.tree.Mode.{Mode}
+use Rattle.clf_syntax.specs.TypeTree.{PlainType, SimpleType}
+use Rattle.clf_syntax.specs.Simple.{erase}
 use Rattle.clf_syntax.specs.PlainTypes.{plain_ty}
 use Rattle.use_contexts.specs.Context.{Context}
 use Rattle.use_contexts.specs.Marks.{context}
@@ -19,6 +22,10 @@ scene_of k = record {
   variables = map plain_ty k.variables.now;
   types = record { constants = constants k.store.now; metavariables = meta_types (additions k.store.now) };
 }
+
+-- a variable with the erasure of its type
+abbrev pub erased_entry : Mode × PlainType → Mode × SimpleType
+erased_entry e = (e.0, erase e.1)
 
 abbrev pub context_of : Walk → Context
 context_of w = context w.ctx

@@ -1,5 +1,6 @@
 //! The equations of expressions: along the steps, then the tuple, and back over the ends of the steps' scopes.
 ghost use Rattle.std.specs.Prelude.{◌≡◌, map, OnOk};
+ghost use Rattle.clf_syntax.specs.Modes.{same_mode};
 ghost use Rattle.clf_syntax.specs.Plain.{plain_expr, plain_step};
 ghost use Rattle.clf_syntax.specs.PlainTypes.{plain_ty, plain_tele, plain_tele_entry};
 ghost use Rattle.clf_syntax.specs.TypeTree.{telescope_of};
@@ -84,9 +85,15 @@ fn has_modes(entries: &[TeleEntry], modes: &[Mode]) -> bool
         return false;
     }
     for place in 0..entries.len() {
-        if !is_same_mode(modes[place], entries[place].mode) {
+        if !has_mode(&entries[place], &modes[place]) {
             return false;
         }
     }
     true
+}
+
+fn has_mode(entry: &TeleEntry, mode: &Mode) -> bool
+    ensures { result ≡ same_mode mode.now entry.now.mode }
+{
+    is_same_mode(*mode, entry.mode)
 }

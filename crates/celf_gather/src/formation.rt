@@ -1,8 +1,8 @@
 //! The equations of types and kinds, over a context that grows under their binders.
-ghost use Rattle.std.specs.Prelude.{◌≡◌, map, OnOk, Some};
+ghost use Rattle.std.specs.Prelude.{◌≡◌, ◌∷◌, map, OnOk, Some};
 ghost use Rattle.clf_syntax.specs.Plain.{plain_obj};
 ghost use Rattle.clf_syntax.specs.PlainTypes.{plain_ty, plain_tele_entry};
-ghost use Rattle.clf_syntax.specs.TypeTree.{function, telescope_of};
+ghost use Rattle.clf_syntax.specs.TypeTree.{telescope_of};
 ghost use Rattle.clf_sig.specs.Entry.{family_kind as kind_of_family};
 ghost use Rattle.celf_gather.specs.Formed.{type_after, telescope_after, kind_after, bound_after, indices_after, index_after};
 ghost use Rattle.celf_gather.specs.Stops.{Gives};
@@ -42,7 +42,7 @@ impl Known<'_> {
 
     /// The equations of a type.
     #[cycle(form)]
-    #[tactic(auto, using(clf_syntax::specs::PlainTypes::plain_type_laws, crate::proofs::Stopping::stop_laws))]
+    #[tactic(auto, using(clf_syntax::specs::PlainTypes::plain_type_laws, crate::proofs::Stopping::stop_laws, crate::proofs::Contexts::back_laws))]
     pub fn form_type(&self, walk: &mut Walk, ty: &Ty) -> Result<(), Stop>
         ensures outcome { Gives (λ _. found_of walk.new) (type_after (scene_of self.now) (context_of walk.old)
             (plain_ty ty.now) (found_of walk.old)) result }
@@ -50,7 +50,13 @@ impl Known<'_> {
     {
         match ty {
             Ty::Fam { family, indices } => self.form_family(walk, *family, indices.as_slice()),
-            Ty::Fun { mode, dom, cod } => self.form_function(walk, *mode, dom.get(), cod.get()),
+            Ty::Fun { mode, dom, cod } => {
+                let older = walk.ctx.entries.len();
+                self.form_bound(walk, *mode, dom.get())?;
+                self.form_type(walk, cod.get())?;
+                walk.leave_to(older);
+                Ok(())
+            }
             Ty::With { left, right } => {
                 self.form_type(walk, left.get())?;
                 self.form_type(walk, right.get())
@@ -58,21 +64,6 @@ impl Known<'_> {
             Ty::Top => Ok(()),
             Ty::Monad { tele } => self.form_telescope(walk, tele.entries.as_slice()),
         }
-    }
-
-    /// The equations of a function's domain, and those of its range under its variable.
-    #[cycle(form)]
-    #[tactic(auto, using(crate::proofs::Stopping::stop_laws, crate::proofs::Contexts::back_laws))]
-    fn form_function(&self, walk: &mut Walk, mode: Mode, dom: &Ty, cod: &Ty) -> Result<(), Stop>
-        ensures outcome { Gives (λ _. found_of walk.new) (type_after (scene_of self.now) (context_of walk.old)
-            (function mode (plain_ty dom.now) (plain_ty cod.now)) (found_of walk.old)) result }
-        ensures back { OnOk result (IsBack walk.old walk.new) }
-    {
-        let older = walk.ctx.entries.len();
-        self.form_bound(walk, mode, dom)?;
-        self.form_type(walk, cod)?;
-        walk.leave_to(older);
-        Ok(())
     }
 
     /// The equations of a telescope's entries, each of which adds its variable.
@@ -133,8 +124,19 @@ impl Known<'_> {
         if args.is_empty() {
             return Err(Stop::Misfit);
         }
-        let first = &args.as_slice()[0];
+        let args = args.as_slice();
+        self.form_first(walk, index, &args[0], &args[1..])
+    }
+
+    /// The equations of an index at the first argument, and the later ones with it put for that.
+    #[tactic(auto, using(crate::proofs::Stopping::stop_laws))]
+    fn form_first(&self, walk: &mut Walk, index: &Obj, first: &Ty, later: &[Ty]) -> Result<Items<Ty>, Stop>
+        ensures outcome { Gives (λ l. (map plain_ty l, found_of walk.new)) (index_after (scene_of self.now)
+            (context_of walk.old) (plain_obj index.now) (plain_ty first.now ∷ map plain_ty later.now, found_of walk.old))
+            result }
+        ensures back { OnOk result (IsBack walk.old walk.new) }
+    {
         self.gather(walk, index, first)?;
-        put_in_arguments(self.alloc, index, first, &args.as_slice()[1..])
+        put_in_arguments(self.alloc, index, first, later)
     }
 }

@@ -3,7 +3,7 @@ ghost use Rattle.std.specs.Prelude.{◌≡◌, ◌∷◌, OnOk};
 ghost use Rattle.clf_syntax.specs.Plain.{plain_obj, plain_expr, plain_neutral};
 ghost use Rattle.clf_syntax.specs.PlainTypes.{plain_ty};
 ghost use Rattle.clf_syntax.specs.Tree.{atomic};
-ghost use Rattle.celf_gather.specs.Gathered.{gathered, inferred, expression_after, lambda_after, pair_after, unit_after, monadic_after, atomic_after, leaf_after, filled_after, is_filled};
+ghost use Rattle.celf_gather.specs.Gathered.{gathered, inferred, expression_after, lambda_after, unit_after, monadic_after, atomic_after, leaf_after, filled_after, is_filled};
 ghost use Rattle.celf_gather.specs.Stops.{Gives};
 ghost use Rattle.celf_gather.specs.Walks.{IsBack, scene_of, context_of, found_of};
 
@@ -15,7 +15,7 @@ use clf_syntax::{Expr, Head, Mode, Neutral, Obj, Ty, is_same_mode};
 impl Known<'_> {
     /// The equations of an object at a type.
     #[cycle(gather)]
-    #[tactic(auto, using(clf_syntax::specs::Plain::plain_laws, crate::proofs::Stopping::stop_laws))]
+    #[tactic(auto, using(clf_syntax::specs::Plain::plain_laws, clf_syntax::specs::PlainTypes::plain_type_laws, clf_simple::proofs::Lists::neutral_head, crate::proofs::Stopping::stop_laws))]
     pub fn gather(&self, walk: &mut Walk, obj: &Obj, ty: &Ty) -> Result<(), Stop>
         ensures outcome { Gives (λ _. found_of walk.new) (gathered (scene_of self.now) (context_of walk.old)
             (plain_obj obj.now) (plain_ty ty.now) (found_of walk.old)) result }
@@ -23,7 +23,16 @@ impl Known<'_> {
     {
         match obj {
             Obj::Lam { mode, body } => self.gather_lambda(walk, *mode, body.get(), ty),
-            Obj::Pair { left, right } => self.gather_pair(walk, left.get(), right.get(), ty),
+            Obj::Pair { left, right } => match ty {
+                Ty::With {
+                    left: first,
+                    right: second,
+                } => {
+                    self.gather(walk, left.get(), first.get())?;
+                    self.gather(walk, right.get(), second.get())
+                }
+                Ty::Fam { .. } | Ty::Fun { .. } | Ty::Top | Ty::Monad { .. } => Err(Stop::Misfit),
+            },
             Obj::Unit => gather_unit(walk, ty),
             Obj::Mon { expr } => self.gather_monadic(walk, expr.get(), ty),
             Obj::At { neutral } => match neutral.head {
@@ -85,33 +94,6 @@ impl Known<'_> {
         self.gather(walk, body, cod)?;
         walk.leave_to(older);
         Ok(())
-    }
-
-    /// The equations of both parts of a pair, the left ones first.
-    #[cycle(gather)]
-    #[tactic(auto, using(clf_syntax::specs::PlainTypes::plain_type_laws, crate::proofs::Stopping::stop_laws))]
-    fn gather_pair(
-        &self,
-        walk: &mut Walk,
-        left: &Obj,
-        right: &Obj,
-        ty: &Ty,
-    ) -> Result<(), Stop>
-        ensures outcome { Gives (λ _. found_of walk.new) (pair_after (plain_ty ty.now)
-            (λ a. gathered (scene_of self.now) (context_of walk.old) (plain_obj left.now) a (found_of walk.old))
-            (λ c q. gathered (scene_of self.now) (context_of walk.old) (plain_obj right.now) c q)) result }
-        ensures back { OnOk result (IsBack walk.old walk.new) }
-    {
-        match ty {
-            Ty::With {
-                left: first,
-                right: second,
-            } => {
-                self.gather(walk, left, first.get())?;
-                self.gather(walk, right, second.get())
-            }
-            Ty::Fam { .. } | Ty::Fun { .. } | Ty::Top | Ty::Monad { .. } => Err(Stop::Misfit),
-        }
     }
 
     /// A monadic object stands at a monad.

@@ -1,5 +1,5 @@
 //! The equations of tuples.
-ghost use Rattle.std.specs.Prelude.{◌≡◌, ◌<◌, map, OnOk, length};
+ghost use Rattle.std.specs.Prelude.{◌≡◌, ◌∷◌, map, OnOk};
 ghost use Rattle.clf_syntax.specs.Plain.{plain_entry};
 ghost use Rattle.clf_syntax.specs.PlainTypes.{plain_tele_entry};
 ghost use Rattle.clf_syntax.specs.Tree.{tuple_of};
@@ -58,11 +58,29 @@ impl Known<'_> {
         if types.is_empty() {
             return Err(Stop::Misfit);
         }
-        let first = &types.as_slice()[0];
+        let types = types.as_slice();
+        self.gather_first(walk, entry, &types[0], &types[1..])
+    }
+
+    /// The equations of an entry at the first type, and the later ones with its object put for its variable.
+    #[cycle(gather)]
+    #[tactic(auto, using(clf_syntax::specs::Plain::plain_laws, clf_syntax::specs::PlainTypes::plain_type_laws, crate::proofs::Stopping::stop_laws))]
+    fn gather_first(
+        &self,
+        walk: &mut Walk,
+        entry: &TupleEntry,
+        first: &TeleEntry,
+        later: &[TeleEntry],
+    ) -> Result<Items<TeleEntry>, Stop>
+        ensures outcome { Gives (λ es. (telescope_of (map plain_tele_entry es), found_of walk.new)) (tuple_entry_after
+            (scene_of self.now) (context_of walk.old) (plain_entry entry.now)
+            (telescope_of (plain_tele_entry first.now ∷ map plain_tele_entry later.now), found_of walk.old)) result }
+        ensures back { OnOk result (IsBack walk.old walk.new) }
+    {
         if !is_same_mode(entry.mode, first.mode) {
             return Err(Stop::Misfit);
         }
         self.gather(walk, &entry.obj, &first.ty)?;
-        put_in_entries(self.alloc, &entry.obj, &first.ty, &types.as_slice()[1..])
+        put_in_entries(self.alloc, &entry.obj, &first.ty, later)
     }
 }

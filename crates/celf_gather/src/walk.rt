@@ -21,7 +21,7 @@ pub struct Walk {
 
 impl Walk {
     /// Adds a variable.
-    #[tactic(auto, using(crate::proofs::Contexts::context_pushed))]
+    #[tactic(auto, using(crate::proofs::Stopping::stop_laws))]
     pub fn enter(&mut self, alloc: Global, mode: Mode, ty: &Ty) -> Result<(), Stop>
         ensures context { OnOk result (context_of self.new ≡ (mode, plain_ty ty.now) ∷ context_of self.old) }
         ensures grown { OnOk result (IsGrown self.old self.new) }
