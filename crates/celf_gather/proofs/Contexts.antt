@@ -1,6 +1,6 @@
 -- A context that grew, and is cut back.
 use Rattle.std.proofs.Common.{◌≡◌, ℕ, suc, List, [], ◌∷◌, ◌++◌, length, map, reverse, take, refl, sym, ap, subst, ◌∙◌}
-use Rattle.std.proofs.lemmas.List.{append_assoc, map-append, reverse-append}
+use Rattle.std.proofs.lemmas.List.{append_assoc, length-map, length-reverse, map-append, reverse-append}
 use Rattle.clf_syntax.specs.declared.tree.Mode.{Mode}
 use Rattle.clf_syntax.specs.declared.tree.TeleEntry.{TeleEntry}
 use Rattle.clf_syntax.specs.TypeTree.{PlainType, telescope_of}
@@ -41,5 +41,8 @@ grown_again outer inner last a b = (a.0 ++ b.0, b.1 ∙ ap (λ es. es ++ b.0) a.
 
 pub same_context : (outer last : Walk) → IsBack outer last → context_of last ≡ context_of outer
 same_context outer last b = ap (λ es. reverse (map plain_tele_entry es)) b
+
+pub length_entries : (w : Walk) → length (context_of w) ≡ length (entries_of w)
+length_entries w = length-reverse (map plain_tele_entry (entries_of w)) ∙ length-map (entries_of w) plain_tele_entry
 
 pub ruleset back_laws = (cut_back, grown_back, back_grown)

@@ -4,3 +4,4 @@ pub mod Contexts
 pub mod Lists
 pub mod Heads
 pub mod Along
+pub mod Runs

@@ -130,9 +130,13 @@ modes_fit (binding m a s) (o ∷ os) = same_mode o m && modes_fit s os
 modes_fit end (o ∷ os) = false
 modes_fit (binding m a s) [] = false
 
+abbrev pub entered_if : Bool → Reached → Answer Reached
+entered_if true x = made x
+entered_if false x = untyped
+
 -- The entries of the right side's monad become the newest variables.
 abbrev pub entered : List Mode → Context → Inferred → Answer Reached
-entered ms g ((monad s), p) = if modes_fit s ms then made (with_entries s g, p) else untyped
+entered ms g ((monad s), p) = entered_if (modes_fit s ms) (with_entries s g, p)
 entered ms g ((family f ns), p) = untyped
 entered ms g ((function m a b), p) = untyped
 entered ms g ((both a b), p) = untyped
