@@ -5,3 +5,4 @@ pub mod Lists
 pub mod Heads
 pub mod Along
 pub mod Runs
+pub mod Filled

@@ -1,5 +1,5 @@
 -- Lists that are gone through from the front.
-use Rattle.std.proofs.Common.{◌≡◌, ℕ, suc, ◌+◌, ◌<◌, ◌≤◌, Bool, true, false, ◌&&◌, List, [], ◌∷◌, ◌++◌, length, map, reverse, drop, get_or, refl, sym, ap, subst, ◌∙◌, add-one, arith}
+use Rattle.std.proofs.Common.{◌≡◌, ℕ, suc, ◌+◌, ◌<◌, ◌≤◌, Bool, true, false, ◌&&◌, List, [], ◌∷◌, ◌++◌, length, map, reverse, drop, get_or, IsTrue, refl, sym, ap, subst, ◌∙◌, add-one, arith}
 use Rattle.std.proofs.Math.Seq.{drop-cons}
 use Rattle.std.proofs.lemmas.List.{append_assoc, append-nil, map-append, reverse-append, drop_all}
 use Rattle.clf_syntax.specs.declared.tree.Mode.{Mode}
@@ -66,3 +66,6 @@ locals_made xs es e = mapped_reverse plain_simple_entry xs ∙ ap reverse (e ∙
 -- the same item of an equal list
 pub in_items : {X : Type 0} {xs ys : List X} → xs ≡ ys → (i : ℕ) {x : X} → x ≡ get_or xs i x → x ≡ get_or ys i x
 in_items e i {x} q = q ∙ ap (λ l. get_or l i x) e
+
+pub not_true : IsTrue false → ⊥
+not_true e = cc

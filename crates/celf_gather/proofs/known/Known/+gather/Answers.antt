@@ -13,6 +13,7 @@ use Rattle.celf_gather.specs.Stops.{Stops}
 use Rattle.celf_gather.specs.Walks.{scene_of, context_of, found_of, entries_of}
 use Rattle.celf_gather.proofs.Contexts.{same_context, length_entries}
 use Rattle.celf_gather.proofs.Along.{each_stops}
+use Rattle.celf_gather.proofs.Lists.{not_true}
 use Rattle.celf_gather.proofs.Runs.{gives_stop, expression_stops, expression_past, tuple_stops, tuple_ends, some_left}
 use Rattle.celf_gather.proofs.known.Known.+gather.Goals as goal
 
@@ -56,7 +57,7 @@ pub gather_tuple-returns-clause-outcome : goal.gather_tuple-returns-clause-outco
 gather_tuple-returns-clause-outcome t c =
     let v = c.loop-entry.invariant in
     v.1 ∙ tuple_ends (scene_of c.args.self.now) (context_of c.args.walk.now) c.args.entries.now c.loop-entry.entry-index c.loop-entry.rest (found_of c.loop-entry.walk) (omega (arith, c.loop-entry-test.false))
-    ∙ some_left c.loop-entry.rest (found_of c.loop-entry.walk) ?
+    ∙ some_left c.loop-entry.rest (found_of c.loop-entry.walk) (λ e. not_true (c.if-is_empty.ensures.1 e))
 
 pub infer_spine-returns-in_err-ty-clause-outcome : goal.infer_spine-returns-in_err-ty-clause-outcome
 infer_spine-returns-in_err-ty-clause-outcome t c =
