@@ -6,3 +6,6 @@ pub mod Heads
 pub mod Along
 pub mod Runs
 pub mod Filled
+pub mod Entries
+pub mod Shapes
+pub mod Assigned

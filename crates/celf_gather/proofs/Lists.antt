@@ -5,14 +5,20 @@ use Rattle.std.proofs.lemmas.List.{append_assoc, append-nil, map-append, reverse
 use Rattle.clf_syntax.specs.declared.tree.Mode.{Mode}
 use Rattle.clf_syntax.specs.declared.tree.TeleEntry.{TeleEntry}
 use Rattle.clf_syntax.specs.Modes.{same_mode}
-use Rattle.clf_syntax.specs.PlainTypes.{plain_tele_entry, plain-tele-entry}
+use Rattle.clf_syntax.specs.PlainTypes.{plain_ty, plain_tele_entry, plain-tele-entry}
 use Rattle.clf_syntax.specs.TypeTree.{PlainType, binding, telescope_of}
 use Rattle.clf_syntax.specs.declared.tree.SimpleEntry.{SimpleEntry}
 use Rattle.clf_syntax.specs.PlainSimple.{plain_simple_entry}
 use Rattle.gathering.specs.Setting.{simple_locals}
 use Rattle.celf_constraints.specs.Equated.{plain_locals}
 use Rattle.celf_gather.specs.Walks.{erased_entry}
-use Rattle.celf_gather.specs.Gathered.{modes_fit}
+use Rattle.clf_syntax.specs.declared.tree.Obj.{Obj}
+use Rattle.clf_syntax.specs.declared.tree.Ty.{Ty}
+use Rattle.clf_syntax.specs.Plain.{plain_obj}
+use Rattle.clf_syntax.specs.Simple.{erase}
+use Rattle.hered_put.specs.Function.{untyped}
+use Rattle.pattern_laws.specs.Equations.{Locals, Equation}
+use Rattle.celf_gather.specs.Gathered.{modes_fit, pairs_after}
 
 -- the rest of a list from a place on
 pub from_place : {X Y : Type 0} (f : X → Y) (xs : List X) (i : ℕ) (x : X) → i < length xs → x ≡ get_or xs i x → map f (drop i xs) ≡ f x ∷ map f (drop (i + 1) xs)
@@ -69,3 +75,13 @@ in_items e i {x} q = q ∙ ap (λ l. get_or l i x) e
 
 pub not_true : IsTrue false → ⊥
 not_true e = cc
+
+-- indices of other numbers
+pub pairs_differ : (l : Locals) (args : List Ty) (xs ys : List Obj) (p : List Equation) → (length xs ≡ length args → length ys ≡ length args → ⊥)
+    → pairs_after l (map erase (map plain_ty args)) (map plain_obj xs) (map plain_obj ys) p ≡ untyped
+pairs_differ l [] [] [] p n = absurd (n refl refl)
+pairs_differ l [] [] (y ∷ ys) p n = refl
+pairs_differ l [] (x ∷ xs) ys p n = refl
+pairs_differ l (a ∷ args) [] ys p n = refl
+pairs_differ l (a ∷ args) (x ∷ xs) [] p n = refl
+pairs_differ l (a ∷ args) (x ∷ xs) (y ∷ ys) p n = pairs_differ l args xs ys _ (λ e f. n (ap suc e) (ap suc f))

@@ -66,7 +66,7 @@ pub fn gather(
 
 impl Known<'_> {
     /// The equations of a core. A directive's type comes before its objects.
-    #[tactic(auto, using(crate::proofs::Stopping::stop_laws))]
+    #[tactic(auto, using(clf_syntax::specs::PlainTypes::plain_type_laws, crate::proofs::Stopping::stop_laws))]
     fn gather_core(&self, walk: &mut Walk, core: &Core) -> Result<(), Stop>
         requires empty { context_of walk.old ≡ [] }
         ensures outcome { Gives (λ _. found_of walk.new)

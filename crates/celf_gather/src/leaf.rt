@@ -38,8 +38,13 @@ impl Known<'_> {
             Ty::Fam {
                 family: number,
                 indices,
-            } if number == family => self.pair_indices(walk, family, indices.as_slice(), wanted),
-            _ => Err(Stop::Misfit),
+            } => {
+                if number != family {
+                    return Err(Stop::Misfit);
+                }
+                self.pair_indices(walk, family, indices.as_slice(), wanted)
+            }
+            Ty::Fun { .. } | Ty::With { .. } | Ty::Top | Ty::Monad { .. } => Err(Stop::Misfit),
         }
     }
 
@@ -77,7 +82,10 @@ impl Known<'_> {
             (found_of walk.old)) result }
         ensures back { OnOk result (IsBack walk.old walk.new) }
     {
-        if found.len() != args.len() || wanted.len() != args.len() {
+        if found.len() != args.len() {
+            return Err(Stop::Misfit);
+        }
+        if wanted.len() != args.len() {
             return Err(Stop::Misfit);
         }
         for place in 0..args.len() {
