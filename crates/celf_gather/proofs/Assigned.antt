@@ -1,9 +1,10 @@
 -- Simple typing where families are heads of the type <T>: no such head stands in what is typed.
-use Rattle.std.proofs.Common.{◌≡◌, ℕ, zero, suc, ◌+◌, ◌-◌, ◌<◌, Bool, true, false, List, [], ◌∷◌, ◌++◌, length, map, Option, Some, None, refl, sym, ap, subst, ◌∙◌, arith, nat_lt}
+use Rattle.std.proofs.Common.{◌≡◌, ℕ, zero, suc, ◌+◌, ◌-◌, ◌<◌, ◌≤◌, Bool, true, false, if◌then◌else◌, List, [], ◌∷◌, ◌++◌, length, map, Option, Some, None, refl, sym, ap, subst, ◌∙◌, arith, nat_lt, ⊎_elim}
 use Rattle.std.proofs.Math.Logic.{◌⊎◌, inl, inr}
 use Rattle.std.specs.List.{slice_get}
 use Rattle.std.specs.Option.{option_map, option_and_then}
 use Rattle.std.proofs.lemmas.Option.{slice_get-map}
+use Rattle.std.proofs.lemmas.List.{length-map}
 use Rattle.clf_syntax.specs.declared.tree.Mode.{Mode}
 use Rattle.clf_syntax.specs.declared.tree.Head.{Head}
 use Rattle.clf_syntax.specs.declared.tree.Head.TheVariants.{Const, Var, Meta}
@@ -12,6 +13,8 @@ use Rattle.clf_syntax.specs.TypeTree.{PlainType, SimpleType, base, arrow, simple
 use Rattle.clf_syntax.specs.Simple.{erase, Assignment, assigned, extended, extended_by, extended_over, no_holes, MayStand, SimplyTyped, SimplyTypedNeutral, SimplyTypedExpression, SimplyTypedTuple}
 use Rattle.use_contexts.specs.Context.{Context}
 use Rattle.clf_sig.specs.Entry.{PlainClass, family_of, constant_of, PlainSignature, type_in, constant_type, simple_class, simple_types}
+use Rattle.clf_simple.specs.Decision.{typed}
+use Rattle.clf_simple.proofs.Decided.{sound}
 use Rattle.pattern_laws.specs.Instantiations.{Types, closed}
 use Rattle.gathering.specs.Setting.{simple_locals}
 use Rattle.elaboration_laws.specs.ItemSetting.{given_type, item_constants}
@@ -78,7 +81,7 @@ get_first (x ∷ xs) ys zero l = refl
 get_first (x ∷ xs) ys (suc i) l = get_first xs ys i (omega arith)
 
 get_second : {X : Type 0} (xs ys : List X) (i n : ℕ) → i ≡ length xs + n → slice_get (xs ++ ys) i ≡ slice_get ys n
-get_second [] ys i n e = ap (slice_get ys) e
+get_second [] ys i n e = let k : i ≡ n = omega (arith, e) in ap (slice_get ys) k
 get_second (x ∷ xs) ys zero n e = absurd (omega (arith, e))
 get_second (x ∷ xs) ys (suc i) n e = get_second xs ys i n (omega (arith, e))
 
@@ -92,6 +95,33 @@ constant_nearly (d ∷ sig) zero t e = class_nearly d.1.class t e
 constant_nearly (d ∷ sig) (suc c) t e = constant_nearly sig c t e
 
 module _ (sig : PlainSignature) (xs : List PlainType) where
+  length_types : length (simple_types sig) ≡ length sig
+  length_types = length-map sig (λ e. simple_class e.1.class)
+
   given_nearly : (c : ℕ) (t : SimpleType) (b : Bool) → nat_lt c (length sig) ≡ b → slice_get (simple_types sig ++ map erase xs) c ≡ Some t → (item_constants sig xs c ≡ Some t) ⊎ (t ≡ simple_top)
-  given_nearly c t true l e = ?
-  given_nearly c t false l e = ?
+  given_nearly c t true l e =
+      let i : c < length sig = grind (arith, l) in
+      let n = length_types in
+      ⊎_elim (λ p. inl (ap (λ b. option_map erase (if b then constant_type sig c else slice_get xs (c - length sig))) l ∙ p)) (λ p. inr p)
+      (constant_nearly sig c t (sym (get_first (simple_types sig) (map erase xs) c (omega (arith, i, n))) ∙ e))
+  given_nearly c t false l e =
+      let i : length sig ≤ c = grind (arith, l) in
+      let n = length_types in
+      inl (ap (λ b. option_map erase (if b then constant_type sig c else slice_get xs (c - length sig))) l
+      ∙ sym (slice_get-map erase xs (c - length sig)) ∙ sym (get_second (simple_types sig) (map erase xs) c (c - length sig) (omega (arith, i, n))) ∙ e)
+
+  -- what the lists give is what the setting gives
+  heads_nearly : (ms : List SimpleType) (g : Context) → Nearly (assigned (simple_types sig ++ map erase xs) ms (map (λ e. e.1) (simple_locals g))) (extended_over g (closed (item_constants sig xs) (slice_get ms)))
+  heads_nearly ms [] (Const c) t e = given_nearly c t (nat_lt c (length sig)) refl e
+  heads_nearly ms [] (Var i) t e = absurd (cc)
+  heads_nearly ms [] (Meta m) t e = inl e
+  heads_nearly ms (x ∷ g) (Const c) t e = heads_nearly ms g (Const c) t e
+  heads_nearly ms (x ∷ g) (Var zero) t e = inl e
+  heads_nearly ms (x ∷ g) (Var (suc i)) t e = heads_nearly ms g (Var i) t e
+  heads_nearly ms (x ∷ g) (Meta m) t e = heads_nearly ms g (Meta m) t e
+
+  -- what is decided over the lists is so over the setting
+  pub filled_typed : (ms : List SimpleType) (g : Context) (o : PlainObject) (t : SimpleType) → typed (record { constants = simple_types sig ++ map erase xs; metavariables = ms }) (map (λ e. e.1) (simple_locals g)) o t ≡ true
+      → SimplyTyped (extended_over g (closed (item_constants sig xs) (slice_get ms))) o t
+  filled_typed ms g o t e = typed_nearly o (assigned (simple_types sig ++ map erase xs) ms (map (λ e. e.1) (simple_locals g))) (extended_over g (closed (item_constants sig xs) (slice_get ms))) t (heads_nearly ms g)
+      (sound (record { constants = simple_types sig ++ map erase xs; metavariables = ms }) (map (λ e. e.1) (simple_locals g)) o t e)

@@ -9,3 +9,4 @@ pub mod Filled
 pub mod Entries
 pub mod Shapes
 pub mod Assigned
+pub mod Parts

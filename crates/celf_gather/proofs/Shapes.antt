@@ -10,7 +10,7 @@ use Rattle.subst_laws.proofs.Renamed.{erase_renamed, erase_renamed_telescope}
 use Rattle.typing_laws.proofs.Erased.{put_type, put_telescope}
 use Rattle.gathering.specs.Shape.{Shape, at_family, at_function, at_both, at_top, at_monad, EntryShapes, no_entry, an_entry, unmarked_shape, unmarked_entries, with_shapes}
 
-mutual
+abbrev mutual
   shape_of : SimpleType → Shape
   shape_of (base f) = at_family f
   shape_of (arrow m d c) = at_function false (shape_of d) (shape_of c)
