@@ -10,3 +10,5 @@ pub mod Entries
 pub mod Shapes
 pub mod Assigned
 pub mod Parts
+pub mod Sound
+pub mod SoundItems

@@ -65,7 +65,7 @@ filled_out false p x e = absurd (cc)
 pub pairs_out : (l : Locals) (ts : List SimpleType) (os ns : List PlainObject) (p x : List Equation) → pairs_after l ts os ns p ≡ made x → (q : List Equation) × (x ≡ p ++ q) × Pairs l ts os ns q
 pairs_out l [] [] [] p x e = ([], sym (the_made e) ∙ sym (append-nil p), refl)
 pairs_out l (t ∷ ts) (o ∷ os) (n ∷ ns) p x e =
-    let one = record { locals = l; left = o; right = n; type = t } in
+    let one : Equation = record { locals = l; left = o; right = n; type = t } in
     let (q, f, r) = pairs_out l ts os ns (p ++ one ∷ []) x e in
     (one ∷ q, f ∙ append_assoc p (one ∷ []) q, (q, refl, r))
 pairs_out l [] [] (n ∷ ns) p x e = absurd (cc)
