@@ -1,7 +1,6 @@
 -- Gathering along the lists that trees in memory have.
 use Rattle.std.proofs.Common.{◌≡◌, ℕ, suc, ◌+◌, ◌<◌, List, [], ◌∷◌, length, map, drop, get_or, refl, sym, ap, subst, ◌∙◌, add-one}
 use Rattle.std.proofs.Math.Seq.{drop-cons}
-use Rattle.std.proofs.lemmas.List.{drop_all}
 use Rattle.clf_syntax.specs.declared.tree.Neutral.{Neutral}
 use Rattle.clf_syntax.specs.Tree.{PlainNeutral, head_alone, PlainElimination, arg, first, second, spine_on}
 use Rattle.clf_syntax.specs.Plain.{plain_neutral, plain_elim, plain-neutral}
@@ -10,7 +9,7 @@ use Rattle.hered_put.specs.Function.{Answer, made, untyped, too_far, after}
 use Rattle.pattern_laws.specs.Equations.{Equation}
 use Rattle.celf_gather.specs.declared.stop.Stop.{Stop}
 use Rattle.celf_gather.specs.Scene.{Scene, head_type}
-use Rattle.celf_gather.specs.Gathered.{Inferred, inferred, with_type, each_after, elimination_after}
+use Rattle.celf_gather.specs.Gathered.{inferred, with_type, each_after, elimination_after}
 use Rattle.celf_gather.specs.Stops.{Stops}
 use Rattle.celf_gather.proofs.Stopping.{then_stops}
 

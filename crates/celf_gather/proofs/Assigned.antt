@@ -1,23 +1,23 @@
 -- Simple typing where families are heads of the type <T>: no such head stands in what is typed.
-use Rattle.std.proofs.Common.{◌≡◌, ℕ, zero, suc, ◌+◌, ◌-◌, ◌<◌, ◌≤◌, Bool, true, false, if◌then◌else◌, List, [], ◌∷◌, ◌++◌, length, map, Option, Some, None, refl, sym, ap, subst, ◌∙◌, arith, nat_lt, ⊎_elim}
+use Rattle.std.proofs.Common.{◌≡◌, ℕ, zero, suc, ◌+◌, ◌-◌, ◌<◌, ◌≤◌, Bool, true, false, if◌then◌else◌, List, [], ◌∷◌, ◌++◌, length, map, Some, refl, sym, ap, ◌∙◌, arith, nat_lt, ⊎_elim}
 use Rattle.std.proofs.Math.Logic.{◌⊎◌, inl, inr}
 use Rattle.std.specs.List.{slice_get}
-use Rattle.std.specs.Option.{option_map, option_and_then}
+use Rattle.std.specs.Option.{option_map}
 use Rattle.std.proofs.lemmas.Option.{slice_get-map}
 use Rattle.std.proofs.lemmas.List.{length-map}
 use Rattle.clf_syntax.specs.declared.tree.Mode.{Mode}
 use Rattle.clf_syntax.specs.declared.tree.Head.{Head}
 use Rattle.clf_syntax.specs.declared.tree.Head.TheVariants.{Const, Var, Meta}
-use Rattle.clf_syntax.specs.Tree.{PlainObject, lam, pair, unit, monadic, atomic, hole, PlainNeutral, head_alone, app, fst, snd, PlainExpression, step, done, PlainTuple, empty, entry, head_of}
-use Rattle.clf_syntax.specs.TypeTree.{PlainType, SimpleType, base, arrow, simple_with, simple_top, lax, SimpleTelescope, simple_end, simple_binding}
+use Rattle.clf_syntax.specs.Tree.{PlainObject, lam, pair, unit, monadic, atomic, hole, PlainNeutral, head_alone, app, fst, snd, PlainExpression, step, done, PlainTuple, empty, entry}
+use Rattle.clf_syntax.specs.TypeTree.{PlainType, SimpleType, arrow, simple_with, simple_top, lax, SimpleTelescope, simple_end, simple_binding}
 use Rattle.clf_syntax.specs.Simple.{erase, Assignment, assigned, extended, extended_by, extended_over, no_holes, MayStand, SimplyTyped, SimplyTypedNeutral, SimplyTypedExpression, SimplyTypedTuple}
 use Rattle.use_contexts.specs.Context.{Context}
 use Rattle.clf_sig.specs.Entry.{PlainClass, family_of, constant_of, PlainSignature, type_in, constant_type, simple_class, simple_types}
 use Rattle.clf_simple.specs.Decision.{typed}
 use Rattle.clf_simple.proofs.Decided.{sound}
-use Rattle.pattern_laws.specs.Instantiations.{Types, closed}
+use Rattle.pattern_laws.specs.Instantiations.{closed}
 use Rattle.gathering.specs.Setting.{simple_locals}
-use Rattle.elaboration_laws.specs.ItemSetting.{given_type, item_constants}
+use Rattle.elaboration_laws.specs.ItemSetting.{item_constants}
 
 -- The second assignment has the types of the first but <T>.
 abbrev Nearly : Assignment → Assignment → Type 0

@@ -1,5 +1,5 @@
 -- One step along the entries of a telescope.
-use Rattle.std.proofs.Common.{◌≡◌, ℕ, suc, ◌+◌, ◌<◌, List, [], ◌∷◌, length, map, drop, get_or, refl, sym, ap, subst, ◌∙◌}
+use Rattle.std.proofs.Common.{◌≡◌, ℕ, ◌+◌, ◌<◌, List, ◌∷◌, length, map, drop, get_or, sym, ap, subst, ◌∙◌}
 use Rattle.clf_syntax.specs.declared.tree.Mode.{Mode}
 use Rattle.clf_syntax.specs.declared.tree.TeleEntry.{TeleEntry, out-TeleEntry}
 use Rattle.clf_syntax.specs.TypeTree.{PlainType, PlainTelescope, binding, telescope_of}
@@ -9,7 +9,6 @@ use Rattle.hered_put.specs.Function.{made, after}
 use Rattle.pattern_laws.specs.Equations.{Equation}
 use Rattle.celf_gather.specs.declared.stop.Stop.{Stop}
 use Rattle.celf_gather.specs.Scene.{Scene}
-use Rattle.celf_gather.specs.Gathered.{Reached}
 use Rattle.celf_gather.specs.Formed.{type_after, telescope_after, bound_after}
 use Rattle.celf_gather.specs.Stops.{Stops}
 use Rattle.celf_gather.proofs.Stopping.{then_stops}

@@ -1,5 +1,5 @@
 -- What is to be filled in is simply typed, as it is decided over the locals of a context.
-use Rattle.std.proofs.Common.{◌≡◌, ◌↔◌, Bool, true, false, IsTrue, List, [], ◌∷◌, ◌++◌, map, reverse, refl, sym, ap, subst, ◌∙◌}
+use Rattle.std.proofs.Common.{◌≡◌, ◌↔◌, Bool, true, false, IsTrue, List, [], ◌∷◌, ◌++◌, map, reverse, refl, sym, ap, ◌∙◌}
 use Rattle.std.proofs.lemmas.List.{append_assoc, append-nil, reverse-append}
 use Rattle.clf_syntax.specs.declared.tree.Mode.{Mode}
 use Rattle.clf_syntax.specs.declared.tree.Simple.{Simple}

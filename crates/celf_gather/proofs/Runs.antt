@@ -1,5 +1,5 @@
 -- Gathering of expressions and tuples, step by step and entry by entry.
-use Rattle.std.proofs.Common.{◌≡◌, ℕ, suc, ◌+◌, ◌-◌, ◌<◌, ◌≤◌, Bool, true, false, ◌&&◌, if◌then◌else◌, List, [], ◌∷◌, ◌++◌, length, map, drop, get_or, Result, Ok, Err, refl, sym, ap, subst, ◌∙◌, arith}
+use Rattle.std.proofs.Common.{◌≡◌, ℕ, ◌+◌, ◌-◌, ◌<◌, ◌≤◌, Bool, true, false, ◌&&◌, List, [], ◌∷◌, length, map, drop, get_or, Result, Err, refl, sym, ap, subst, ◌∙◌, arith}
 use Rattle.std.proofs.lemmas.List.{drop_all}
 use Rattle.clf_syntax.specs.declared.tree.Mode.{Mode}
 use Rattle.clf_syntax.specs.declared.tree.Expr.{Expr, out-Expr}
@@ -9,7 +9,7 @@ use Rattle.clf_syntax.specs.declared.tree.TupleEntry.{TupleEntry}
 use Rattle.clf_syntax.specs.declared.tree.TeleEntry.{TeleEntry}
 use Rattle.clf_syntax.specs.Modes.{same_mode}
 use Rattle.clf_syntax.specs.Tree.{PlainNeutral, PlainTuple, done, steps_on, tuple_of}
-use Rattle.clf_syntax.specs.TypeTree.{PlainType, family, function, both, top, monad, PlainTelescope, end, binding, telescope_of}
+use Rattle.clf_syntax.specs.TypeTree.{family, function, both, top, monad, PlainTelescope, end, binding, telescope_of}
 use Rattle.clf_syntax.specs.Plain.{plain_expr, plain_step, plain_entry, plain-expr}
 use Rattle.clf_syntax.specs.PlainTypes.{plain_tele, plain_tele_entry, plain-tele}
 use Rattle.clf_syntax.specs.Renaming.{ren_telescope, up}
@@ -26,7 +26,6 @@ use Rattle.celf_gather.specs.declared.walk.Walk.{Walk}
 use Rattle.celf_gather.specs.Walks.{context_of, found_of}
 use Rattle.celf_gather.proofs.Stopping.{then_stops}
 use Rattle.celf_gather.proofs.Lists.{from_place}
-use Rattle.celf_gather.proofs.Along.{then_then, then_same}
 
 pub gives_stop : {X A : Type 0} (plain : X → A) (want : Answer A) {s : Stop} {r : Result X Stop} → r ≡ Err s → Stops want s → Gives plain want r
 gives_stop plain want e p = subst (Gives plain want) (sym e) p

@@ -1,6 +1,5 @@
 -- The shape in which nothing is passed over is made of the simple type alone, so that neither renumbering nor putting changes it.
-use Rattle.std.proofs.Common.{◌≡◌, ℕ, Bool, false, List, [], ◌∷◌, map, refl, sym, ap, ◌∙◌}
-use Rattle.clf_syntax.specs.declared.tree.Mode.{Mode}
+use Rattle.std.proofs.Common.{◌≡◌, false, List, ◌∷◌, map, refl, sym, ap, ◌∙◌}
 use Rattle.clf_syntax.specs.TypeTree.{PlainType, family, function, both, top, monad, PlainTelescope, end, binding, SimpleType, base, arrow, simple_with, simple_top, lax, SimpleTelescope, simple_end, simple_binding}
 use Rattle.clf_syntax.specs.Simple.{erase, erase_telescope}
 use Rattle.clf_syntax.specs.Renaming.{Renumbering, ren_type, ren_telescope}

@@ -9,7 +9,7 @@ use Rattle.clf_syntax.specs.declared.tree.Mode.{Mode}
 use Rattle.clf_syntax.specs.declared.tree.Head.{Head}
 use Rattle.clf_syntax.specs.declared.tree.Head.TheVariants.{Const, Var, Meta}
 use Rattle.clf_syntax.specs.Tree.{PlainObject, lam, pair, unit, monadic, atomic, hole, PlainNeutral, head_alone, app, fst, snd, PlainExpression, step, done, PlainTuple, empty, entry, head_of}
-use Rattle.clf_syntax.specs.TypeTree.{PlainType, family, function, both, top, monad, PlainTelescope, end, binding, SimpleType}
+use Rattle.clf_syntax.specs.TypeTree.{PlainType, family, function, PlainTelescope, SimpleType}
 use Rattle.clf_syntax.specs.Simple.{erase}
 use Rattle.clf_syntax.specs.Renaming.{ren_type, ren_telescope, up}
 use Rattle.use_contexts.specs.Context.{Context, HasVariable, with_entries}
@@ -23,12 +23,12 @@ use Rattle.hered_put.proofs.Results.{function_is_sound}
 use Rattle.clf_sig.specs.Entry.{PlainSignature, simple_types}
 use Rattle.clf_simple.specs.Decision.{is_meta}
 use Rattle.pattern_laws.specs.Equations.{Equation}
-use Rattle.gathering.specs.Shape.{Shape, at_function, EntryShapes, unmarked_shape, unmarked_entries, with_shapes}
+use Rattle.gathering.specs.Shape.{at_function, unmarked_shape, unmarked_entries, with_shapes}
 use Rattle.gathering.specs.Setting.{Setting}
 use Rattle.gathering.specs.Gather.{Gathers, NeutralGathers, ExpressionGathers, TupleGathers, HeadGathers}
-use Rattle.elaboration_laws.specs.ItemSetting.{given_type, item_setting}
+use Rattle.elaboration_laws.specs.ItemSetting.{item_setting}
 use Rattle.celf_gather.specs.Scene.{Scene, entry_type, head_type, put_in_type, put_in_telescope, put_in_kind}
-use Rattle.celf_gather.specs.Gathered.{Inferred, Reached, Rest, gathered, inferred, expression_after, tuple_after, application_after, first_after, second_after, entered, entry_after, found_after, leaf_after, filled_after, is_filled}
+use Rattle.celf_gather.specs.Gathered.{Inferred, gathered, inferred, expression_after, tuple_after, application_after, first_after, second_after, entered, entry_after, leaf_after, filled_after, is_filled}
 use Rattle.celf_gather.proofs.Assigned.{filled_typed}
 use Rattle.celf_gather.proofs.Parts.{after_out, the_made, lambda_out, pair_out, unit_out, monadic_out, filled_out, found_out, leaf_out, with_type_out, application_out, first_out, second_out, entered_out, none_out, entry_out}
 use Rattle.celf_gather.proofs.Shapes.{shapes_of, renumbered_shape, renumbered_entries, put_shape, put_entries, entered_shapes}
@@ -93,8 +93,7 @@ module _ (sig : PlainSignature) (xs : List PlainType) (ms : List SimpleType) whe
     object_sound (pair l r) g t p x e =
         let (a, c, x1, i, u, v) = pair_out t (λ a. gathered scene g l a p) (λ c q. gathered scene g r c q) x e in
         let (q1, f1, y1) = object_sound l g a p x1 u in
-        let (q2, f2, y2) = object_sound r g c x1 x v in
-        (
+        let (q2, f2, y2) = object_sound r g c x1 x v in (
           q1 ++ q2,
           behind p q1 q2 f1 f2,
           record { left_type = a; right_type = c; left_shape = unmarked_shape a; right_shape = unmarked_shape c; of_left = q1; of_right = q2; type = i; shape = ap unmarked_shape i; left = y1; right = y2; equations = refl },
@@ -112,8 +111,7 @@ module _ (sig : PlainSignature) (xs : List PlainType) (ms : List SimpleType) whe
         (λ (s : (is_meta n ≡ false) × (leaf_after scene g t (inferred scene g n p) ≡ made x)).
         let (f, ns, y, i, u, v) = leaf_out scene g t (inferred scene g n p) x s.1 in
         let (os, ts, q2, j, k, r, l) = found_out scene g f ns y x v in
-        let (q1, o, z) = neutral_sound n g p y u in
-        (
+        let (q1, o, z) = neutral_sound n g p y u in (
           q1 ++ q2,
           behind p q1 q2 o l,
           inl (record {
@@ -141,8 +139,7 @@ module _ (sig : PlainSignature) (xs : List PlainType) (ms : List SimpleType) whe
         let (a, c, i, k, l) = application_out m n x (λ a q. gathered scene g n a q) y v in
         let (q1, f1, z1) = neutral_sound r g p x u in
         let (q2, f2, z2) = object_sound n g a x.1 y.1 k in
-        let s = type_put n a c y.0 l in
-        (
+        let s = type_put n a c y.0 l in (
           q1 ++ q2,
           behind p q1 q2 f1 f2,
           record {
@@ -176,8 +173,7 @@ module _ (sig : PlainSignature) (xs : List PlainType) (ms : List SimpleType) whe
         let (z, u1, u2) = after_out (inferred scene g r p) (entered ns g) y u in
         let (w, i, j, k, l) = entered_out ns g z y u2 in
         let (q1, f1, z1) = neutral_sound r g p z u1 in
-        let (q2, f2, z2) = expression_sound b y.0 (ren_telescope (up (length ns)) s) y.1 x v in
-        (
+        let (q2, f2, z2) = expression_sound b y.0 (ren_telescope (up (length ns)) s) y.1 x v in (
           q1 ++ q2,
           behind p q1 q2 (sym l ∙ f1) f2,
           record {
@@ -203,8 +199,7 @@ module _ (sig : PlainSignature) (xs : List PlainType) (ms : List SimpleType) whe
         let (a, c, i, k, l) = entry_out m n s p (λ a q. gathered scene g n a q) y u in
         let (q1, f1, z1) = object_sound n g a p y.1 k in
         let (q2, f2, z2) = tuple_sound b g y.0 y.1 x v in
-        let o = telescope_put n a c y.0 l in
-        (
+        let o = telescope_put n a c y.0 l in (
           q1 ++ q2,
           behind p q1 q2 f1 f2,
           record {

@@ -1,13 +1,11 @@
 -- What the function makes of types, kinds and cores is gathered.
-use Rattle.std.proofs.Common.{◌≡◌, ℕ, List, [], ◌∷◌, ◌++◌, map, Option, Some, None, refl, sym, ap, subst, ◌∙◌}
-use Rattle.std.specs.List.{slice_get}
-use Rattle.clf_syntax.specs.declared.tree.Mode.{Mode}
+use Rattle.std.proofs.Common.{◌≡◌, List, [], ◌∷◌, ◌++◌, map, Option, Some, None, refl, sym, ap, subst, ◌∙◌}
 use Rattle.clf_syntax.specs.declared.tree.Mode.TheVariants.{Persistent}
 use Rattle.clf_syntax.specs.Tree.{PlainObject}
 use Rattle.clf_syntax.specs.TypeTree.{PlainType, family, function, both, top, monad, PlainTelescope, end, binding, PlainKind, SimpleType}
 use Rattle.clf_syntax.specs.Simple.{erase}
 use Rattle.use_contexts.specs.Context.{Context}
-use Rattle.hered_put.specs.Function.{Answer, made, after}
+use Rattle.hered_put.specs.Function.{made, after}
 use Rattle.clf_sig.specs.Entry.{PlainClass, family_of, constant_of, PlainSignature, family_kind, simple_types}
 use Rattle.clf_sig.specs.Core.{PlainCore, declares, queries, traces, equates, checks}
 use Rattle.pattern_laws.specs.Equations.{Equation}
@@ -41,8 +39,7 @@ module _ (sig : PlainSignature) (xs : List PlainType) (ms : List SimpleType) whe
       let (a, k, i, r) = first_index (scene sig xs ms) g n l p z u1 in
       let (s, t) = index_out n a k (gathered (scene sig xs ms) g n a p) z r in
       let (q1, f1, z1) = object_sound sig xs ms n g a p z.1 s in
-      let (q2, f2, z2) = indices_sound ns g z.0 z.1 x (ap (λ w. after w no_arguments) u2 ∙ v) in
-      (
+      let (q2, f2, z2) = indices_sound ns g z.0 z.1 x (ap (λ w. after w no_arguments) u2 ∙ v) in (
         q1 ++ q2,
         behind p q1 q2 f1 f2,
         subst (λ k. IndicesGather sig (setting sig xs ms) g (shapes_of g) (n ∷ ns) k (q1 ++ q2)) (sym i)
@@ -97,8 +94,7 @@ module _ (sig : PlainSignature) (xs : List PlainType) (ms : List SimpleType) whe
       let (w, u1, u2) = after_out (gathered (scene sig xs ms) [] m a y) (λ r. gathered (scene sig xs ms) [] n a r) x v in
       let (q1, f1, z1) = type_sound a [] p y u in
       let (q2, f2, z2) = object_sound sig xs ms m [] a y w u1 in
-      let (q3, f3, z3) = object_sound sig xs ms n [] a w x u2 in
-      (
+      let (q3, f3, z3) = object_sound sig xs ms n [] a w x u2 in (
         q1 ++ (q2 ++ q3),
         behind p q1 (q2 ++ q3) f1 (behind y q2 q3 f2 f3),
         record { of_first = q1; of_second = q2 ++ q3; first = z1; second = record { of_first = q2; of_second = q3; first = z2; second = z3; equations = refl }; equations = refl },

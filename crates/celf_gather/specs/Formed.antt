@@ -1,5 +1,5 @@
 -- Inner: gathering of types, telescopes, kinds and cores as a function.
-use Rattle.std.specs.Prelude.{ℕ, List, [], ◌∷◌, map, Option, Some, None}
+use Rattle.std.specs.Prelude.{List, [], ◌∷◌, Option, Some, None}
 use Rattle.clf_syntax.specs.declared.tree.Mode.{Mode}
 use Rattle.clf_syntax.specs.declared.tree.Mode.TheVariants.{Persistent}
 use Rattle.clf_syntax.specs.Tree.{PlainObject}

@@ -1,14 +1,13 @@
 -- Inner: gathering as a function, which puts the equations of a part behind those that were found before. Proofs lead from it to the relation.
-use Rattle.std.specs.Prelude.{ℕ, ◌==◌, if◌then◌else◌, Bool, true, false, ◌&&◌, List, [], ◌∷◌, ◌++◌, length, map, Option, Some, None, option_map}
+use Rattle.std.specs.Prelude.{ℕ, ◌==◌, if◌then◌else◌, Bool, true, false, ◌&&◌, List, [], ◌∷◌, ◌++◌, length, map, Option, Some, None}
 use Rattle.clf_syntax.specs.declared.tree.Mode.{Mode}
-use Rattle.clf_syntax.specs.declared.tree.Head.{Head}
 use Rattle.clf_syntax.specs.Modes.{same_mode}
 use Rattle.clf_syntax.specs.Tree.{PlainObject, lam, pair, unit, monadic, atomic, hole, PlainNeutral, head_alone, app, fst, snd, PlainExpression, step, done, PlainTuple, empty, entry, PlainElimination, arg, first, second}
-use Rattle.clf_syntax.specs.TypeTree.{PlainType, family, function, both, top, monad, PlainTelescope, end, binding, PlainKind, SimpleType}
+use Rattle.clf_syntax.specs.TypeTree.{PlainType, family, function, both, top, monad, PlainTelescope, end, binding, SimpleType}
 use Rattle.clf_syntax.specs.Simple.{erase}
 use Rattle.clf_syntax.specs.Renaming.{ren_telescope, up}
 use Rattle.use_contexts.specs.Context.{Context, with_entries}
-use Rattle.hered_put.specs.Function.{Answer, made, untyped, too_far, after}
+use Rattle.hered_put.specs.Function.{Answer, made, untyped, after}
 use Rattle.clf_simple.specs.Decision.{typed, is_meta}
 use Rattle.typing_laws.specs.SimpleTyping.{families_of}
 use Rattle.pattern_laws.specs.Equations.{Locals, Equation}

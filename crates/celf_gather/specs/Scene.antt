@@ -1,5 +1,5 @@
 -- Inner: what is known of heads and families, and what follows a variable once an object is put for it.
-use Rattle.std.specs.Prelude.{ℕ, ◌+◌, List, Option, Some, None, option_map, slice_get}
+use Rattle.std.specs.Prelude.{ℕ, ◌+◌, List, Option, None, option_map, slice_get}
 use Rattle.clf_syntax.specs.declared.tree.Mode.{Mode}
 use Rattle.clf_syntax.specs.declared.tree.Head.{Head}
 use Rattle.clf_syntax.specs.declared.tree.Head.TheVariants.{Const, Var, Meta}

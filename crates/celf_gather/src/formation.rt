@@ -130,10 +130,16 @@ impl Known<'_> {
 
     /// The equations of an index at the first argument, and the later ones with it put for that.
     #[tactic(auto, using(crate::proofs::Stopping::stop_laws))]
-    fn form_first(&self, walk: &mut Walk, index: &Obj, first: &Ty, later: &[Ty]) -> Result<Items<Ty>, Stop>
+    fn form_first(
+        &self,
+        walk: &mut Walk,
+        index: &Obj,
+        first: &Ty,
+        later: &[Ty],
+    ) -> Result<Items<Ty>, Stop>
         ensures outcome { Gives (λ l. (map plain_ty l, found_of walk.new)) (index_after (scene_of self.now)
-            (context_of walk.old) (plain_obj index.now) (plain_ty first.now ∷ map plain_ty later.now, found_of walk.old))
-            result }
+            (context_of walk.old) (plain_obj index.now)
+            (plain_ty first.now ∷ map plain_ty later.now, found_of walk.old)) result }
         ensures back { OnOk result (IsBack walk.old walk.new) }
     {
         self.gather(walk, index, first)?;

@@ -99,8 +99,12 @@ impl Known<'_> {
     fn equate(&self, ctx: &Ctx, ty: &Ty, left: &Obj, right: &Obj) -> Result<Equation, Stop>
         ensures equation { IfOk result (λ e.
             plain_equation e
-            ≡ record { locals = locals_of (context ctx.now); left = plain_obj left.now; right = plain_obj right.now;
-            type = erased (plain_ty ty.now) }) }
+            ≡ record {
+              locals = locals_of (context ctx.now);
+              left = plain_obj left.now;
+              right = plain_obj right.now;
+              type = erased (plain_ty ty.now);
+            }) }
         ensures short { IfErr result IsShort }
     {
         let locals = simple_locals(self.alloc, ctx)?;

@@ -46,13 +46,7 @@ impl Known<'_> {
     /// A lambda stands at a function of its mode.
     #[cycle(gather)]
     #[tactic(auto, using(clf_syntax::specs::PlainTypes::plain_type_laws, crate::proofs::Stopping::stop_laws))]
-    fn gather_lambda(
-        &self,
-        walk: &mut Walk,
-        mode: Mode,
-        body: &Obj,
-        ty: &Ty,
-    ) -> Result<(), Stop>
+    fn gather_lambda(&self, walk: &mut Walk, mode: Mode, body: &Obj, ty: &Ty) -> Result<(), Stop>
         ensures outcome { Gives (λ _. found_of walk.new) (lambda_after mode (plain_ty ty.now) (λ a c.
             gathered (scene_of self.now) ((mode, a) ∷ context_of walk.old) (plain_obj body.now) c
             (found_of walk.old))) result }

@@ -59,13 +59,7 @@ impl Known<'_> {
     /// The type of a function with an argument put to it.
     #[cycle(gather)]
     #[tactic(auto, using(clf_syntax::specs::PlainTypes::plain_type_laws, crate::proofs::Stopping::stop_laws))]
-    fn put_argument(
-        &self,
-        walk: &mut Walk,
-        mode: Mode,
-        obj: &Obj,
-        ty: Ty,
-    ) -> Result<Ty, Stop>
+    fn put_argument(&self, walk: &mut Walk, mode: Mode, obj: &Obj, ty: Ty) -> Result<Ty, Stop>
         ensures outcome { Gives (λ t. (plain_ty t, found_of walk.new)) (application_after mode (plain_obj obj.now)
             (plain_ty ty, found_of walk.old)
             (λ a q. gathered (scene_of self.now) (context_of walk.old) (plain_obj obj.now) a q)) result }

@@ -1,4 +1,4 @@
-use Rattle.std.proofs.Common.{◌≡◌, ◌+◌, ◌++◌, map, drop, ◌∙◌, sym, ap, arith, length}
+use Rattle.std.proofs.Common.{◌+◌, ◌++◌, map, drop, ◌∙◌, ap, arith, length}
 use Rattle.clf_syntax.specs.PlainSimple.{plain_simple_entry}
 use Rattle.clf_syntax.specs.PlainTypes.{plain_tele_entry}
 use Rattle.celf_gather.specs.Walks.{erased_entry}
@@ -13,7 +13,7 @@ loop-entry-preserved c =
     let e = c.as_slice-entry-items.ensures in
     ap (λ xs. map plain_simple_entry xs ++ map (λ e. erased_entry (plain_tele_entry e)) (drop (c.loop-entry.entry-index + 1) c.args.ctx.now.entries)) c.in_ok-push.ensures.items
     ∙ made_more plain_simple_entry (λ e. erased_entry (plain_tele_entry e)) c.loop-entry.locals.items c.args.ctx.now.entries c.loop-entry.entry-index c.in_ok-simple_entry.field-0 c.entry-item.result
-        (omega (arith, c.loop-entry-test.true, ap length e)) (in_items e c.loop-entry.entry-index c.entry-item.is) c.in_ok-simple_entry.ensures
+    (omega (arith, c.loop-entry-test.true, ap length e)) (in_items e c.loop-entry.entry-index c.entry-item.is) c.in_ok-simple_entry.ensures
     ∙ c.loop-entry.invariant
 
 pub returns : goal.returns

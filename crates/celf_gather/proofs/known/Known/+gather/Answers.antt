@@ -1,16 +1,13 @@
-use Rattle.std.proofs.Common.{◌≡◌, ◌-◌, map, length, drop, Err, ap, sym, subst, ◌∙◌, arith}
+use Rattle.std.proofs.Common.{◌≡◌, ◌-◌, map, Err, ap, sym, subst, ◌∙◌, arith}
 use Rattle.std.proofs.lemmas.Result.{err_from_is_err_and}
-use Rattle.clf_syntax.specs.declared.tree.Tele.{out-Tele}
-use Rattle.clf_syntax.specs.Plain.{plain_elim, plain_step, plain_entry}
-use Rattle.clf_syntax.specs.PlainTypes.{plain_ty, plain_tele, plain_tele_entry, plain-tele}
-use Rattle.clf_syntax.specs.Renaming.{ren_telescope, up}
-use Rattle.clf_syntax.specs.Tree.{tuple_of}
+use Rattle.clf_syntax.specs.Plain.{plain_elim, plain_entry}
+use Rattle.clf_syntax.specs.PlainTypes.{plain_ty, plain_tele, plain_tele_entry}
 use Rattle.clf_syntax.specs.TypeTree.{telescope_of}
-use Rattle.hered_put.specs.Function.{made, after}
+use Rattle.hered_put.specs.Function.{made}
 use Rattle.celf_constraints.specs.Equated.{equations_in}
-use Rattle.celf_gather.specs.Gathered.{each_after, elimination_after, step_after, tuple_after, tuple_entry_after}
+use Rattle.celf_gather.specs.Gathered.{elimination_after, tuple_entry_after}
 use Rattle.celf_gather.specs.Stops.{Stops}
-use Rattle.celf_gather.specs.Walks.{scene_of, context_of, found_of, entries_of}
+use Rattle.celf_gather.specs.Walks.{scene_of, context_of, found_of}
 use Rattle.celf_gather.proofs.Contexts.{same_context, length_entries}
 use Rattle.celf_gather.proofs.Along.{each_stops}
 use Rattle.celf_gather.proofs.Lists.{not_true}

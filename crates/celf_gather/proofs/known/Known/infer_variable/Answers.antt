@@ -1,4 +1,3 @@
-use Rattle.std.proofs.Common.{◌≡◌, Result, Ok, Err, IfOk, IfErr, ap, sym, ◌∙◌}
 use Rattle.celf_gather.proofs.Heads.{variable_gives}
 use Rattle.celf_gather.proofs.known.Known.infer_variable.Goals as goal
 

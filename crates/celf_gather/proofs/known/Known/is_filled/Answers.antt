@@ -1,4 +1,3 @@
-use Rattle.std.proofs.Common.{◌≡◌, sym, ap, subst, ◌∙◌}
 use Rattle.celf_gather.specs.Walks.{scene_of, context_of}
 use Rattle.clf_syntax.specs.Plain.{plain_obj}
 use Rattle.celf_gather.proofs.Filled.{filled_over}
