@@ -14,7 +14,7 @@ use Rattle.clf_syntax.specs.Simple.{erase, Assignment, assigned, extended, exten
 use Rattle.use_contexts.specs.Context.{Context}
 use Rattle.clf_sig.specs.Entry.{PlainClass, family_of, constant_of, PlainSignature, type_in, constant_type, simple_class, simple_types}
 use Rattle.clf_simple.specs.Decision.{typed}
-use Rattle.clf_simple.proofs.Decided.{sound}
+use Rattle.clf_simple.proofs.Decided.{sound, complete}
 use Rattle.pattern_laws.specs.Instantiations.{closed}
 use Rattle.gathering.specs.Setting.{simple_locals}
 use Rattle.elaboration_laws.specs.ItemSetting.{item_constants}
@@ -94,6 +94,15 @@ constant_nearly [] c t e = absurd (cc)
 constant_nearly (d ∷ sig) zero t e = class_nearly d.1.class t e
 constant_nearly (d ∷ sig) (suc c) t e = constant_nearly sig c t e
 
+class_more : (c : PlainClass) (t : SimpleType) → option_map erase (type_in c) ≡ Some t → Some (simple_class c) ≡ Some t
+class_more (family_of k) t e = absurd (cc)
+class_more (constant_of a) t e = e
+
+constant_more : (sig : PlainSignature) (c : ℕ) (t : SimpleType) → option_map erase (constant_type sig c) ≡ Some t → slice_get (simple_types sig) c ≡ Some t
+constant_more [] c t e = absurd (cc)
+constant_more (d ∷ sig) zero t e = class_more d.1.class t e
+constant_more (d ∷ sig) (suc c) t e = constant_more sig c t e
+
 module _ (sig : PlainSignature) (xs : List PlainType) where
   length_types : length (simple_types sig) ≡ length sig
   length_types = length-map sig (λ e. simple_class e.1.class)
@@ -110,6 +119,17 @@ module _ (sig : PlainSignature) (xs : List PlainType) where
       inl (ap (λ b. option_map erase (if b then constant_type sig c else slice_get xs (c - length sig))) l
       ∙ sym (slice_get-map erase xs (c - length sig)) ∙ sym (get_second (simple_types sig) (map erase xs) c (c - length sig) (omega (arith, i, n))) ∙ e)
 
+  given_more : (c : ℕ) (t : SimpleType) (b : Bool) → nat_lt c (length sig) ≡ b → item_constants sig xs c ≡ Some t → slice_get (simple_types sig ++ map erase xs) c ≡ Some t
+  given_more c t true l e =
+      let i : c < length sig = grind (arith, l) in
+      let n = length_types in
+      get_first (simple_types sig) (map erase xs) c (omega (arith, i, n)) ∙ constant_more sig c t (ap (λ b. option_map erase (if b then constant_type sig c else slice_get xs (c - length sig))) (sym l) ∙ e)
+  given_more c t false l e =
+      let i : length sig ≤ c = grind (arith, l) in
+      let n = length_types in
+      get_second (simple_types sig) (map erase xs) c (c - length sig) (omega (arith, i, n)) ∙ slice_get-map erase xs (c - length sig)
+      ∙ ap (λ b. option_map erase (if b then constant_type sig c else slice_get xs (c - length sig))) (sym l) ∙ e
+
   -- what the lists give is what the setting gives
   heads_nearly : (ms : List SimpleType) (g : Context) → Nearly (assigned (simple_types sig ++ map erase xs) ms (map (λ e. e.1) (simple_locals g))) (extended_over g (closed (item_constants sig xs) (slice_get ms)))
   heads_nearly ms [] (Const c) t e = given_nearly c t (nat_lt c (length sig)) refl e
@@ -125,3 +145,19 @@ module _ (sig : PlainSignature) (xs : List PlainType) where
       → SimplyTyped (extended_over g (closed (item_constants sig xs) (slice_get ms))) o t
   filled_typed ms g o t e = typed_nearly o (assigned (simple_types sig ++ map erase xs) ms (map (λ e. e.1) (simple_locals g))) (extended_over g (closed (item_constants sig xs) (slice_get ms))) t (heads_nearly ms g)
       (sound (record { constants = simple_types sig ++ map erase xs; metavariables = ms }) (map (λ e. e.1) (simple_locals g)) o t e)
+
+  heads_more : (ms : List SimpleType) (g : Context) (h : Head) (t : SimpleType) → extended_over g (closed (item_constants sig xs) (slice_get ms)) h ≡ Some t
+      → assigned (simple_types sig ++ map erase xs) ms (map (λ e. e.1) (simple_locals g)) h ≡ Some t
+  heads_more ms [] (Const c) t e = given_more c t (nat_lt c (length sig)) refl e
+  heads_more ms [] (Var i) t e = absurd (cc)
+  heads_more ms [] (Meta m) t e = e
+  heads_more ms (x ∷ g) (Const c) t e = heads_more ms g (Const c) t e
+  heads_more ms (x ∷ g) (Var zero) t e = e
+  heads_more ms (x ∷ g) (Var (suc i)) t e = heads_more ms g (Var i) t e
+  heads_more ms (x ∷ g) (Meta m) t e = heads_more ms g (Meta m) t e
+
+  -- what is so over the setting is decided over the lists
+  pub typed_filled : (ms : List SimpleType) (g : Context) (o : PlainObject) (t : SimpleType) → SimplyTyped (extended_over g (closed (item_constants sig xs) (slice_get ms))) o t
+      → typed (record { constants = simple_types sig ++ map erase xs; metavariables = ms }) (map (λ e. e.1) (simple_locals g)) o t ≡ true
+  typed_filled ms g o t p = complete (record { constants = simple_types sig ++ map erase xs; metavariables = ms }) (map (λ e. e.1) (simple_locals g)) o t
+      (typed_nearly o (extended_over g (closed (item_constants sig xs) (slice_get ms))) (assigned (simple_types sig ++ map erase xs) ms (map (λ e. e.1) (simple_locals g))) t (λ h u e. inl (heads_more ms g h u e)) p)

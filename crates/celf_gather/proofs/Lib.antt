@@ -12,3 +12,5 @@ pub mod Assigned
 pub mod Parts
 pub mod Sound
 pub mod SoundItems
+pub mod Complete
+pub mod CompleteItems

@@ -22,9 +22,7 @@ unput_stops want Untyped s p e = subst (Stops want) (sym e) p
 unput_stops want TooFar s p e = short_stops want s e
 unput_stops want NoMemory s p e = short_stops want s e
 
--- of another form of answer
-pub other_stops : {A B : Type 0} (want : Answer A) (other : Answer B) (s : Stop) → want ≡ untyped → other ≡ untyped → Stops want s → Stops other s
-other_stops want other Misfit e f p = f
-other_stops want other (Short w) e f p = p
+pub misfit_stops : {A : Type 0} (want : Answer A) {s : Stop} → s ≡ Misfit → Stops want s → want ≡ untyped
+misfit_stops want e p = subst (Stops want) e p
 
 pub ruleset stop_laws = (then_stops, short_stops)

@@ -6,3 +6,4 @@ pub mod Gathered
 pub mod Formed
 pub mod Walks
 pub mod Stops
+pub mod Holes

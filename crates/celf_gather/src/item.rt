@@ -1,5 +1,5 @@
 //! The equations of whole items.
-ghost use Rattle.std.specs.Prelude.{◌≡◌, ◌++◌, [], map, IfOk, IfErr, IfSome, OnOk};
+ghost use Rattle.std.specs.Prelude.{◌≡◌, ◌++◌, [], map, IfOk, IfErr, IfSome, None, OnOk};
 ghost use Rattle.std.specs.List.{slice_get};
 ghost use Rattle.clf_syntax.specs.Plain.{plain_obj};
 ghost use Rattle.clf_syntax.specs.PlainTypes.{plain_ty};
@@ -16,6 +16,7 @@ ghost use Rattle.celf_constraints.specs.Equated.{equations_in};
 ghost use Rattle.celf_gather.specs.Formed.{class_after, core_after, type_after};
 ghost use Rattle.hered_put.specs.Function.{after};
 ghost use Rattle.celf_gather.specs.Gathered.{gathered};
+ghost use Rattle.celf_gather.specs.Holes.{GathersNothing};
 ghost use Rattle.celf_gather.specs.Stops.{Gives};
 ghost use Rattle.celf_gather.specs.Walks.{IsBack, scene_of, context_of, found_of};
 
@@ -45,6 +46,11 @@ pub fn gather(
     ensures gathered { IfOk result (λ found. IfSome found (λ q. CoreGathers (plain_signature sig.now)
         (item_setting (plain_signature sig.now) (map plain_ty variables.now)
         (slice_get (meta_types (additions store.now)))) (plain_core core.now) (equations_in q))) }
+
+    // Where none is answered, none is gathered, over a formed setting and where no hole stands in the core.
+    ensures refused { IfOk result (λ found. found ≡ None → GathersNothing (plain_signature sig.now)
+        (item_setting (plain_signature sig.now) (map plain_ty variables.now)
+        (slice_get (meta_types (additions store.now)))) (plain_core core.now)) }
     ensures wanting { IfErr result IsWant }
 {
     let known = Known {
