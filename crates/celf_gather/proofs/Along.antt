@@ -1,5 +1,5 @@
 -- Gathering along the lists that trees in memory have.
-use Rattle.std.proofs.Common.{◌≡◌, ℕ, suc, ◌+◌, ◌<◌, List, [], ◌∷◌, length, map, drop, get_or, refl, sym, ap, subst, ◌∙◌, add-one}
+use Rattle.std.proofs.Common.{◌≡◌, ℕ, suc, ◌<◌, List, [], ◌∷◌, length, map, drop, get_or, refl, sym, ap, subst, ◌∙◌}
 use Rattle.std.proofs.Math.Seq.{drop-cons}
 use Rattle.clf_syntax.specs.declared.tree.Neutral.{Neutral}
 use Rattle.clf_syntax.specs.Tree.{PlainNeutral, head_alone, PlainElimination, arg, first, second, spine_on}
@@ -32,9 +32,6 @@ then_same too_far e = refl
 module _ {E P X : Type 0} (f : P → X → Answer X) (plain : E → P) (xs : List E) (i : ℕ) (e : E) (l : i < length xs) (q : e ≡ get_or xs i e) where
   from_here : map plain (drop i xs) ≡ plain e ∷ map plain (drop (suc i) xs)
   from_here = ap (map plain) (drop-cons xs i e l ∙ ap (λ y. y ∷ drop (suc i) xs) (sym q))
-
-  pub each_more : (x y : X) → f (plain e) x ≡ made y → each_after f (map plain (drop i xs)) x ≡ each_after f (map plain (drop (i + 1) xs)) y
-  each_more x y p = rw (from_here, add-one) (ap (λ w. after w (each_after f (map plain (drop (suc i) xs)))) p)
 
   pub each_stops : (x : X) (s : Stop) → Stops (f (plain e) x) s → Stops (each_after f (map plain (drop i xs)) x) s
   each_stops x s p = subst (λ es. Stops (each_after f es x) s) (sym from_here) (then_stops (f (plain e) x) (each_after f (map plain (drop (suc i) xs))) s p)

@@ -1,7 +1,5 @@
 -- What is gathered of an object without holes the function makes, or a number passes its range.
-use Rattle.std.proofs.Common.{◌≡◌, ◌==◌, ℕ, ◌+◌, Bool, true, false, ◌&&◌, if◌then◌else◌, List, [], ◌∷◌, ◌++◌, length, map, Option, Some, None, refl, sym, ap, subst, ⊎_elim, ◌∙◌, arith}
-use Rattle.std.proofs.Math.Logic.{◌⊎◌, inl, inr}
-use Rattle.std.specs.List.{slice_get}
+use Rattle.std.proofs.Common.{◌≡◌, ◌==◌, ℕ, ◌+◌, Bool, true, false, ◌&&◌, if◌then◌else◌, List, [], ◌∷◌, ◌++◌, length, Some, refl, sym, ap, subst, ⊎_elim, ◌∙◌, arith}
 use Rattle.std.specs.Option.{option_map}
 use Rattle.std.proofs.lemmas.List.{append_assoc, append-nil}
 use Rattle.std.proofs.lemmas.Option.{slice_get-map}
@@ -10,11 +8,11 @@ use Rattle.clf_syntax.specs.declared.tree.Mode.TheVariants.{Persistent, Affine, 
 use Rattle.clf_syntax.specs.declared.tree.Head.{Head}
 use Rattle.clf_syntax.specs.declared.tree.Head.TheVariants.{Const, Var, Meta}
 use Rattle.clf_syntax.specs.Modes.{same_mode}
-use Rattle.clf_syntax.specs.Tree.{PlainObject, lam, pair, unit, monadic, atomic, hole, PlainNeutral, head_alone, app, fst, snd, PlainExpression, step, done, PlainTuple, empty, entry, head_of}
-use Rattle.clf_syntax.specs.TypeTree.{PlainType, family, function, both, top, monad, PlainTelescope, end, binding, SimpleType}
-use Rattle.clf_syntax.specs.Simple.{erase, Assignment, extended, extended_over, SimplyTyped, SimplyFormed, SimplyFormedTelescope, SimplyFormedKind, SimplyFormedContext}
-use Rattle.clf_syntax.specs.Renaming.{ren_type, ren_telescope, up}
-use Rattle.use_contexts.specs.Context.{Context, HasVariable, telescope_modes, with_entries}
+use Rattle.clf_syntax.specs.Tree.{PlainObject, lam, pair, unit, monadic, atomic, hole, PlainNeutral, head_alone, app, fst, snd, PlainExpression, step, done, PlainTuple, empty, entry}
+use Rattle.clf_syntax.specs.TypeTree.{PlainType, family, function, both, monad, PlainTelescope, end, binding, SimpleType}
+use Rattle.clf_syntax.specs.Simple.{erase, extended, extended_over, SimplyTyped, SimplyFormed, SimplyFormedTelescope, SimplyFormedKind, SimplyFormedContext}
+use Rattle.clf_syntax.specs.Renaming.{ren_telescope, up}
+use Rattle.use_contexts.specs.Context.{Context, telescope_modes, with_entries}
 use Rattle.hered_subst.specs.Substitution.{single, SubstitutedType, SubstitutedTelescope, SubstitutedKind}
 use Rattle.hered_subst.specs.TypedEnvironments.{is_metavariable}
 use Rattle.hered_subst.proofs.SimpleTyping.{rank}
@@ -23,7 +21,7 @@ use Rattle.hered_put.specs.Function.{Answer, made, untyped, too_far, nested, run
 use Rattle.hered_put.specs.Laws.{Meets, Fine}
 use Rattle.hered_put.specs.Passes.{PassesType, PassesTelescope, PassesKind}
 use Rattle.hered_put.proofs.Results.{function_is_sound, function_keeps_forms}
-use Rattle.clf_sig.specs.Entry.{PlainSignature, simple_types}
+use Rattle.clf_sig.specs.Entry.{PlainSignature}
 use Rattle.clf_simple.specs.Decision.{is_meta}
 use Rattle.typing_laws.specs.SimpleTyping.{families_of}
 use Rattle.typing_laws.proofs.FormedTypes.{as_inserted}
@@ -32,14 +30,14 @@ use Rattle.gathering.specs.Shape.{Shape, at_function, at_both, at_monad, EntrySh
 use Rattle.gathering.specs.Setting.{Setting, Pairs, simple_locals}
 use Rattle.gathering.specs.Complete.{HasNoHole, NeutralHasNoHole, ExpressionHasNoHole, TupleHasNoHole}
 use Rattle.gathering.specs.Instances.{FormedSetting}
-use Rattle.gathering.specs.Gather.{Gathers, NeutralGathers, ExpressionGathers, TupleGathers, HeadGathers, PartGathers, FilledIn}
+use Rattle.gathering.specs.Gather.{Gathers, NeutralGathers, ExpressionGathers, TupleGathers, HeadGathers, PartGathers}
 use Rattle.gathering.proofs.Heads.{filled}
 use Rattle.gathering.proofs.Formed.{formed_entries, formed_past}
-use Rattle.gathering.proofs.Puts.{formed_put, formed_put_telescope}
+use Rattle.gathering.proofs.Puts.{formed_put_telescope}
 use Rattle.gathering.proofs.GatheredTyped.{gathered_object, gathered_neutral}
 use Rattle.gathering.proofs.Parts.{application_gathers_parts, entry_gathers_parts, lambda_gathers_parts, leaf_gathers_parts, monadic_gathers_parts, pair_gathers_parts, step_gathers_parts}
 use Rattle.celf_gather.specs.Scene.{Scene, entry_type, head_type, put_in_type, put_in_telescope, put_in_kind}
-use Rattle.celf_gather.specs.Gathered.{Inferred, Reached, Rest, gathered, inferred, expression_after, tuple_after, pairs_after, known_pairs, found_after, leaf_after, lambda_after, pair_after, unit_after, monadic_after, with_type, application_after, first_after, second_after, modes_fit, entered, entered_if, entry_after, none_left, filled_after, is_filled}
+use Rattle.celf_gather.specs.Gathered.{gathered, inferred, expression_after, tuple_after, pairs_after, known_pairs, found_after, leaf_after, lambda_after, pair_after, unit_after, monadic_after, with_type, application_after, first_after, second_after, modes_fit, entered, entered_if, entry_after, none_left, filled_after, is_filled}
 use Rattle.celf_gather.proofs.Assigned.{typed_filled}
 use Rattle.celf_gather.proofs.Shapes.{shapes_of, renumbered_shape, renumbered_entries, put_shape, put_entries, entered_shapes}
 use Rattle.celf_gather.proofs.Sound.{scene, setting}

@@ -1,7 +1,5 @@
 -- What is gathered of a core without holes the function makes, or a number passes its range.
-use Rattle.std.proofs.Common.{◌≡◌, true, ℕ, List, [], ◌∷◌, ◌++◌, map, Option, Some, None, refl, sym, ap, subst, ◌∙◌}
-use Rattle.std.proofs.lemmas.List.{append-nil}
-use Rattle.clf_syntax.specs.declared.tree.Mode.{Mode}
+use Rattle.std.proofs.Common.{◌≡◌, true, List, [], ◌∷◌, ◌++◌, map, Some, refl, sym, ap, subst}
 use Rattle.clf_syntax.specs.declared.tree.Mode.TheVariants.{Persistent}
 use Rattle.clf_syntax.specs.Tree.{PlainObject}
 use Rattle.clf_syntax.specs.TypeTree.{PlainType, family, function, both, top, monad, PlainTelescope, end, binding, PlainKind, SimpleType}
@@ -13,25 +11,24 @@ use Rattle.hered_subst.proofs.TypedEnvironments.{put_is_typed}
 use Rattle.hered_subst.proofs.TypedResults.{result_is_typed}
 use Rattle.hered_put.specs.Function.{Answer, made, untyped, after}
 use Rattle.hered_put.specs.Laws.{Fine}
-use Rattle.clf_sig.specs.Entry.{PlainClass, family_of, constant_of, PlainSignature, family_kind, simple_types}
+use Rattle.clf_sig.specs.Entry.{PlainClass, family_of, constant_of, PlainSignature, simple_types}
 use Rattle.clf_sig.specs.Core.{PlainCore, declares, queries, traces, equates, checks}
 use Rattle.typing_laws.proofs.Erased.{put_type}
 use Rattle.typing_laws.proofs.FormedTypes.{as_inserted}
 use Rattle.pattern_laws.specs.Equations.{Equation}
 use Rattle.gathering.specs.Setting.{Setting}
 use Rattle.gathering.specs.Shape.{unmarked_shape}
-use Rattle.gathering.specs.Gather.{Gathers}
 use Rattle.gathering.specs.Instances.{FormedSetting, FormedKinds}
 use Rattle.gathering.specs.Items.{IndicesGather, TypeGathers, TelescopeGathers, KindGathers}
 use Rattle.celf_elaboration.specs.Items.{ClassGathers, CoreGathers}
 use Rattle.celf_gather.specs.Holes.{EachHasNoHole, TypeHasNoHole, TelescopeHasNoHole, KindHasNoHole, ClassHasNoHole, CoreHasNoHole, GathersNothing}
 use Rattle.celf_gather.specs.Scene.{Scene, put_in_kind}
 use Rattle.celf_gather.specs.Gathered.{gathered, each_after}
-use Rattle.celf_gather.specs.Formed.{Arguments, index_after, no_arguments, indices_after, type_after, telescope_after, kind_after, class_after, core_after}
+use Rattle.celf_gather.specs.Formed.{index_after, no_arguments, indices_after, type_after, telescope_after, kind_after, class_after, core_after}
 use Rattle.celf_gather.proofs.Shapes.{shapes_of}
 use Rattle.celf_gather.proofs.Sound.{scene, setting}
 use Rattle.celf_gather.proofs.Along.{then_then}
-use Rattle.celf_gather.proofs.Complete.{fine_after, fine_then, fine_as, fine_same, kind_fine, more, none, object_complete, typed_at}
+use Rattle.celf_gather.proofs.Complete.{fine_then, fine_as, fine_same, kind_fine, more, none, object_complete, typed_at}
 
 conses : {a b : SimpleType} {ks ls : List SimpleType} → a ≡ b → ks ≡ ls → a ∷ ks ≡ b ∷ ls
 conses e f = cc
@@ -60,8 +57,7 @@ module _ (sig : PlainSignature) (xs : List PlainType) (ms : List SimpleType) (fo
   indices_complete [] g [] q p f h d w = (none p q w, tt)
   indices_complete (n ∷ ns) g (a ∷ l) q p f h d w =
       let y = typed_at sig xs ms formed n g a (unmarked_shape a) w.of_index f h.0 d.0 w.index in
-      let (r1, r2) = indices_complete ns g w.after_put w.of_later (p ++ w.of_index) f h.1 (kind_put g n a y l w.after_put d.1 w.put) w.later in
-      (
+      let (r1, r2) = indices_complete ns g w.after_put w.of_later (p ++ w.of_index) f h.1 (kind_put g n a y l w.after_put d.1 w.put) w.later in (
         fine_as (after (index_after k g n (a ∷ l, p)) (λ x. after (each_after (index_after k g) ns x) no_arguments)) (after (each_after (index_after k g) (n ∷ ns) (a ∷ l, p)) no_arguments) (λ x. x ≡ p ++ q)
             (then_then (index_after k g n (a ∷ l, p)) (each_after (index_after k g) ns) no_arguments)
             (fine_then (index_after k g n (a ∷ l, p)) (w.after_put, p ++ w.of_index) (λ x. after (each_after (index_after k g) ns x) no_arguments) (λ x. x ≡ p ++ q)
@@ -82,8 +78,7 @@ module _ (sig : PlainSignature) (xs : List PlainType) (ms : List SimpleType) (fo
         (fine_as (indices_after k g ns (Some l) p) (type_after k g (family f ns) p) (λ x. x ≡ p ++ q) (ap (λ o. indices_after k g ns o p) e) r1, (map erase l, (kinds f l e).arguments, r2))
     type_complete (function m a b) g q p c h w =
         let (r1, r2) = type_complete a g w.of_first p c h.0 w.first in
-        let (r3, r4) = type_complete b ((m, a) ∷ g) w.of_second (p ++ w.of_first) (r2, c) h.1 w.second in
-        (
+        let (r3, r4) = type_complete b ((m, a) ∷ g) w.of_second (p ++ w.of_first) (r2, c) h.1 w.second in (
           fine_then (type_after k g a p) (p ++ w.of_first) (λ q. type_after k ((m, a) ∷ g) b q) (λ x. x ≡ p ++ q) r1 (fine_same (type_after k ((m, a) ∷ g) b (p ++ w.of_first)) (more p w.of_first w.of_second q w.equations) r3),
           (r2, r4),
         )
@@ -99,8 +94,7 @@ module _ (sig : PlainSignature) (xs : List PlainType) (ms : List SimpleType) (fo
     telescope_complete end g q p c h w = (none p q w, tt)
     telescope_complete (binding m a s) g q p c h w =
         let (r1, r2) = type_complete a g w.of_first p c h.0 w.first in
-        let (r3, r4) = telescope_complete s ((m, a) ∷ g) w.of_second (p ++ w.of_first) (r2, c) h.1 w.second in
-        (
+        let (r3, r4) = telescope_complete s ((m, a) ∷ g) w.of_second (p ++ w.of_first) (r2, c) h.1 w.second in (
           fine_then (type_after k g a p) (p ++ w.of_first) (λ q. telescope_after k ((m, a) ∷ g) s q) (λ x. x ≡ p ++ q) r1 (fine_same (telescope_after k ((m, a) ∷ g) s (p ++ w.of_first)) (more p w.of_first w.of_second q w.equations) r3),
           (r2, r4),
         )

@@ -48,9 +48,6 @@ kind_after k g (a ∷ l) p = after (type_after k g a p) (λ q. kind_after k ((Pe
 abbrev pub bound_after : Scene → Mode × PlainType → Reached → Answer Reached
 bound_after k e x = after (type_after k x.0 e.1 x.1) (λ q. made (e ∷ x.0, q))
 
-abbrev pub argument_after : Scene → PlainType → Reached → Answer Reached
-argument_after k a x = bound_after k (Persistent, a) x
-
 abbrev pub class_after : Scene → PlainClass → List Equation → Answer (List Equation)
 class_after k (family_of l) p = kind_after k [] l p
 class_after k (constant_of a) p = type_after k [] a p

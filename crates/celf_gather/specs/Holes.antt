@@ -1,6 +1,5 @@
 -- Items of which nothing is unknown, and items of which nothing is gathered.
 use Rattle.std.specs.Prelude.{List, [], ◌∷◌}
-use Rattle.std.specs.List.{slice_get}
 use Rattle.clf_syntax.specs.Tree.{PlainObject}
 use Rattle.clf_syntax.specs.TypeTree.{PlainType, family, function, both, top, monad, PlainTelescope, end, binding, PlainKind}
 use Rattle.clf_sig.specs.Entry.{PlainClass, family_of, constant_of, PlainSignature}
