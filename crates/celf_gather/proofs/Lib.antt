@@ -1,0 +1,16 @@
+pub mod Stopping
+pub mod Raised
+pub mod Contexts
+pub mod Lists
+pub mod Heads
+pub mod Along
+pub mod Runs
+pub mod Filled
+pub mod Entries
+pub mod Shapes
+pub mod Assigned
+pub mod Parts
+pub mod Sound
+pub mod SoundItems
+pub mod Complete
+pub mod CompleteItems
