@@ -1,0 +1,13 @@
+//! Unification: equations are solved as far as metavariables stand on distinct locals, and the others are left.
+#![tactic(auto)]
+
+mod answer;
+mod examine;
+mod gather;
+mod pass;
+mod put_in;
+mod step;
+mod whole;
+
+pub use answer::{Clash, Unified};
+pub use whole::unify;
