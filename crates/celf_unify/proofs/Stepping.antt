@@ -142,6 +142,10 @@ advanced s t step ws us g a taken put h = record {
     over : GathersOver (slice_get (constants s)) (slice_get (meta_types (additions t))) us g
     over = subst (λ cs. GathersOver (slice_get cs) (slice_get (meta_types (additions t))) us g) same h
 
+-- What is still to be looked at stays ready.
+pub ready_after : (s t : Stored) (step : Step) (ws : List Equation) → MayAdvance (constants s) (additions s) step ws → Takes s step t → Ready (constants t) (additions t) ws
+ready_after s t step ws a taken = subst (λ cs. Ready cs (additions t) ws) (sym (same_constants s t step taken)) ((stepped s t step ws a taken).ready ws a.ready)
+
 -- What is put in is typed.
 pub typed_after : (s t : Stored) (step : Step) (ws us : List Equation) → MayAdvance (constants s) (additions s) step ws → Takes s step t → ArePutIn (additions t) ws us → IsTyped t us
 typed_after s t step ws us a taken put = record {

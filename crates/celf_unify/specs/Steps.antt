@@ -2,6 +2,8 @@
 use Rattle.std.specs.Prelude.{ℕ, Bool, ◌≡◌, ◌<◌, List, length, Some, None}
 use Rattle.std.specs.List.{slice_get}
 use Rattle.clf_syntax.specs.TypeTree.{SimpleType}
+use Rattle.clf_syntax.specs.Tree.{PlainObject}
+use Rattle.clf_syntax.specs.Simple.{Assignment, SimplyTyped}
 use Rattle.clf_syntax.specs.Plain.{plain_obj}
 use Rattle.subst_laws.specs.Environments.{Instantiation}
 use Rattle.store_laws.specs.Additions.{Addition, meta_types, given}
@@ -11,6 +13,7 @@ use Rattle.pattern_laws.specs.Patterns.{IsFinal, Place, arrows}
 use Rattle.reach_laws.specs.Rest.{EquationUnder}
 use Rattle.solver_laws.specs.Steps.{assigned_more, narrowed_more}
 use Rattle.metavars.specs.Stored.{Stored, constants, additions}
+use Rattle.metavars.specs.Typed.{TypesStore}
 use Rattle.celf_unify.specs.declared.step.Step.{Step}
 use Rattle.celf_unify.specs.declared.step.Step.TheVariants.{Assign, Narrow}
 
@@ -36,6 +39,10 @@ pub record NarrowedTo (s : Stored) (k : ℕ) (mask : List Bool) (t : Stored) : T
 abbrev pub Takes : Stored → Step → Stored → Type 0
 Takes s (Assign m o) t = (constants t ≡ constants s) × (additions t ≡ assigned_more (additions s) m (plain_obj o))
 Takes s (Narrow k mask) t = NarrowedTo s k mask.items t
+
+-- Some simple types that a store has type the object.
+abbrev pub IsTypedThere : Stored → PlainObject → Type 0
+IsTypedThere s o = (z : Assignment) × (t : SimpleType) × TypesStore z (additions s) × SimplyTyped z o t
 
 -- The equation d is e with all solutions put in.
 abbrev pub IsPutIn : List Addition → Equation → Equation → Type 0

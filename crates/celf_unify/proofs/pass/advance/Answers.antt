@@ -1,15 +1,21 @@
-use Rattle.std.proofs.Common.{subst, map}
-use Rattle.solver_laws.specs.Solving.{ArePutIn}
+use Rattle.std.proofs.Common.{sym, subst, map}
+use Rattle.solver_laws.specs.Solving.{Ready, ArePutIn}
 use Rattle.celf_constraints.specs.Equated.{plain_equation}
-use Rattle.metavars.specs.Stored.{additions}
+use Rattle.metavars.specs.Stored.{constants, additions}
 use Rattle.celf_unify.specs.Gathered.{Gathers}
 use Rattle.celf_unify.specs.Passes.{Advances}
 use Rattle.celf_unify.proofs.Parts.{ok_more}
-use Rattle.celf_unify.proofs.Stepping.{may_take, typed_after, advanced}
+use Rattle.celf_unify.proofs.Stepping.{may_take, ready_after, typed_after, advanced}
 use Rattle.celf_unify.proofs.pass.advance.Goals as goal
 
 pub take-requires : goal.take-requires
 take-requires c = record { may = may_take c.args.store.now c.args.step (map plain_equation c.args.rest.items) c.requires.may }
+
+pub put_in_each-requires : goal.put_in_each-requires
+put_in_each-requires c = record {
+  ready = subst (λ es. Ready (constants c.take.new.store) (additions c.take.new.store) (map plain_equation es)) (sym c.as_slice.ensures.value)
+      (ready_after c.args.store.now c.take.new.store c.args.step (map plain_equation c.args.rest.items) c.requires.may c.in_ok-take.ensures.taken);
+}
 
 pub gather-requires : goal.gather-requires
 gather-requires c = record {
