@@ -3,6 +3,7 @@ pub use Rattle.solver_laws.specs.Solving
 pub use Rattle.celf_constraints.specs.Equated
 pub use Rattle.metavars.specs.Stored
 pub mod Steps
+pub mod Narrowed
 pub mod Gathered
 pub mod Examined
 pub mod Passes

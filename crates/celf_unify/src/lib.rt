@@ -4,7 +4,10 @@
 mod answer;
 mod examine;
 mod gather;
+mod invert;
+mod narrow;
 mod pass;
+mod places;
 mod put_in;
 mod step;
 mod whole;

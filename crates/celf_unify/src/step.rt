@@ -2,8 +2,9 @@
 ghost use Rattle.std.specs.Prelude.{◌≡◌, IfErr, OnOk};
 ghost use Rattle.clf_syntax.specs.Wide.{IsWant};
 ghost use Rattle.metavars.specs.Stored.{IsPart};
-ghost use Rattle.celf_unify.specs.Steps.{HasArguments, MayTake, NarrowedTo, Takes};
+ghost use Rattle.celf_unify.specs.Steps.{MayTake, Takes};
 
+use crate::narrow::narrow;
 use clf_syntax::{Obj, Want};
 use metavars::Store;
 
@@ -25,14 +26,4 @@ pub fn take(store: &mut Store, step: Step) -> Result<(), Want>
         Step::Assign { meta, solution } => store.solve(meta, solution),
         Step::Narrow { meta, mask } => narrow(store, meta, mask.as_slice()),
     }
-}
-
-/// A metavariable becomes a new one on the arguments of the mask. Not built yet.
-fn narrow(store: &mut Store, meta: u32, mask: &[bool]) -> Result<(), Want>
-    requires may { HasArguments store.old meta }
-    ensures taken { OnOk result (NarrowedTo store.old meta mask.now store.new) }
-    ensures part { IsPart store.old store.new }
-    ensures wanting { IfErr result IsWant }
-{
-    Err(Want::NoMemory)
 }
