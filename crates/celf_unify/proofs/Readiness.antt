@@ -11,6 +11,7 @@ use Rattle.store_laws.specs.Additions.{Addition, meta_types}
 use Rattle.pattern_laws.specs.Instantiations.{closed}
 use Rattle.pattern_laws.specs.Equations.{Locals, scoped, Equation, TypedEquation}
 use Rattle.solver_laws.specs.Solving.{Ready}
+use Rattle.solver_laws.proofs.Stores.{heads_closed}
 use Rattle.celf_constraints.specs.declared.equation.Equation.{Equation as Declared}
 use Rattle.celf_constraints.specs.Equated.{plain_equation}
 use Rattle.metavars.specs.Stored.{Stored, constants, additions}
@@ -19,16 +20,8 @@ use Rattle.metavars.proofs.TypesStores.{types-extended, store_is_typed}
 use Rattle.celf_unify.specs.Steps.{IsTypedThere}
 use Rattle.celf_unify.specs.Passes.{IsReady}
 
-same_heads : (cs ts : List SimpleType) → assigned cs ts [] ≡ closed (slice_get cs) (slice_get ts)
-same_heads cs ts = ext (λ h. at_head h)
-  where
-    at_head : (h : Head) → assigned cs ts [] h ≡ closed (slice_get cs) (slice_get ts) h
-    at_head (Const c) = refl
-    at_head (Var i) = refl
-    at_head (Meta m) = refl
-
 types_scoped : (cs : List SimpleType) (zs : List Addition) (es : List Equation) → Ready cs zs es → (ls : Locals) → TypesStore (scoped ls (closed (slice_get cs) (slice_get (meta_types zs)))) zs
-types_scoped cs zs es r [] = subst (λ g. TypesStore g zs) (same_heads cs (meta_types zs)) (store_is_typed cs zs r.store [])
+types_scoped cs zs es r [] = subst (λ g. TypesStore g zs) (heads_closed cs zs) (store_is_typed cs zs r.store [])
 types_scoped cs zs es r (l ∷ ls) = types-extended l.1 (scoped ls (closed (slice_get cs) (slice_get (meta_types zs)))) zs (types_scoped cs zs es r ls)
 
 pub left_typed : (s : Stored) (e : Equation) → IsReady s (e ∷ []) → IsTypedThere s e.left

@@ -5,6 +5,7 @@ pub use Rattle.metavars.specs.Stored
 pub mod Steps
 pub mod Narrowed
 pub mod Gathered
+pub mod Sided
 pub mod Examined
 pub mod Passes
 pub mod Answers

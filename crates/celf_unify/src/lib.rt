@@ -9,6 +9,7 @@ mod narrow;
 mod pass;
 mod places;
 mod put_in;
+mod side;
 mod step;
 mod whole;
 
