@@ -7,5 +7,7 @@ pub mod Narrowed
 pub mod Gathered
 pub mod Sided
 pub mod Examined
+pub mod Judged
+pub mod Matching
 pub mod Passes
 pub mod Answers

@@ -2,15 +2,19 @@
 #![tactic(auto)]
 
 mod answer;
+mod apart;
 mod examine;
 mod gather;
 mod invert;
 mod narrow;
+mod parts;
 mod pass;
 mod places;
 mod put_in;
 mod side;
+mod spines;
 mod step;
+mod verdict;
 mod whole;
 
 pub use answer::{Clash, Unified};

@@ -4,7 +4,7 @@ use Rattle.celf_constraints.specs.Equated.{plain_equation}
 use Rattle.metavars.specs.Stored.{constants, additions}
 use Rattle.celf_unify.specs.Gathered.{Gathers}
 use Rattle.celf_unify.specs.Passes.{Advances}
-use Rattle.celf_unify.proofs.Parts.{ok_more}
+use Rattle.celf_unify.proofs.Grown.{ok_more}
 use Rattle.celf_unify.proofs.Stepping.{may_take, ready_after, typed_after, advanced}
 use Rattle.celf_unify.proofs.pass.advance.Goals as goal
 

@@ -5,7 +5,7 @@ use Rattle.celf_constraints.specs.Equated.{plain_equation, equations_in}
 use Rattle.metavars.specs.Stored.{constants, additions}
 use Rattle.celf_unify.specs.Gathered.{Gathers}
 use Rattle.celf_unify.specs.Passes.{Works, PassEnds}
-use Rattle.celf_unify.proofs.Parts.{ok_more}
+use Rattle.celf_unify.proofs.Grown.{ok_more}
 use Rattle.celf_unify.proofs.Passing.{first_typed, first_step, pass_left, pass_clash, pass_works}
 use Rattle.celf_unify.proofs.pass.one_pass.Goals as goal
 

@@ -1,6 +1,6 @@
 use Rattle.std.proofs.Common.{subst, map}
 use Rattle.celf_constraints.specs.Equated.{plain_equation}
-use Rattle.celf_unify.proofs.Parts.{part_then}
+use Rattle.celf_unify.proofs.Grown.{part_then}
 use Rattle.celf_unify.proofs.Passing.{Run, run_advances, state_advances, run_left, run_clash}
 use Rattle.celf_unify.proofs.pass.run.Goals as goal
 

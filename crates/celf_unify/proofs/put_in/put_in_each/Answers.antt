@@ -1,6 +1,6 @@
 use Rattle.std.proofs.Common.{map, sym}
 use Rattle.celf_constraints.specs.Equated.{plain_equation}
-use Rattle.celf_unify.proofs.Parts.{under_next}
+use Rattle.celf_unify.proofs.Grown.{under_next}
 use Rattle.celf_unify.proofs.Readiness.{ready_at}
 use Rattle.celf_unify.proofs.put_in.put_in_each.Goals as goal
 

@@ -5,7 +5,7 @@ use Rattle.celf_constraints.specs.Equated.{equations_in}
 use Rattle.metavars.specs.Stored.{constants, additions}
 use Rattle.celf_unify.specs.Passes.{PassAnswers}
 use Rattle.celf_unify.proofs.Passing.{pass_follows, left_answers}
-use Rattle.celf_unify.proofs.Parts.{part_same, part_then}
+use Rattle.celf_unify.proofs.Grown.{part_same, part_then}
 use Rattle.celf_unify.proofs.whole.unify.Goals as goal
 
 pub loop-left-init : goal.loop-left-init

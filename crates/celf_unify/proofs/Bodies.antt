@@ -40,7 +40,7 @@ module _ (constants metas : Types) where
 
   -- Of two lambdas the bodies are left, under one local more.
   pub apart_lams : (e : Equation) (m k n : Mode) (b c : PlainObject) (d a : SimpleType) → TypedEquation constants metas e → e.left ≡ lam m b → e.right ≡ lam k c → e.type ≡ arrow n d a
-      → (f : Equation) → f.locals ≡ (m, d) ∷ e.locals → f.left ≡ b → f.right ≡ c → f.type ≡ a → TakenApart constants metas e (f ∷ [])
+      → (f : Equation) → f.locals ≡ (n, d) ∷ e.locals → f.left ≡ b → f.right ≡ c → f.type ≡ a → TakenApart constants metas e (f ∷ [])
   apart_lams e m k n b c d a t x y z f fl fx fy fz = subst (λ o. TakenApart constants metas o (f ∷ [])) (sym whole) (subst (λ o. TakenApart constants metas (record { locals = e.locals; left = lam m b; right = lam m c; type = arrow m d a }) (o ∷ [])) (sym part) (lams_apart e.locals m b c d a))
     where
       typed_lam : (o : PlainObject) (j : Mode) (u : PlainObject) → SimplyTyped (scoped e.locals (closed constants metas)) o e.type → o ≡ lam j u → n ≡ j
@@ -59,7 +59,10 @@ module _ (constants metas : Types) where
           same x y z = rw (← x, ← y, ← z) refl
 
       part : f ≡ record { locals = (m, d) ∷ e.locals; left = b; right = c; type = a }
-      part = rw (← fl, ← fx, ← fy, ← fz) refl
+      part = same (fl ∙ ap (λ j. (j, d) ∷ e.locals) modes) fx fy fz
+        where
+          same : f.locals ≡ (m, d) ∷ e.locals → f.left ≡ b → f.right ≡ c → f.type ≡ a → f ≡ record { locals = (m, d) ∷ e.locals; left = b; right = c; type = a }
+          same fl fx fy fz = rw (← fl, ← fx, ← fy, ← fz) refl
 
   pairs_apart : (ls : Locals) (l k r s : PlainObject) (c d : SimpleType)
       → TakenApart constants metas (record { locals = ls; left = pair l r; right = pair k s; type = simple_with c d }) (record { locals = ls; left = r; right = s; type = d } ∷ record { locals = ls; left = l; right = k; type = c } ∷ [])
