@@ -12,7 +12,7 @@ use Rattle.reach_laws.specs.Rest.{ComesDown, down_joined, down_listed, down_lam,
 use Rattle.solver_laws.specs.Reduced.{Reduced}
 use Rattle.celf_unify.specs.Examined.{TakenApart}
 
-the_one : {x e : Equation} → Listed x (e ∷ []) → e ≡ x
+pub the_one : {x e : Equation} → Listed x (e ∷ []) → e ≡ x
 the_one listed_here = refl
 the_one {e = e} (listed_later l) = elim l [ ]
 

@@ -22,7 +22,7 @@ use Rattle.celf_unify.specs.Examined.{ClashOf}
 pub popped : (s t : List Declared) (e : Declared) → s ≡ t ++ e ∷ [] → map plain_equation s ≡ map plain_equation t ++ plain_equation e ∷ []
 popped s t e h = ap (map plain_equation) h ∙ map-append plain_equation t (e ∷ [])
 
-size_append : (a b : List Equation) → work_size (a ++ b) ≡ work_size a + work_size b
+pub size_append : (a b : List Equation) → work_size (a ++ b) ≡ work_size a + work_size b
 size_append [] b = omega arith
 size_append (e ∷ a) b = let h = size_append a b in omega (arith, h)
 

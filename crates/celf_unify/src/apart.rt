@@ -7,9 +7,10 @@ ghost use Rattle.clf_syntax.specs.PlainSimple.{plain_simple};
 ghost use Rattle.clf_syntax.specs.TypeTree.{SimpleTelescope, base, lax};
 ghost use Rattle.clf_syntax.specs.Wide.{IsWant};
 ghost use Rattle.store_laws.specs.Additions.{meta_types};
-ghost use Rattle.pattern_laws.specs.Equations.{scoped};
+ghost use Rattle.pattern_laws.specs.Equations.{Locals, scoped};
 ghost use Rattle.pattern_laws.specs.Instantiations.{closed};
-ghost use Rattle.celf_constraints.specs.Equated.{plain_equation, plain_locals};
+ghost use Rattle.clf_simple.specs.Scope.{scope};
+ghost use Rattle.celf_constraints.specs.Equated.{plain_equation};
 ghost use Rattle.metavars.specs.Stored.{additions};
 ghost use Rattle.celf_unify.specs.Gathered.{consts_in, metas_in};
 ghost use Rattle.celf_unify.specs.Judged.{FindsSome, IsRigid, Judges};
@@ -18,8 +19,8 @@ use crate::parts::{lambda_parts, neutral_of, pair_parts};
 use crate::places::numbered;
 use crate::spines::argument_parts;
 use crate::verdict::Verdict;
-use celf_constraints::{Equation, mentions};
-use clf_syntax::{Head, Obj, Simple, SimpleEntry, Want};
+use celf_constraints::{Equation, mentions, scope_of};
+use clf_syntax::{Head, Obj, Simple, Want};
 use metavars::Store;
 
 /// What comes of an equation whose sides have no metavariable as head.
@@ -92,7 +93,8 @@ fn neutrals(store: &Store, equation: &Equation) -> Result<Verdict, Want>
     if left.head != right.head {
         return Ok(Verdict::Clash);
     }
-    match head_type(store, locals, left.head) {
+    let types = scope_of(alloc, locals)?;
+    match head_type(store, types.as_slice(), left.head) {
         None => unreachable!(),
         Some(ty) => {
             match argument_parts(alloc, locals, left.spine.as_slice(), right.spine.as_slice(), ty)? {
@@ -103,25 +105,26 @@ fn neutrals(store: &Store, equation: &Equation) -> Result<Verdict, Want>
     }
 }
 
-/// The simple type of a head over the locals.
-fn head_type<'a>(store: &'a Store, locals: &'a [SimpleEntry], head: Head) -> Option<&'a Simple>
-    ensures { option_map (λ t. plain_simple t.now) result
-        ≡ scoped (plain_locals locals.now) (closed (consts_in store.now) (metas_in store.now)) head }
+/// The simple type of a head, where `types` has those of the locals, the oldest first.
+fn head_type<'a>(store: &'a Store, types: &[&'a Simple], head: Head) -> Option<&'a Simple>
+    ensures { (ls : Locals) → scope types.now ≡ map (λ l. l.1) ls
+        → option_map (λ t. plain_simple t.now) result
+        ≡ scoped ls (closed (consts_in store.now) (metas_in store.now)) head }
 {
     match head {
         Head::Const(place) => store.consts().get(place as usize),
         Head::Meta(meta) => store.metas().get(meta as usize),
-        Head::Var(index) => local_type(locals, index),
+        Head::Var(index) => local_type(types, index),
     }
 }
 
-/// The simple type of a local, the newest one being the last.
-fn local_type<'a>(locals: &'a [SimpleEntry], index: u32) -> Option<&'a Simple>
-    ensures { option_map (λ t. plain_simple t.now) result ≡ slice_get (map (λ l. l.1) (plain_locals locals.now)) index }
+/// The simple type of a local: the newest one is the last.
+fn local_type<'a>(types: &[&'a Simple], index: u32) -> Option<&'a Simple>
+    ensures { option_map (λ t. plain_simple t.now) result ≡ slice_get (scope types.now) index }
 {
     let index = index as usize;
-    if index < locals.len() {
-        Some(&locals[locals.len() - 1 - index].ty)
+    if index < types.len() {
+        Some(types[types.len() - 1 - index])
     } else {
         None
     }
