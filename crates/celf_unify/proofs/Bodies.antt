@@ -17,7 +17,7 @@ the_one listed_here = refl
 the_one {e = e} (listed_later l) = elim l [ ]
 
 module _ (constants metas : Types) where
-  reduced_one : (e : Equation) (ds : List Equation) → ComesDown constants metas ds e → ((x : Equation) → Listed x ds → PartOf constants metas e x) → Reduced constants metas (e ∷ []) ds
+  pub reduced_one : (e : Equation) (ds : List Equation) → ComesDown constants metas ds e → ((x : Equation) → Listed x ds → PartOf constants metas e x) → Reduced constants metas (e ∷ []) ds
   reduced_one e ds h f = record {
     down = (λ x l. subst (ComesDown constants metas ds) (the_one l) h);
     met = (λ x l. (e, listed_here, f x l));
