@@ -57,7 +57,7 @@ kinds e f = ap kind (sym e ∙ f)
 
 module _ (g : Assignment) where
   pub lambda_side : (o : PlainObject) (n : Mode) (d c t : SimpleType) → SimplyTyped g o t → t ≡ arrow n d c → (b : PlainObject) × IsLambda o b
-  lambda_side (lam m b) n d c t p e = (b, m, refl)
+  lambda_side (lam m b) n d c t p e = (b, (m, refl))
   lambda_side (pair l r) n d c t p e = absurd (let h = kinds p.2 e in omega (arith, h))
   lambda_side unit n d c t p e = absurd (let h = kinds p e in omega (arith, h))
   lambda_side (monadic x) n d c t p e = absurd (let h = kinds p.1 e in omega (arith, h))

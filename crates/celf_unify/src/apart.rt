@@ -1,5 +1,5 @@
 //! Equations whose sides have no metavariable as head are taken apart.
-ghost use Rattle.std.specs.Prelude.{◌≡◌, ℕ, IfErr, IfOk, length, map};
+ghost use Rattle.std.specs.Prelude.{◌≡◌, ◌↔◌, ℕ, IfErr, IfOk, IsTrue, length, map};
 ghost use Rattle.std.specs.List.{slice_get};
 ghost use Rattle.std.specs.Option.{option_map};
 ghost use Rattle.clf_syntax.specs.Plain.{plain_obj};
@@ -90,7 +90,7 @@ fn neutrals(store: &Store, equation: &Equation) -> Result<Verdict, Want>
     let locals = equation.locals.as_slice();
     let left = neutral_of(&equation.left);
     let right = neutral_of(&equation.right);
-    if left.head != right.head {
+    if !is_same_head(left.head, right.head) {
         return Ok(Verdict::Clash);
     }
     let types = scope_of(alloc, locals)?;
@@ -105,6 +105,26 @@ fn neutrals(store: &Store, equation: &Equation) -> Result<Verdict, Want>
     }
 }
 
+/// Whether the heads are the same.
+fn is_same_head(head: Head, other: Head) -> bool
+    ensures { IsTrue result ↔ (head ≡ other) }
+{
+    match head {
+        Head::Const(place) => match other {
+            Head::Const(second) => place == second,
+            Head::Var(_) | Head::Meta(_) => false,
+        },
+        Head::Var(index) => match other {
+            Head::Var(second) => index == second,
+            Head::Const(_) | Head::Meta(_) => false,
+        },
+        Head::Meta(meta) => match other {
+            Head::Meta(second) => meta == second,
+            Head::Const(_) | Head::Var(_) => false,
+        },
+    }
+}
+
 /// The simple type of a head, where `types` has those of the locals, the oldest first.
 fn head_type<'a>(store: &'a Store, types: &[&'a Simple], head: Head) -> Option<&'a Simple>
     ensures { (ls : Locals) → scope types.now ≡ map (λ l. l.1) ls
@@ -112,10 +132,17 @@ fn head_type<'a>(store: &'a Store, types: &[&'a Simple], head: Head) -> Option<&
         ≡ scoped ls (closed (consts_in store.now) (metas_in store.now)) head }
 {
     match head {
-        Head::Const(place) => store.consts().get(place as usize),
-        Head::Meta(meta) => store.metas().get(meta as usize),
+        Head::Const(place) => type_at(store.consts(), place),
+        Head::Meta(meta) => type_at(store.metas(), meta),
         Head::Var(index) => local_type(types, index),
     }
+}
+
+/// The simple type at a place of a table.
+fn type_at<'a>(types: &'a [Simple], place: u32) -> Option<&'a Simple>
+    ensures { option_map (λ t. plain_simple t.now) result ≡ slice_get (map plain_simple types.now) place }
+{
+    types.get(place as usize)
 }
 
 /// The simple type of a local: the newest one is the last.

@@ -1,7 +1,7 @@
 //! The parts of objects, and equations of them.
 ghost use Rattle.std.specs.Prelude.{◌≡◌, [], ◌∷◌, ◌++◌, IfOk, map};
 ghost use Rattle.clf_syntax.specs.Plain.{plain_neutral, plain_obj};
-ghost use Rattle.clf_syntax.specs.PlainSimple.{plain_simple};
+ghost use Rattle.clf_syntax.specs.PlainSimple.{plain_simple, plain_simple_entry};
 ghost use Rattle.clf_syntax.specs.Tree.{PlainNeutral, PlainObject, atomic, pair};
 ghost use Rattle.clf_syntax.specs.TypeTree.{arrow, simple_with};
 ghost use Rattle.celf_constraints.specs.Equated.{plain_equation, plain_locals};
@@ -96,8 +96,17 @@ fn under(
     ensures { IfOk result (λ inner.
         plain_locals inner.items ≡ (mode, plain_simple ty.now) ∷ plain_locals locals.now) }
 {
+    let local = local_of(alloc, mode, ty)?;
+    with_local(copy_locals(alloc, locals)?, local)
+}
+
+/// A local of this type.
+#[tactic(auto, using(clf_syntax::specs::PlainSimple::plain_simple_laws))]
+fn local_of(alloc: Global, mode: Mode, ty: &Simple) -> Result<SimpleEntry, AllocError>
+    ensures { IfOk result (λ local. plain_simple_entry local ≡ (mode, plain_simple ty.now)) }
+{
     let ty = ty.copy(alloc)?;
-    with_local(copy_locals(alloc, locals)?, SimpleEntry { mode, ty })
+    Ok(SimpleEntry { mode, ty })
 }
 
 /// One local more.

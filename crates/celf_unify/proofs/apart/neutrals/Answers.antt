@@ -1,11 +1,16 @@
 use Rattle.std.proofs.Common.{map, ap, sym, subst, ◌∙◌}
-use Rattle.clf_syntax.specs.Plain.{plain_obj}
+use Rattle.std.specs.Option.{option_map}
+use Rattle.clf_syntax.specs.Tree.{head_alone, spine_on}
+use Rattle.clf_syntax.specs.Plain.{plain_obj, plain_elim}
 use Rattle.clf_syntax.specs.PlainSimple.{plain_simple}
 use Rattle.pattern_laws.specs.Equations.{scoped}
 use Rattle.pattern_laws.specs.Instantiations.{closed}
+use Rattle.clf_simple.specs.Scope.{scope}
 use Rattle.celf_constraints.specs.Equated.{plain_equation, plain_locals}
 use Rattle.celf_unify.specs.Gathered.{consts_in, metas_in}
-use Rattle.celf_unify.proofs.Insides.{atomic_side, clash_neutrals, parts_neutrals}
+use Rattle.celf_unify.specs.Judged.{Pairs}
+use Rattle.celf_unify.proofs.Insides.{atomic_side}
+use Rattle.celf_unify.proofs.Families.{spine_typed, no_type, left_rigid, other_heads, unmatched, paired}
 use Rattle.celf_unify.proofs.apart.neutrals.Goals as goal
 
 pub neutral_of-left-requires : goal.neutral_of-left-requires
@@ -14,14 +19,19 @@ neutral_of-left-requires c = record { atomic = atomic_side (scoped (plain_locals
 pub neutral_of-right-requires : goal.neutral_of-right-requires
 neutral_of-right-requires c = record { atomic = atomic_side (scoped (plain_locals c.args.equation.now.locals.items) (closed (consts_in c.args.store.now) (metas_in c.args.store.now))) (plain_obj c.args.equation.now.right) c.requires.family.0 (plain_simple c.args.equation.now.ty) c.requires.rigid.typed.1 c.requires.family.1 }
 
-pub returns-then-ne-clause-judged : goal.returns-then-ne-clause-judged
-returns-then-ne-clause-judged c = ?
+pub returns-then-is_same_head-clause-judged : goal.returns-then-is_same_head-clause-judged
+returns-then-is_same_head-clause-judged c = other_heads c.args.store.now (plain_equation c.args.equation.now) c.requires.rigid c.neutral_of-left.result.now c.neutral_of-right.result.now c.neutral_of-left.ensures c.neutral_of-right.ensures ?
 
 pub unreachable-requires : goal.unreachable-requires
-unreachable-requires c = ?
+unreachable-requires c = no_type c.args.store.now (plain_equation c.args.equation.now) c.requires.rigid c.neutral_of-left.result.now c.neutral_of-right.result.now c.neutral_of-left.ensures c.neutral_of-right.ensures
+    (sym (c.head_type.ensures (plain_locals c.args.equation.now.locals.items) (ap scope c.as_slice.ensures.value ∙ c.in_ok-types.ensures ∙ ap (λ ls. map (λ l. l.1) (plain_locals ls)) c.as_slice-locals.ensures.value)) ∙ ap (option_map (λ t. plain_simple t.now)) ?)
 
 pub returns-in-None-2-clause-judged : goal.returns-in-None-2-clause-judged
-returns-in-None-2-clause-judged c = ?
+returns-in-None-2-clause-judged c = unmatched c.args.store.now (plain_equation c.args.equation.now) c.requires.rigid c.neutral_of-left.result.now c.neutral_of-right.result.now c.neutral_of-left.ensures c.neutral_of-right.ensures ?
+    (subst (λ o. Pairs (scoped (plain_locals c.args.equation.now.locals.items) (closed (consts_in c.args.store.now) (metas_in c.args.store.now))) (plain_locals c.args.equation.now.locals.items) (spine_on (map plain_elim c.neutral_of-left.result.now.spine) (head_alone c.neutral_of-left.result.now.head))
+    (spine_on (map plain_elim c.neutral_of-right.result.now.spine) (head_alone c.neutral_of-left.result.now.head)) (option_map (λ v. map plain_equation v.items) o)) c.in-None-2.is ?)
 
 pub returns-clause-judged : goal.returns-clause-judged
-returns-clause-judged c = ?
+returns-clause-judged c = paired c.args.store.now (plain_equation c.args.equation.now) c.requires.rigid c.neutral_of-left.result.now c.neutral_of-right.result.now c.neutral_of-left.ensures c.neutral_of-right.ensures ? (map plain_equation c.in-Some-2.parts.items) c.requires.family
+    (subst (λ o. Pairs (scoped (plain_locals c.args.equation.now.locals.items) (closed (consts_in c.args.store.now) (metas_in c.args.store.now))) (plain_locals c.args.equation.now.locals.items) (spine_on (map plain_elim c.neutral_of-left.result.now.spine) (head_alone c.neutral_of-left.result.now.head))
+    (spine_on (map plain_elim c.neutral_of-right.result.now.spine) (head_alone c.neutral_of-left.result.now.head)) (option_map (λ v. map plain_equation v.items) o)) c.in-Some-2.is ?)

@@ -13,5 +13,5 @@ use Rattle.celf_unify.proofs.Together.{Along}
 use Rattle.celf_unify.proofs.spines.argument_parts.Given as goal
 
 abbrev pub invariant-loop-place : goal.invariant-loop-place
-invariant-loop-place l = (g : Assignment) (h : Head) → g h ≡ Some (plain_simple l.ty) → is_metavariable h ≡ false
+invariant-loop-place l = (g : Assignment) (h : Head) (u : SimpleType) → g h ≡ Some (plain_simple l.ty) → is_metavariable h ≡ false → SimplyTypedNeutral g (spine_on (map plain_elim l.left) (head_alone h)) u
     → Along g (plain_locals l.locals) (map plain_elim l.left) (map plain_elim l.right) h (plain_simple l.state.ty.now) (map plain_equation l.state.parts.items) (map plain_elim (drop l.place l.left)) (map plain_elim (drop l.place l.right))
