@@ -1,17 +1,21 @@
 -- An equation of two neutrals at a family, in memory.
 use Rattle.std.specs.Prelude.{ℕ, ◌≡◌, false, List, map, Option, Some, None, refl}
 use Rattle.std.proofs.Common.{ap, sym, subst, ◌∙◌}
+use Rattle.clf_syntax.specs.declared.tree.Elim.{Elim}
+use Rattle.clf_syntax.specs.declared.tree.Head.{Head}
 use Rattle.clf_syntax.specs.declared.tree.Neutral.{Neutral}
+use Rattle.clf_syntax.specs.declared.tree.SimpleEntry.{SimpleEntry}
 use Rattle.clf_syntax.specs.Tree.{PlainNeutral, atomic, head_alone, head_of, spine_on}
 use Rattle.clf_syntax.specs.TypeTree.{SimpleType, base}
 use Rattle.clf_syntax.specs.Plain.{plain_neutral, plain_elim, plain-neutral}
-use Rattle.clf_syntax.specs.Simple.{SimplyTyped, SimplyTypedNeutral}
+use Rattle.clf_syntax.specs.Simple.{Assignment, SimplyTyped, SimplyTypedNeutral}
 use Rattle.clf_simple.proofs.Lists.{neutral_head}
 use Rattle.hered_subst.specs.TypedEnvironments.{is_metavariable}
 use Rattle.pattern_laws.specs.Instantiations.{closed}
 use Rattle.pattern_laws.specs.Equations.{Equation, scoped}
 use Rattle.unify_laws.specs.Parts.{SameShape}
 use Rattle.solver_laws.specs.Reduced.{Clashes}
+use Rattle.celf_constraints.specs.Equated.{plain_locals}
 use Rattle.metavars.specs.Stored.{Stored}
 use Rattle.celf_unify.specs.Gathered.{consts_in, metas_in}
 use Rattle.celf_unify.specs.Examined.{TakenApart}
@@ -47,3 +51,9 @@ module _ (s : Stored) (e : Equation) (rigid : IsRigid s e) (l r : Neutral) (is_l
         → TakenApart (consts_in s) (metas_in s) e ds
     paired ds (n, i) (t, m) = parts_neutrals s e rigid (plain_neutral l) (plain_neutral r) is_left is_right n t ds i
         (subst (λ x. Matched (scoped e.locals (closed (consts_in s) (metas_in s))) e.locals x (plain_neutral r) t ds) (sym (plain-neutral l)) (subst (λ x. Matched (scoped e.locals (closed (consts_in s) (metas_in s))) e.locals (spine_on (map plain_elim l.spine) (head_alone l.head)) x t ds) right_spine m))
+
+-- the same lists, read from memory
+pub pairs_there : (g : Assignment) (locals given : List SimpleEntry) (xs ys ls rs : List Elim) (h : Head) (o : Option (List Equation)) → locals ≡ given → xs ≡ ls → ys ≡ rs
+    → Pairs g (plain_locals locals) (spine_on (map plain_elim xs) (head_alone h)) (spine_on (map plain_elim ys) (head_alone h)) o → Pairs g (plain_locals given) (spine_on (map plain_elim ls) (head_alone h)) (spine_on (map plain_elim rs) (head_alone h)) o
+pairs_there g locals given xs ys ls rs h o e f i p = subst (λ l. Pairs g (plain_locals l) (spine_on (map plain_elim ls) (head_alone h)) (spine_on (map plain_elim rs) (head_alone h)) o) e
+    (subst (λ l. Pairs g (plain_locals locals) (spine_on (map plain_elim l) (head_alone h)) (spine_on (map plain_elim rs) (head_alone h)) o) f (subst (λ l. Pairs g (plain_locals locals) (spine_on (map plain_elim xs) (head_alone h)) (spine_on (map plain_elim l) (head_alone h)) o) i p))
