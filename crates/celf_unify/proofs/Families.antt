@@ -1,11 +1,11 @@
 -- An equation of two neutrals at a family, in memory.
-use Rattle.std.specs.Prelude.{ℕ, ◌≡◌, false, List, map, Option, Some, None, refl}
+use Rattle.std.specs.Prelude.{ℕ, ◌≡◌, false, List, map, Option, Some, None}
 use Rattle.std.proofs.Common.{ap, sym, subst, ◌∙◌}
 use Rattle.clf_syntax.specs.declared.tree.Elim.{Elim}
 use Rattle.clf_syntax.specs.declared.tree.Head.{Head}
 use Rattle.clf_syntax.specs.declared.tree.Neutral.{Neutral}
 use Rattle.clf_syntax.specs.declared.tree.SimpleEntry.{SimpleEntry}
-use Rattle.clf_syntax.specs.Tree.{PlainNeutral, atomic, head_alone, head_of, spine_on}
+use Rattle.clf_syntax.specs.Tree.{atomic, head_alone, spine_on}
 use Rattle.clf_syntax.specs.TypeTree.{SimpleType, base}
 use Rattle.clf_syntax.specs.Plain.{plain_neutral, plain_elim, plain-neutral}
 use Rattle.clf_syntax.specs.Simple.{Assignment, SimplyTyped, SimplyTypedNeutral}

@@ -1,37 +1,34 @@
 -- Equations whose sides have no metavariable as head.
-use Rattle.std.specs.Prelude.{ℕ, zero, suc, ◌+◌, ◌<◌, ◌≡◌, ◌⊎◌, Bool, true, false, List, [], ◌∷◌, ◌++◌, length, map, reverse, Option, Some, None, refl}
+use Rattle.std.specs.Prelude.{ℕ, zero, suc, ◌<◌, ◌≡◌, ◌⊎◌, true, false, List, [], ◌∷◌, ◌++◌, length, map, Some, None, refl}
 use Rattle.std.proofs.Common.{ap, sym, subst, ◌∙◌, arith, inl, inr, ⊎_elim}
-use Rattle.std.proofs.lemmas.List.{map-append, reverse-append}
+use Rattle.std.proofs.lemmas.List.{reverse-append}
 use Rattle.std.proofs.lemmas.Option.{slice_get_within}
 use Rattle.std.specs.List.{slice_get}
-use Rattle.std.specs.Borrow.{Bor}
-use Rattle.std.specs.Option.{option_map}
 use Rattle.clf_syntax.specs.declared.tree.Mode.{Mode}
 use Rattle.clf_syntax.specs.declared.tree.Head.{Head}
 use Rattle.clf_syntax.specs.declared.tree.Head.TheVariants.{Const, Var, Meta}
-use Rattle.clf_syntax.specs.declared.tree.Simple.{Simple}
 use Rattle.clf_syntax.specs.declared.tree.SimpleEntry.{SimpleEntry}
 use Rattle.clf_syntax.specs.Tree.{PlainObject, lam, pair, unit, monadic, atomic, hole, PlainNeutral, PlainExpression, head_of}
 use Rattle.clf_syntax.specs.TypeTree.{SimpleType, base, arrow, simple_with, simple_top, lax, SimpleTelescope}
-use Rattle.clf_syntax.specs.PlainSimple.{plain_simple, plain_simple_entry}
-use Rattle.clf_syntax.specs.Simple.{Assignment, extended, SimplyTyped}
+use Rattle.clf_syntax.specs.PlainSimple.{plain_simple_entry}
+use Rattle.clf_syntax.specs.Simple.{Assignment, SimplyTyped}
 use Rattle.clf_syntax.proofs.OccursLaws.{not_both}
 use Rattle.hered_subst.specs.TypedEnvironments.{is_metavariable}
 use Rattle.hered_subst.proofs.SimpleTyping.{to_typed, of_typed}
 use Rattle.trace_equal.specs.Exchange.{Joined, stop}
 use Rattle.trace_equal.proofs.Joined.{joined_is_equivalence}
-use Rattle.subst_laws.specs.Environments.{Instantiation, instant}
+use Rattle.subst_laws.specs.Environments.{instant}
 use Rattle.store_laws.specs.Additions.{meta_types}
 use Rattle.store_laws.specs.Mentions.{mentions}
 use Rattle.store_laws.proofs.Mentioned.{typed_where}
-use Rattle.pattern_laws.specs.Instantiations.{Types, closed, Instantiates}
+use Rattle.pattern_laws.specs.Instantiations.{Types, closed}
 use Rattle.pattern_laws.specs.Equations.{Locals, Equation, Solves, scoped, Listed}
 use Rattle.pattern_laws.proofs.Instances.{scoped_meta}
 use Rattle.unify_laws.specs.Parts.{SameShape, shape_head, shape_app, shape_fst, shape_snd, PartAt}
 use Rattle.unify_laws.proofs.PutIn.{ground_clash}
 use Rattle.unify_laws.proofs.Steps.{neutral_clash}
-use Rattle.reach_laws.specs.Rest.{ComesDown, down_listed, down_neutral, PartOf, part_itself, part_argument, GoesNoFurther}
-use Rattle.solver_laws.specs.Reduced.{Reduced, LeftOver, Clashes, work_size}
+use Rattle.reach_laws.specs.Rest.{down_listed, down_neutral, PartOf, part_itself, part_argument}
+use Rattle.solver_laws.specs.Reduced.{LeftOver, Clashes}
 use Rattle.solver_laws.specs.Steps.{flipped}
 use Rattle.celf_constraints.specs.Equated.{plain_locals}
 use Rattle.metavars.specs.Stored.{Stored, constants, additions}
@@ -40,7 +37,7 @@ use Rattle.celf_unify.specs.declared.step.Step.TheVariants.{Assign, Narrow}
 use Rattle.celf_unify.specs.Gathered.{consts_in, metas_in, StepOf}
 use Rattle.celf_unify.specs.Examined.{TakenApart}
 use Rattle.celf_unify.specs.Judged.{IsRigid, IsLambda, Matched, FindsSome}
-use Rattle.celf_unify.specs.Sided.{HasMetaHead, LacksMetaHead, IsPosed, StepOfLeft}
+use Rattle.celf_unify.specs.Sided.{LacksMetaHead, IsPosed, StepOfLeft}
 use Rattle.celf_unify.proofs.Bodies.{reduced_one}
 
 -- ---- sides by their type

@@ -1,14 +1,10 @@
 -- Loops over places.
-use Rattle.std.specs.Prelude.{ℕ, zero, suc, ◌+◌, ◌-◌, ◌<◌, ◌≤◌, ◌≡◌, Bool, true, false, nat_eq, nat_lt, if◌then◌else◌, List, [], ◌∷◌, ◌++◌, length, map, drop, get_or, refl}
-use Rattle.std.proofs.Common.{ap, sym, subst, ◌∙◌, arith, append_assoc, slice_index_or, add-one}
+use Rattle.std.specs.Prelude.{ℕ, zero, suc, ◌+◌, ◌<◌, ◌≤◌, ◌≡◌, Bool, true, false, List, [], ◌∷◌, ◌++◌, length, map, drop, get_or, refl}
+use Rattle.std.proofs.Common.{ap, sym, ◌∙◌, arith, append_assoc, slice_index_or, add-one}
 use Rattle.std.proofs.lemmas.List.{append-nil}
 use Rattle.std.proofs.Math.ListN.{drop_of_length-le}
-use Rattle.clf_syntax.specs.declared.tree.Head.TheVariants.{Var}
-use Rattle.clf_syntax.specs.Tree.{PlainObject, lam, PlainNeutral, app, head_alone}
-use Rattle.clf_syntax.specs.TypeTree.{SimpleType, arrow}
 use Rattle.clf_simple.proofs.Lists.{from_place}
-use Rattle.eta_laws.specs.Eta.{eta}
-use Rattle.pattern_laws.specs.Patterns.{Place, on, lams, arrows, blank, inverse, masked, mask_at}
+use Rattle.pattern_laws.specs.Patterns.{Place, masked, mask_at}
 use Rattle.celf_constraints.specs.declared.places.Place.{Place as Declared}
 use Rattle.celf_constraints.specs.Reading.{plain_place}
 

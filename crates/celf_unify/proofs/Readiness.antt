@@ -1,12 +1,8 @@
 -- The sides of equations that are ready are typed, as the store is.
-use Rattle.std.specs.Prelude.{ℕ, ◌+◌, ◌<◌, ◌≡◌, List, [], ◌∷◌, length, map, get_or, zero, suc, refl}
-use Rattle.std.proofs.Common.{sym, subst, arith}
+use Rattle.std.specs.Prelude.{ℕ, ◌<◌, ◌≡◌, List, [], ◌∷◌, length, map, get_or, zero, suc}
+use Rattle.std.proofs.Common.{subst, arith}
 use Rattle.std.specs.List.{slice_get}
-use Rattle.clf_syntax.specs.declared.tree.Head.{Head}
-use Rattle.clf_syntax.specs.declared.tree.Head.TheVariants.{Const, Var, Meta}
 use Rattle.clf_syntax.specs.TypeTree.{SimpleType}
-use Rattle.clf_syntax.specs.Simple.{assigned}
-use Rattle.clf_syntax.proofs.RenamingLaws.{ext}
 use Rattle.store_laws.specs.Additions.{Addition, meta_types}
 use Rattle.pattern_laws.specs.Instantiations.{closed}
 use Rattle.pattern_laws.specs.Equations.{Locals, scoped, Equation, TypedEquation}

@@ -1,5 +1,5 @@
 -- The arguments of a metavariable, read off its type.
-use Rattle.std.specs.Prelude.{ℕ, zero, suc, get_or, ◌+◌, ◌<◌, ◌≡◌, ◌⊎◌, Bool, true, false, List, [], ◌∷◌, ◌++◌, length, map, reverse, Some, None, refl}
+use Rattle.std.specs.Prelude.{ℕ, zero, suc, get_or, ◌<◌, ◌≡◌, ◌⊎◌, Bool, true, false, List, [], ◌∷◌, ◌++◌, length, map, reverse, Some, None, refl}
 use Rattle.std.proofs.Common.{ap, sym, subst, ◌∙◌, inl, inr, arith, ⊎_elim}
 use Rattle.std.proofs.lemmas.List.{map-append, reverse-append, length-append, length-map}
 use Rattle.std.specs.List.{slice_get}

@@ -1,11 +1,10 @@
 -- What an answer about one side says of an equation.
-use Rattle.std.specs.Prelude.{ℕ, ◌≡◌, ◌<◌, ◌⊎◌, Bool, true, false, List, [], ◌∷◌, length, map, reverse, Some, None, refl}
+use Rattle.std.specs.Prelude.{ℕ, ◌≡◌, ◌<◌, Bool, true, List, [], ◌∷◌, length, map, reverse, None, refl}
 use Rattle.std.proofs.Common.{ap, sym, subst, ◌∙◌, inl, inr, ⊎_elim}
 use Rattle.std.proofs.lemmas.List.{length-map, length-reverse}
 use Rattle.std.specs.List.{slice_get}
 use Rattle.store_laws.specs.Additions.{meta_types}
 use Rattle.clf_syntax.specs.declared.tree.Mode.{Mode}
-use Rattle.clf_syntax.specs.declared.tree.Obj.{Obj}
 use Rattle.clf_syntax.specs.declared.tree.Head.TheVariants.{Meta}
 use Rattle.clf_syntax.specs.Tree.{PlainObject, lam, pair, atomic, PlainNeutral, head_of}
 use Rattle.clf_syntax.specs.TypeTree.{SimpleType}
@@ -25,13 +24,12 @@ use Rattle.pattern_laws.specs.Equations.{Equation, Solves, scoped, listed_here}
 use Rattle.pattern_laws.specs.Patterns.{Place, IsFinal, inverted}
 use Rattle.pattern_laws.proofs.Instances.{scoped_in, scoped_meta}
 use Rattle.pattern_laws.proofs.Places.{occurring}
-use Rattle.unify_laws.specs.Parts.{SameShape}
 use Rattle.unify_laws.specs.Problems.{Problem, HasNone}
 use Rattle.unify_laws.proofs.Consequences.{of_listed}
 use Rattle.unify_laws.proofs.Steps.{shape_heads}
 use Rattle.reach_laws.specs.Reach.{Reaches}
 use Rattle.reach_laws.specs.Rest.{GoesNoFurther}
-use Rattle.reach_walk.specs.Answers.{IsPattern, IsClash, IsSame, IsPrune, IsAssign}
+use Rattle.reach_walk.specs.Answers.{IsClash, IsSame, IsPrune, IsAssign}
 use Rattle.reach_walk.proofs.OneReading.{stands_final}
 use Rattle.reach_walk.proofs.Premising.{pruning, clash_none, same_fewer}
 use Rattle.reach_walk.proofs.Reaching.{head_of_pattern}
@@ -43,9 +41,7 @@ use Rattle.celf_reach.specs.declared.answer.Reach.{Reach}
 use Rattle.celf_reach.specs.declared.answer.Reach.TheVariants as reach
 use Rattle.celf_reach.specs.Answered.{Answers, heads_of}
 use Rattle.metavars.specs.Stored.{Stored, constants, additions}
-use Rattle.celf_unify.specs.declared.step.Step.TheVariants.{Assign, Narrow}
 use Rattle.celf_unify.specs.declared.side.Sided.{Sided}
-use Rattle.celf_unify.specs.declared.side.Sided.TheVariants as sided
 use Rattle.celf_unify.specs.Gathered.{consts_in, metas_in}
 use Rattle.celf_unify.specs.Sided.{HasMetaHead, LacksMetaHead, SaysLeft, IsSaid, posed, IsPosed}
 

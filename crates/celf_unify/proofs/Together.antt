@@ -1,10 +1,10 @@
 -- Two neutrals, gone along together.
-use Rattle.std.specs.Prelude.{ℕ, suc, ◌+◌, ◌<◌, ◌≡◌, ◌⊎◌, true, false, List, [], ◌∷◌, ◌++◌, length, map, drop, reverse, Some, None, Option, refl}
+use Rattle.std.specs.Prelude.{ℕ, suc, ◌+◌, ◌≡◌, ◌⊎◌, true, false, List, [], ◌∷◌, ◌++◌, length, reverse, Some, None, refl}
 use Rattle.std.proofs.Common.{ap, sym, subst, ◌∙◌, arith, ⊎_elim}
 use Rattle.std.proofs.lemmas.List.{reverse-append, reverse-reverse}
 use Rattle.clf_syntax.specs.declared.tree.Mode.{Mode}
 use Rattle.clf_syntax.specs.declared.tree.Head.{Head}
-use Rattle.clf_syntax.specs.declared.tree.Simple.{Simple, Atom, Fun, With, Top, Monad}
+use Rattle.clf_syntax.specs.declared.tree.Simple.{Simple, Atom, Fun, Top, Monad}
 use Rattle.clf_syntax.specs.declared.tree.SimpleEntry.{SimpleEntry}
 use Rattle.clf_syntax.specs.Tree.{PlainObject, PlainNeutral, head_alone, app, fst, snd, head_of, PlainElimination, arg, first, second, eliminated, spine_on}
 use Rattle.clf_syntax.specs.TypeTree.{SimpleType, base, arrow, simple_with, simple_top, lax, SimpleTelescope}
@@ -15,11 +15,10 @@ use Rattle.subst_laws.proofs.Variables.{neutral_has_one_type}
 use Rattle.pattern_laws.specs.Equations.{Locals, Equation, Listed, listed_here, listed_later}
 use Rattle.pattern_laws.specs.Patterns.{functions}
 use Rattle.unify_laws.specs.Parts.{SameShape, shape_head, shape_app, shape_fst, shape_snd, PartAt, part_here, part_function, part_fst, part_snd}
-use Rattle.unify_laws.specs.Rigid.{size_neutral}
 use Rattle.reach_laws.proofs.Down.{listed_behind}
 use Rattle.answer_laws.proofs.InTurn.{listed_cases}
 use Rattle.solver_laws.specs.Reduced.{work_size}
-use Rattle.celf_unify.specs.Judged.{Matched, Matches, MatchesOn, Pairs}
+use Rattle.celf_unify.specs.Judged.{Matched, MatchesOn, Pairs}
 use Rattle.celf_unify.proofs.Bodies.{the_one}
 use Rattle.celf_unify.proofs.Gathering.{size_append}
 

@@ -6,7 +6,7 @@ use Rattle.clf_syntax.specs.TypeTree.{SimpleType}
 use Rattle.clf_syntax.specs.Simple.{Assignment, SimplyTypedNeutral}
 use Rattle.trace_equal.specs.Exchange.{Joined}
 use Rattle.store_laws.specs.Mentions.{mentions}
-use Rattle.pattern_laws.specs.Instantiations.{Types, closed}
+use Rattle.pattern_laws.specs.Instantiations.{closed}
 use Rattle.pattern_laws.specs.Equations.{Locals, Equation, Listed, TypedEquation}
 use Rattle.unify_laws.specs.Parts.{SameShape, PartAt}
 use Rattle.unify_laws.specs.Rigid.{size_neutral}

@@ -1,5 +1,6 @@
 //! What an equation gives to a metavariable that stands on distinct locals.
-ghost use Rattle.std.specs.Prelude.{◌≡◌, ◌<◌, [], ◌∷◌, ◌++◌, ℕ, if◌then◌else◌, false, nat_eq, true, IfErr, IfOk, map};
+ghost use Rattle.std.specs.Prelude.{◌≡◌, ◌<◌, [], ◌∷◌, ◌++◌, ℕ, false, nat_eq, true, IfErr, IfOk, map};
+ghost use Rattle.std.specs.Prelude.{if◌then◌else◌};
 ghost use Rattle.clf_syntax.specs.Occurs.{occurs};
 ghost use Rattle.clf_syntax.specs.Plain.{plain_obj};
 ghost use Rattle.clf_syntax.specs.Renamings.{renumbering_by};

@@ -63,7 +63,8 @@ fn on_fewer(store: &Store, meta: u32, mask: &[bool]) -> Result<Narrowed, Want>
 
 /// The arguments of a function type.
 fn shape_of<'a>(alloc: Global, ty: &'a Simple) -> Result<Shape<'a>, AllocError>
-    ensures { IfOk result (λ s. HasShape (plain_simple ty.now) (map plain_place s.places.items) (plain_simple s.end.now)) }
+    ensures { IfOk result
+        (λ s. HasShape (plain_simple ty.now) (map plain_place s.places.items) (plain_simple s.end.now)) }
 {
     shape_under(ty, Vec::new(alloc))
 }

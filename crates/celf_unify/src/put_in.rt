@@ -51,7 +51,8 @@ pub fn with_equation(
 /// An equation with all solutions put in.
 fn put_in(alloc: Global, store: &Store, equation: &Equation) -> Result<Equation, Want>
     requires ready { IsReady store.now (plain_equation equation.now ∷ []) }
-    ensures put_in { IfOk result (λ e. IsPutIn (additions store.now) (plain_equation equation.now) (plain_equation e)) }
+    ensures put_in { IfOk result
+        (λ e. IsPutIn (additions store.now) (plain_equation equation.now) (plain_equation e)) }
     ensures wanting { IfErr result IsWant }
 {
     Ok(Equation {

@@ -1,6 +1,5 @@
-use Rattle.std.proofs.Common.{map, ap, sym, ◌∙◌}
+use Rattle.std.proofs.Common.{ap, sym, ◌∙◌}
 use Rattle.std.specs.List.{slice_get}
-use Rattle.clf_syntax.specs.declared.tree.Head.TheVariants.{Const, Var, Meta}
 use Rattle.pattern_laws.specs.Equations.{scoped}
 use Rattle.pattern_laws.specs.Instantiations.{closed}
 use Rattle.celf_unify.specs.Gathered.{consts_in, metas_in}

@@ -1,10 +1,10 @@
-use Rattle.std.proofs.Common.{subst, sym}
+use Rattle.std.proofs.Common.{subst}
 use Rattle.clf_syntax.specs.Plain.{plain_obj}
 use Rattle.clf_syntax.specs.PlainSimple.{plain_simple}
 use Rattle.celf_constraints.specs.Equated.{plain_equation}
 use Rattle.celf_unify.specs.Gathered.{consts_in, metas_in}
-use Rattle.celf_unify.specs.Sided.{IsPosed, SaysLeft, posed}
-use Rattle.celf_unify.proofs.Insides.{step_left, clashes_flipped, posed_flipped}
+use Rattle.celf_unify.specs.Sided.{SaysLeft, posed}
+use Rattle.celf_unify.proofs.Insides.{step_left}
 use Rattle.celf_unify.proofs.examine.look.Goals as goal
 
 pub returns-in-Step-clause-judged : goal.returns-in-Step-clause-judged

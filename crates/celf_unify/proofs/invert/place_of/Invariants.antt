@@ -1,5 +1,5 @@
 -- The local stands at none of the places that were passed.
-use Rattle.std.proofs.Common.{ℕ, ◌≡◌, ◌<◌, ◌≤◌, ◌+◌, length, map, drop}
+use Rattle.std.proofs.Common.{ℕ, ◌≡◌, ◌+◌, map, drop}
 use Rattle.pattern_laws.specs.Patterns.{inverse}
 use Rattle.celf_constraints.specs.Reading.{plain_place}
 use Rattle.celf_unify.proofs.invert.place_of.Given as goal

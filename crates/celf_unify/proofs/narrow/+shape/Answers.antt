@@ -1,8 +1,8 @@
-use Rattle.std.proofs.Common.{◌≡◌, ◌∙◌, map, reverse, ap, sym, subst, refl, ⊎_elim, arith}
+use Rattle.std.proofs.Common.{◌∙◌, map, reverse, ap, sym, subst}
 use Rattle.std.proofs.lemmas.Result.{IfOk-weaker}
 use Rattle.clf_syntax.specs.TypeTree.{arrow}
 use Rattle.clf_syntax.specs.PlainSimple.{plain_simple, plain-SimpleFun}
-use Rattle.pattern_laws.specs.Patterns.{arrows, functions}
+use Rattle.pattern_laws.specs.Patterns.{arrows}
 use Rattle.celf_constraints.specs.Reading.{plain_place}
 use Rattle.celf_unify.specs.Narrowed.{HasShape}
 use Rattle.celf_unify.proofs.Shapes.{turned, shape_next, no_function}

@@ -1,4 +1,4 @@
-use Rattle.std.proofs.Common.{◌∙◌, arith}
+use Rattle.std.proofs.Common.{arith}
 use Rattle.celf_unify.proofs.Placing.{mask_within, mask_outside}
 use Rattle.celf_unify.proofs.narrow.is_kept.Goals as goal
 

@@ -1,5 +1,4 @@
-use Rattle.std.proofs.lemmas.Result.{on_ok_weaker}
-use Rattle.celf_unify.proofs.Shapes.{still_there, still_unsolved, narrowed_to}
+use Rattle.celf_unify.proofs.Shapes.{still_there, still_unsolved}
 use Rattle.celf_unify.proofs.narrow.narrow.Goals as goal
 
 pub solve-requires-clause-there : goal.solve-requires-clause-there

@@ -1,4 +1,4 @@
-use Rattle.std.proofs.Common.{◌≡◌, ◌<◌, ◌∙◌, map, ap, sym, subst}
+use Rattle.std.proofs.Common.{◌<◌, ◌∙◌, map, ap, sym, subst}
 use Rattle.clf_syntax.specs.declared.tree.Obj.{At}
 use Rattle.clf_syntax.specs.Plain.{plain_obj, plain_neutral, plain-At}
 use Rattle.clf_syntax.specs.PlainSimple.{plain_simple}

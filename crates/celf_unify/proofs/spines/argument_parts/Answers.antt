@@ -1,4 +1,4 @@
-use Rattle.std.proofs.Common.{◌≡◌, ◌+◌, ◌-◌, ◌<◌, ◌≤◌, ◌∷◌, length, map, drop, get_or, arith, ap, sym, subst, ◌∙◌, refl}
+use Rattle.std.proofs.Common.{◌+◌, ◌-◌, ◌<◌, ◌≤◌, ◌∷◌, length, map, drop, arith, ap, sym, subst, ◌∙◌, refl}
 use Rattle.std.proofs.Math.ListN.{drop_of_length-le}
 use Rattle.std.proofs.lemmas.List.{length-map, length-drop}
 use Rattle.std.specs.Option.{option_map}
