@@ -102,9 +102,10 @@ pub narrows : (s : Stored) (k : ℕ) (mask : List Bool) (t : SimpleType) (ps ks 
     → slice_get (meta_types (additions s)) k ≡ Some t → HasShape t ps end → ks ≡ masked 0 mask ps → n ≡ length (meta_types (additions s)) → u ≡ arrows ks end → q ≡ on ks (head_alone (Meta n)) → o ≡ lams ps (atomic q) → NarrowsTo s k mask u o
 narrows s k mask t ps ks end n u q o e h f g i j l zs c type final =
     let (same, last) = same_shape t ps zs end c h (one_type (sym e ∙ type)) final in
-    let ms : ks ≡ masked 0 mask zs = f ∙ same_masked 0 mask ps zs same in
-    (i ∙ ap (λ m. arrows m end) ms ∙ ap (arrows (masked 0 mask zs)) last,
-     l ∙ same_lams ps zs (atomic q) same ∙ ap (λ p. lams zs (atomic p)) (j ∙ ap (λ m. on m (head_alone (Meta n))) ms ∙ ap (λ m. on (masked 0 mask zs) (head_alone (Meta m))) g))
+    let ms : ks ≡ masked 0 mask zs = f ∙ same_masked 0 mask ps zs same in (
+      i ∙ ap (λ m. arrows m end) ms ∙ ap (arrows (masked 0 mask zs)) last,
+      l ∙ same_lams ps zs (atomic q) same ∙ ap (λ p. lams zs (atomic p)) (j ∙ ap (λ m. on m (head_alone (Meta n))) ms ∙ ap (λ m. on (masked 0 mask zs) (head_alone (Meta m))) g),
+    )
   where
     one_type : {a b : SimpleType} → Some a ≡ Some b → a ≡ b
     one_type e = cc

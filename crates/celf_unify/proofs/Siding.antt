@@ -100,26 +100,63 @@ module _ (s : Stored) (e : Equation) (posed : IsPosed s e) where
   assigning m ps qs o a i = record { neutral = a.pattern.neutral; places = ps; own = qs; is_left = a.pattern.is_neutral; on_locals = a.pattern.on_locals; lacks = a.pattern.lacks; unmentioned = a.free; covers = a.covers; solution = i }
 
   pruned : (k : ℕ) (bs : List Bool) → IsPrune (closed (consts_in s) (metas_in s)) e.locals e.type e.left e.right k bs → (zs : List Place) × (c : SimpleType) × Narrows (consts_in s) (metas_in s) e k bs zs c
-  pruned k bs a = let p = pruning (consts_in s) (metas_in s) e.locals e.type e.left e.right k bs posed.typed.1 a in (p.places, p.result, record {
-    type = p.type;
-    final = p.final;
-    fewer = p.fewer;
-    why = inl (record { neutral = a.pattern.neutral; meta = a.meta; places = a.places; own = a.own; is_left = a.pattern.is_neutral; on_locals = a.pattern.on_locals; lacks = a.pattern.lacks;
-        inner = p.inner; depth = p.depth; pruned = p.neutral; deeper = p.deeper; on_distinct = p.on_distinct; stands = p.stands; foreign = p.foreign });
-  })
+  pruned k bs a = let p = pruning (consts_in s) (metas_in s) e.locals e.type e.left e.right k bs posed.typed.1 a in (
+    p.places,
+    p.result,
+    record {
+      type = p.type;
+      final = p.final;
+      fewer = p.fewer;
+      why = inl (record {
+        neutral = a.pattern.neutral;
+        meta = a.meta;
+        places = a.places;
+        own = a.own;
+        is_left = a.pattern.is_neutral;
+        on_locals = a.pattern.on_locals;
+        lacks = a.pattern.lacks;
+        inner = p.inner;
+        depth = p.depth;
+        pruned = p.neutral;
+        deeper = p.deeper;
+        on_distinct = p.on_distinct;
+        stands = p.stands;
+        foreign = p.foreign;
+      });
+    },
+  )
 
   differ : e.left ≡ e.right → ⊥
   differ h = posed.unjoined (subst (Joined e.left) h stop)
 
   aligned : (m : ℕ) (bs : List Bool) → HasMetaHead e.left m → IsSame (closed (consts_in s) (metas_in s)) e.locals e.type e.left e.right bs → (zs : List Place) × (c : SimpleType) × Narrows (consts_in s) (metas_in s) e m bs zs c
-  aligned m bs (n, i, h) a = (a.places, e.type, subst (λ k. Narrows (consts_in s) (metas_in s) e k bs a.places e.type) number (record {
-    type = sym (scoped_meta e.locals (closed (consts_in s) (metas_in s)) a.meta) ∙ a.pattern.on_locals.type;
-    final = final_type m (n, i, h);
-    fewer = same_fewer (consts_in s) (metas_in s) e.locals e.type e.left e.right bs a differ;
-    why = inr (record { neutral = a.pattern.neutral; own = a.own; other = a.back.neutral; other_places = a.others; other_own = a.others_own; is_left = a.pattern.is_neutral; is_right = a.back.is_neutral;
-        on_left = a.pattern.on_locals; on_right = a.back.on_locals; lacks_left = a.pattern.lacks; lacks_right = a.back.lacks; same = a.types;
-        ended = λ u w f. ⊎_elim (λ k. inr k.1) (λ k. inl k.1) (a.keeps.2 u w f) }, refl);
-  }))
+  aligned m bs (n, i, h) a = (
+    a.places,
+    e.type,
+    subst (λ k. Narrows (consts_in s) (metas_in s) e k bs a.places e.type) number (record {
+      type = sym (scoped_meta e.locals (closed (consts_in s) (metas_in s)) a.meta) ∙ a.pattern.on_locals.type;
+      final = final_type m (n, i, h);
+      fewer = same_fewer (consts_in s) (metas_in s) e.locals e.type e.left e.right bs a differ;
+      why = inr (
+        record {
+          neutral = a.pattern.neutral;
+          own = a.own;
+          other = a.back.neutral;
+          other_places = a.others;
+          other_own = a.others_own;
+          is_left = a.pattern.is_neutral;
+          is_right = a.back.is_neutral;
+          on_left = a.pattern.on_locals;
+          on_right = a.back.on_locals;
+          lacks_left = a.pattern.lacks;
+          lacks_right = a.back.lacks;
+          same = a.types;
+          ended = λ u w f. ⊎_elim (λ k. inr k.1) (λ k. inl k.1) (a.keeps.2 u w f);
+        },
+        refl,
+      );
+    }),
+  )
     where
       one_meta : {j k : ℕ} → Meta j ≡ Meta k → j ≡ k
       one_meta f = cc

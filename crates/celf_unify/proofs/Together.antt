@@ -236,5 +236,8 @@ module _ (g : Assignment) (ls : Locals) (es fs : List PlainElimination) (h : Hea
       m g a.first a.second w a.matched p (shape_before left right (eliminated e a.first) (eliminated f a.second) l (subst (λ n. SameShape n (spine_on right (eliminated f a.second))) (sym a.whole) (subst (SameShape (spine_on es (head_alone h))) (sym a.other) s)))
 
   pub along_ends : (left right : List PlainElimination) (t : SimpleType) (ds more : List Equation) → left ≡ [] → right ≡ [] → more ≡ reverse ds → Along g ls es fs h t ds left right → Pairs g ls (spine_on es (head_alone h)) (spine_on fs (head_alone h)) (Some more)
-  along_ends left right t ds more e f k a = (t, subst (Matched g ls (spine_on es (head_alone h)) (spine_on fs (head_alone h)) t) (sym k) (turned_matched
-      (subst (λ n. Matched g ls n (spine_on fs (head_alone h)) t ds) (sym (ap (λ l. spine_on l a.first) e) ∙ a.whole) (subst (λ n. Matched g ls a.first n t ds) (sym (ap (λ l. spine_on l a.second) f) ∙ a.other) a.matched))))
+  along_ends left right t ds more e f k a = (
+    t,
+    subst (Matched g ls (spine_on es (head_alone h)) (spine_on fs (head_alone h)) t) (sym k) (turned_matched
+        (subst (λ n. Matched g ls n (spine_on fs (head_alone h)) t ds) (sym (ap (λ l. spine_on l a.first) e) ∙ a.whole) (subst (λ n. Matched g ls a.first n t ds) (sym (ap (λ l. spine_on l a.second) f) ∙ a.other) a.matched))),
+  )

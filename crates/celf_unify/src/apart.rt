@@ -97,7 +97,13 @@ fn neutrals(store: &Store, equation: &Equation) -> Result<Verdict, Want>
     match head_type(store, types.as_slice(), left.head) {
         None => unreachable!(),
         Some(ty) => {
-            match argument_parts(alloc, locals, left.spine.as_slice(), right.spine.as_slice(), ty)? {
+            match argument_parts(
+                alloc,
+                locals,
+                left.spine.as_slice(),
+                right.spine.as_slice(),
+                ty,
+            )? {
                 None => Ok(Verdict::Clash),
                 Some(parts) => Ok(Verdict::Parts(parts)),
             }

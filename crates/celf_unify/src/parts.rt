@@ -110,10 +110,7 @@ fn local_of(alloc: Global, mode: Mode, ty: &Simple) -> Result<SimpleEntry, Alloc
 }
 
 /// One local more.
-fn with_local(
-    locals: Vec<SimpleEntry>,
-    local: SimpleEntry,
-) -> Result<Vec<SimpleEntry>, AllocError>
+fn with_local(locals: Vec<SimpleEntry>, local: SimpleEntry) -> Result<Vec<SimpleEntry>, AllocError>
     ensures { IfOk result (λ inner. inner.items ≡ locals.items ++ local ∷ []) }
 {
     let mut inner = locals;

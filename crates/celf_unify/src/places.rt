@@ -39,11 +39,7 @@ pub fn numbered(alloc: Global, place: usize) -> Result<u32, Want>
 }
 
 /// A function of each place.
-pub fn function_of(
-    alloc: Global,
-    places: &[Place<'_>],
-    end: &Simple,
-) -> Result<Simple, AllocError>
+pub fn function_of(alloc: Global, places: &[Place<'_>], end: &Simple) -> Result<Simple, AllocError>
     ensures { IfOk result (λ t. plain_simple t ≡ arrows (map plain_place places.now) (plain_simple end.now)) }
 {
     let mut ty = end.copy(alloc)?;

@@ -42,7 +42,15 @@ pub fn from_side(
     let alloc = store.alloc();
     match meta_head(side) {
         None => Ok(Sided::Nothing),
-        Some(meta) => match reach(alloc, store.consts(), store.metas(), locals, ty, side, other) {
+        Some(meta) => match reach(
+            alloc,
+            store.consts(),
+            store.metas(),
+            locals,
+            ty,
+            side,
+            other,
+        ) {
             Ok(found) => said(alloc, meta, locals.len(), other, found),
             Err(fault) => Err(want_of(alloc, fault)),
         },
@@ -85,12 +93,7 @@ fn said(
 }
 
 /// The step that gives the other side to the metavariable at these places.
-fn assigned(
-    alloc: Global,
-    count: usize,
-    places: Places<'_>,
-    other: &Obj,
-) -> Result<Sided, Want>
+fn assigned(alloc: Global, count: usize, places: Places<'_>, other: &Obj) -> Result<Sided, Want>
     requires within { (v : ℕ) → occurs v (plain_obj other.now) ≡ true → v < count }
     ensures assigned { IfOk result
         (λ s. IsSaid places.entry.meta count (plain_obj other.now) (Assign places.entry) s) }

@@ -22,5 +22,7 @@ look_inside-requires-clause-right c = subst (SaysLeft (consts_in c.args.store.no
     (subst (λ ls. SaysLeft (consts_in c.args.store.now) (metas_in c.args.store.now) (posed ls (plain_simple c.args.equation.now.ty) (plain_obj c.args.equation.now.right) (plain_obj c.args.equation.now.left)) c.in_ok-from_side.field-0) c.as_slice-locals.ensures.value c.in_ok-from_side.ensures.says)
 
 pub from_side-requires : goal.from_side-requires
-from_side-requires c = record { posed = subst (λ ls. IsPosed c.args.store.now (posed ls (plain_simple c.args.equation.now.ty) (plain_obj c.args.equation.now.right) (plain_obj c.args.equation.now.left))) (sym c.as_slice-locals.ensures.value)
-    (posed_flipped c.args.store.now (plain_equation c.args.equation.now) c.requires.posed) }
+from_side-requires c = record {
+  posed = subst (λ ls. IsPosed c.args.store.now (posed ls (plain_simple c.args.equation.now.ty) (plain_obj c.args.equation.now.right) (plain_obj c.args.equation.now.left))) (sym c.as_slice-locals.ensures.value)
+      (posed_flipped c.args.store.now (plain_equation c.args.equation.now) c.requires.posed);
+}
