@@ -4,7 +4,6 @@ use Rattle.std.proofs.Common.{ap, sym, subst, ◌∙◌, arith, ⊎_elim}
 use Rattle.std.proofs.lemmas.List.{map-append}
 use Rattle.pattern_laws.specs.Instantiations.{Types}
 use Rattle.pattern_laws.specs.Equations.{Equation, Listed, listed_here, listed_later, TypedEquation, TypedEquations}
-use Rattle.reach_laws.specs.Rest.{Rest}
 use Rattle.reach_laws.proofs.Down.{listed_behind}
 use Rattle.reach_laws.proofs.PartsUnder.{part_typed}
 use Rattle.reach_laws.proofs.Rests.{typed_listed}
@@ -66,9 +65,6 @@ over_more constants metas left now e g f h d l = ⊎_elim (λ k. f d k) (λ k. s
     the_one : {d : Equation} → Listed d (e ∷ []) → e ≡ d
     the_one listed_here = refl
     the_one (listed_later k) = elim k [ ]
-
-pub rest_of : (constants metas : Types) (es left all : List Equation) → all ≡ [] → Reduced constants metas es (left ++ all) → ((d : Equation) → Listed d left → LeftOver constants metas d) → Rest constants metas es left
-rest_of constants metas es left all g r f = (work_is_reduced constants metas).rest es left (subst (λ l. Reduced constants metas es (left ++ l)) g r) f
 
 pub none_over : (constants metas : Types) (left : List Equation) → left ≡ [] → (d : Equation) → Listed d left → LeftOver constants metas d
 none_over constants metas left g d l = absurd (none (subst (Listed d) g l))

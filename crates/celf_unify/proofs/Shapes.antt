@@ -4,21 +4,18 @@ use Rattle.std.proofs.Common.{ap, sym, subst, ◌∙◌, inl, inr, arith, ⊎_el
 use Rattle.std.proofs.lemmas.List.{map-append, reverse-append, length-append, length-map}
 use Rattle.std.specs.List.{slice_get}
 use Rattle.clf_syntax.specs.declared.tree.Mode.{Mode}
-use Rattle.clf_syntax.specs.declared.tree.Obj.{Obj}
 use Rattle.clf_syntax.specs.declared.tree.Simple.{Simple, Atom, With, Top, Monad}
 use Rattle.clf_syntax.specs.declared.tree.SimpleEntry.{SimpleEntry}
 use Rattle.clf_syntax.specs.declared.tree.Head.TheVariants.{Meta}
 use Rattle.clf_syntax.specs.Tree.{PlainObject, lam, atomic, PlainNeutral, head_alone}
 use Rattle.clf_syntax.specs.TypeTree.{SimpleType, base, arrow, simple_with, simple_top, lax}
-use Rattle.clf_syntax.specs.Plain.{plain_obj}
 use Rattle.clf_syntax.specs.PlainSimple.{plain_simple, plain-Atom, plain-SimpleWith, plain-SimpleTop, plain-SimpleMonad}
-use Rattle.store_laws.specs.Additions.{new, solved, meta_types, given}
+use Rattle.store_laws.specs.Additions.{new, meta_types, given}
 use Rattle.store_laws.proofs.Lists.{types-append}
 use Rattle.pattern_laws.specs.Patterns.{IsFinal, HasFinalResult, Place, on, lams, arrows, masked, functions, SameTypes}
 use Rattle.pattern_laws.proofs.Places.{same_types}
 use Rattle.solver_laws.proofs.Stores.{given_new}
-use Rattle.metavars.specs.Stored.{Stored, Added, added_new, added_solved, plain_added, constants, additions, with_addition}
-use Rattle.celf_unify.specs.Steps.{NarrowedTo}
+use Rattle.metavars.specs.Stored.{Stored, Added, added_new, plain_added, additions, with_addition}
 use Rattle.celf_unify.specs.Narrowed.{HasShape, NarrowsTo}
 
 -- one argument more, in front of a function
@@ -88,14 +85,6 @@ module _ (s t : Stored) (k : ℕ) (ty : Simple) (more : t ≡ with_addition s (a
 
   pub still_unsolved : given (additions s) k ≡ None → given (additions t) k ≡ None
   still_unsolved u = ap (λ zs. given zs k) (added_more s t (added_new ty) more) ∙ ap (λ g. g k) (given_new (additions s) (plain_simple ty)) ∙ u
-
-  pub narrowed_to : (u : Stored) (o : Obj) (mask : List Bool) → NarrowsTo s k mask (plain_simple ty) (plain_obj o) → u ≡ with_addition t (added_solved k o) → NarrowedTo s k mask u
-  narrowed_to u o mask h e = record {
-    same = ap constants e ∙ ap constants more;
-    more = λ zs c f g. added_more t u (added_solved k o) e ∙ ap (λ l. l ++ solved k (plain_obj o) ∷ []) (added_more s t (added_new ty) more)
-        ∙ ap (λ x. (additions s ++ new x ∷ []) ++ solved k (plain_obj o) ∷ []) (h zs c f g).0
-        ∙ ap (λ x. (additions s ++ new (arrows (masked 0 mask zs) c) ∷ []) ++ solved k x ∷ []) (h zs c f g).1;
-  }
 
 -- What is made of the shape of a metavariable's type.
 pub narrows : (s : Stored) (k : ℕ) (mask : List Bool) (t : SimpleType) (ps ks : List Place) (end : SimpleType) (n : ℕ) (u : SimpleType) (q : PlainNeutral) (o : PlainObject)

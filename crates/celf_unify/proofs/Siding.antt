@@ -71,14 +71,6 @@ stops_left e m (n, i, h) u = record {
   no_neutrals = λ r k f g s. not_both (ap (λ q. is_metavariable (head_of q)) (one_neutral (sym f ∙ i)) ∙ ap is_metavariable h) (shape_heads s).0;
 }
 
-pub stops_right : (e : Equation) (m : ℕ) → HasMetaHead e.right m → (Joined e.left e.right → ⊥) → GoesNoFurther e
-stops_right e m (n, i, h) u = record {
-  unjoined = u;
-  no_lams = λ k j b c f g. no_lam n j c (sym i ∙ g);
-  no_pairs = λ l r k s f g. no_pair n k s (sym i ∙ g);
-  no_neutrals = λ r k f g s. not_both (ap (λ q. is_metavariable (head_of q)) (one_neutral (sym g ∙ i)) ∙ ap is_metavariable h) (shape_heads s).1;
-}
-
 module _ (s : Stored) (e : Equation) (posed : IsPosed s e) where
   -- Only locals of the equation occur in the other side.
   pub within : (v : ℕ) → occurs v e.right ≡ true → v < length e.locals

@@ -31,12 +31,6 @@ domain_of h = cc
 result_of : {m k : Mode} {d c e f : SimpleType} → arrow m d c ≡ arrow k e f → c ≡ f
 result_of h = cc
 
-first_of : {c d e f : SimpleType} → simple_with c d ≡ simple_with e f → c ≡ e
-first_of h = cc
-
-second_of : {c d e f : SimpleType} → simple_with c d ≡ simple_with e f → d ≡ f
-second_of h = cc
-
 listed_front : {e : Equation} {es : List Equation} (fs : List Equation) → Listed e es → Listed e (es ++ fs)
 listed_front fs listed_here = listed_here
 listed_front fs (listed_later l) = listed_later (listed_front fs l)
@@ -125,12 +119,6 @@ no_with t h c d e = ⊎_elim (λ u. of_atom u.0 (sym (ap plain_simple u.1 ∙ pl
     of_monad e = cc
 
 -- ---- shapes
-
-pub shape_modes : {m k : Mode} {r n : PlainNeutral} {o u : PlainObject} → SameShape (app m r o) (app k n u) → m ≡ k
-shape_modes (shape_app s) = refl
-
-pub app_fst : {m : Mode} {r n : PlainNeutral} {o : PlainObject} → SameShape (app m r o) (fst n) → ⊥
-app_fst s = elim s [ ]
 
 pub shape_same_head : {r n : PlainNeutral} → SameShape r n → head_of r ≡ head_of n
 shape_same_head (shape_head f) = refl
