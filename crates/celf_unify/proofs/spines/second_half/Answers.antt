@@ -1,0 +1,13 @@
+use Rattle.std.proofs.Common.{map, ap, sym, subst, ◌∙◌}
+use Rattle.std.specs.Option.{option_map}
+use Rattle.clf_syntax.specs.Tree.{second}
+use Rattle.clf_syntax.specs.Plain.{plain_elim, plain-Second}
+use Rattle.clf_syntax.specs.PlainSimple.{plain_simple}
+use Rattle.celf_constraints.specs.Equated.{plain_equation}
+use Rattle.celf_unify.specs.Judged.{MatchesOn}
+use Rattle.celf_unify.specs.Matching.{plain_matching}
+use Rattle.celf_unify.proofs.spines.second_half.Goals as goal
+
+pub returns-in-Second : goal.returns-in-Second
+returns-in-Second c = λ ls. subst (λ e. MatchesOn (plain_simple c.args.state.ty.now) (map plain_equation c.args.state.parts.items) ls second e (option_map plain_matching c.second_part.result))
+    (sym (ap plain_elim c.in-Second.is ∙ plain-Second)) (c.second_part.ensures ls)

@@ -1,0 +1,13 @@
+pub use Rattle.reach_laws.specs.Unified
+pub use Rattle.solver_laws.specs.Solving
+pub use Rattle.celf_constraints.specs.Equated
+pub use Rattle.metavars.specs.Stored
+pub mod Steps
+pub mod Narrowed
+pub mod Gathered
+pub mod Sided
+pub mod Examined
+pub mod Judged
+pub mod Matching
+pub mod Passes
+pub mod Answers
