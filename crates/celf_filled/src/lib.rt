@@ -1,0 +1,6 @@
+//! The reading of items with new metavariables where something is left to be found, and types made of simple types.
+#![tactic(auto)]
+
+mod typed;
+
+pub use typed::typed_from;
