@@ -1,2 +1,3 @@
 pub mod Forms
 pub mod Grown
+pub mod ScopeLaws

@@ -1,6 +1,10 @@
 //! The reading of items with new metavariables where something is left to be found, and types made of simple types.
 #![tactic(auto)]
 
+mod headed;
+mod heads;
+mod places;
+mod scope;
 mod typed;
 
 pub use typed::typed_from;
