@@ -1,3 +1,4 @@
 pub mod Forms
 pub mod Grown
 pub mod ScopeLaws
+pub mod Walks

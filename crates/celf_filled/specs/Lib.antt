@@ -4,5 +4,7 @@ pub use Rattle.metavars.specs.Stored
 pub mod States
 pub mod Scopes
 pub mod Walk
+pub mod WalkTypes
 pub mod Headed
+pub mod HeadedTypes
 pub mod TypedFrom

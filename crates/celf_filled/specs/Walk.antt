@@ -87,8 +87,12 @@ pub record Steps : Type 0 where
 abbrev pub no_steps_yet : List Scoped → Steps
 no_steps_yet ls = record { steps = []; locals = ls }
 
-abbrev pub with_step : Steps → List PBinder → Headed × State → Steps × State
-with_step w b v = (record { steps = w.steps ++ (pattern_modes (entries_at v.0.place) b, v.0.neutral) ∷ []; locals = with_pattern w.locals (entries_at v.0.place) b }, v.1)
+-- a step, the locals after it, and the state that it leaves
+abbrev pub step_with : List Scoped → List PBinder → Headed × State → ((List Mode × PlainNeutral) × List Scoped) × State
+step_with ls b v = (((pattern_modes (entries_at v.0.place) b, v.0.neutral), with_pattern ls (entries_at v.0.place) b), v.1)
+
+abbrev pub with_step : Steps → ((List Mode × PlainNeutral) × List Scoped) × State → Steps × State
+with_step w v = (record { steps = w.steps ++ v.0.0 ∷ []; locals = v.0.1 }, v.1)
 
 -- the entries so far, and what is wanted of those that are left
 pub record Entries : Type 0 where
@@ -98,8 +102,11 @@ pub record Entries : Type 0 where
 abbrev pub no_entries_yet : List (Mode × SimpleType) → Entries
 no_entries_yet ps = record { entries = []; wanted = ps }
 
-abbrev pub with_entry : Entries → SMode → PlainObject × State → Entries × State
-with_entry w m v = (record { entries = w.entries ++ (marked m (next_part w.wanted).mode, v.0) ∷ []; wanted = (next_part w.wanted).later }, v.1)
+abbrev pub marked_with : Mode → PlainObject × State → (Mode × PlainObject) × State
+marked_with m v = ((m, v.0), v.1)
+
+abbrev pub with_entry : Entries → (Mode × PlainObject) × State → Entries × State
+with_entry w v = (record { entries = w.entries ++ v.0 ∷ []; wanted = (next_part w.wanted).later }, v.1)
 
 abbrev pub in_expression : Steps → Entries × State → PlainObject × State
 in_expression w v = (expression_of w.steps v.0.entries, v.1)
@@ -129,22 +136,33 @@ module _ (sig : PlainSignature) (xs : List Named) where
 
     pub fill_steps : Steps × State → DesugaredSteps → Steps × State
     fill_steps w no_steps = w
-    fill_steps w (step b h es ss) = fill_steps (with_step w.0 b (fill_spine w.0.locals (fill_head w.0.locals h w.1) es)) ss
+    fill_steps w (step b h es ss) = fill_steps (with_step w.0 (step_with w.0.locals b (fill_spine w.0.locals (fill_head w.0.locals h w.1) es))) ss
 
     pub fill_tuple : List Scoped → Entries × State → DesugaredTuple → Entries × State
     fill_tuple ls w end_of_tuple = w
-    fill_tuple ls w (entry m o u) = fill_tuple ls (with_entry w.0 m (fill_object ls (next_part w.0.wanted).place o w.1)) u
+    fill_tuple ls w (entry m o u) = fill_tuple ls (with_entry w.0 (marked_with (marked m (next_part w.0.wanted).mode) (fill_object ls (next_part w.0.wanted).place o w.1))) u
 
   -- ---- lists
 
   abbrev pub PlainStep : Type 0
   PlainStep = List PBinder × PName × DesugaredSpine
 
+  abbrev pub one_step : List Scoped → PlainStep → State → ((List Mode × PlainNeutral) × List Scoped) × State
+  one_step ls e s = step_with ls e.0 (fill_spine ls (fill_head ls e.1 s) e.2)
+
   abbrev pub fill_step : Steps × State → PlainStep → Steps × State
-  fill_step w e = with_step w.0 e.0 (fill_spine w.0.locals (fill_head w.0.locals e.1 w.1) e.2)
+  fill_step w e = with_step w.0 (one_step w.0.locals e w.1)
+
+  abbrev pub one_entry : List Scoped → Mode → Place → SMode × DesugaredObject → State → (Mode × PlainObject) × State
+  one_entry ls m t e s = marked_with (marked e.0 m) (fill_object ls t e.1 s)
 
   abbrev pub fill_entry : List Scoped → Entries × State → SMode × DesugaredObject → Entries × State
-  fill_entry ls w e = with_entry w.0 e.0 (fill_object ls (next_part w.0.wanted).place e.1 w.1)
+  fill_entry ls w e = with_entry w.0 (one_entry ls (next_part w.0.wanted).mode (next_part w.0.wanted).place e w.1)
+
+  -- a monadic object of these steps and this tuple, of which these entries are wanted
+  abbrev pub fill_expression : List Scoped → List (Mode × SimpleType) → DesugaredSteps × DesugaredTuple → State → PlainObject × State
+  fill_expression ls ps e s =
+      in_expression (fill_steps (no_steps_yet ls, s) e.0).0 (fill_tuple (fill_steps (no_steps_yet ls, s) e.0).0.locals (no_entries_yet ps, (fill_steps (no_steps_yet ls, s) e.0).1) e.1)
 
   pub spine-along : (ls : List Scoped) (v : Headed × State) (as_ : List DesugaredAct) → fill_spine ls v (spine_of as_) ≡ left_along (fill_act ls) v as_
   spine-along ls v [] = refl
@@ -157,7 +175,3 @@ module _ (sig : PlainSignature) (xs : List Named) where
   pub tuple-along : (ls : List Scoped) (w : Entries × State) (es : List (SMode × DesugaredObject)) → fill_tuple ls w (tuple_of es) ≡ left_along (fill_entry ls) w es
   tuple-along ls w [] = refl
   tuple-along ls w (e ∷ es) = tuple-along ls (fill_entry ls w e) es
-
-pub ruleset spine_walk_laws = (spine-along)
-
-pub ruleset expression_walk_laws = (steps-along, tuple-along)

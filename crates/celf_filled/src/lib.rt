@@ -3,8 +3,11 @@
 
 mod headed;
 mod heads;
+mod objects;
 mod places;
 mod scope;
+mod trees;
 mod typed;
+mod types;
 
 pub use typed::typed_from;

@@ -12,11 +12,12 @@ ghost use Rattle.celf_places.specs.Combined.{with_mode};
 ghost use Rattle.celf_filled.specs.TypedFrom as spec;
 ghost use Rattle.celf_filled.specs.States.{count, IsGrownBy};
 
+use crate::trees::{both, function, monad};
 use celf_places::arguments_of;
 use clf_sig::Signature;
-use clf_syntax::{Mode, Obj, Simple, SimpleEntry, Tele, TeleEntry, Ty, Want};
+use clf_syntax::{Mode, Obj, Simple, SimpleEntry, TeleEntry, Ty, Want};
 use metavars::Store;
-use sqlite_items::{Boxed, Items};
+use sqlite_items::Items;
 use std::alloc::{AllocError, Global};
 
 /// The type that is left of a simple type where each index is an object of new metavariables.
@@ -60,13 +61,13 @@ fn type_under(
             let first = type_under(dom.get(), sig, store, locals)?;
             let inner = with_local(alloc, locals, *mode, dom.get())?;
             let second = type_under(cod.get(), sig, store, inner.as_slice())?;
-            function(alloc, *mode, first, second)
+            Ok(function(alloc, *mode, first, second)?)
         }
         Simple::With { left, right } => {
             let alloc = store.alloc();
             let first = type_under(left.get(), sig, store, locals)?;
             let second = type_under(right.get(), sig, store, locals)?;
-            both(alloc, first, second)
+            Ok(both(alloc, first, second)?)
         }
         Simple::Top => Ok(Ty::Top),
         Simple::Monad { entries } => {
@@ -171,38 +172,6 @@ fn copies(alloc: Global, locals: &[SimpleEntry]) -> Result<Items<SimpleEntry>, A
         copied.push(local.copy(alloc)?)?;
     }
     Ok(copied)
-}
-
-#[tactic(auto, using(clf_syntax::specs::PlainTypes::plain_type_laws))]
-fn function(alloc: Global, mode: Mode, dom: Ty, cod: Ty) -> Result<Ty, Want>
-    ensures made { IfOk result (λ a. plain_ty a ≡ core_type.function mode (plain_ty dom) (plain_ty cod)) }
-    ensures wanting { IfErr result IsWant }
-{
-    Ok(Ty::Fun {
-        mode,
-        dom: Boxed::new(alloc, dom)?,
-        cod: Boxed::new(alloc, cod)?,
-    })
-}
-
-#[tactic(auto, using(clf_syntax::specs::PlainTypes::plain_type_laws))]
-fn both(alloc: Global, left: Ty, right: Ty) -> Result<Ty, Want>
-    ensures made { IfOk result (λ a. plain_ty a ≡ core_type.both (plain_ty left) (plain_ty right)) }
-    ensures wanting { IfErr result IsWant }
-{
-    Ok(Ty::With {
-        left: Boxed::new(alloc, left)?,
-        right: Boxed::new(alloc, right)?,
-    })
-}
-
-#[tactic(auto, using(clf_syntax::specs::PlainTypes::plain_type_laws, crate::proofs::Forms::telescope_made))]
-fn monad(entries: Items<TeleEntry>) -> Ty
-    ensures { plain_ty result ≡ core_type.monad (core_type.telescope_of (map plain_tele_entry entries)) }
-{
-    Ty::Monad {
-        tele: Tele { entries },
-    }
 }
 
 /// The entries of a telescope, each under those before it.
