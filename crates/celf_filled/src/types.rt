@@ -69,6 +69,7 @@ pub fn fill_type<'a>(
             let alloc = store.alloc();
             let simple = boxed(alloc, simple_of(alloc, sig, dom.get()))?;
             let dom = fill_type(dom.get(), sig, variables, scope, store, whole)?;
+            let inner = scope.copy(alloc)?;
             let cod = fill_under(
                 cod.get(),
                 sig,
@@ -76,7 +77,7 @@ pub fn fill_type<'a>(
                 *mode,
                 name,
                 &simple,
-                scope,
+                inner,
                 store,
                 whole,
             )?;
@@ -104,18 +105,23 @@ fn fill_under<'a>(
     mode: Mode,
     name: &'a Option<Name>,
     simple: &'a Option<Boxed<Simple>>,
-    outer: &Scope<'a>,
+    outer: Scope<'a>,
     store: &mut Store,
     whole: &mut bool,
 ) -> Result<Ty, Shortage>
-    ensures { IfOk result (λ a.
-        (plain_ty a, state_of store.new whole.new)
-        ≡ spec.fill_type (plain_signature sig.now) (map plain_named variables.now)
-        (spec.bound_under (spec.bound_local mode name.now (plain_place simple.now)) (plain_scope outer.now))
-        (desugared_type ty.now) (state_of store.old whole.old)) }
+    ensures made { IfOk result (λ a.
+        plain_ty a
+        ≡ (spec.fill_type (plain_signature sig.now) (map plain_named variables.now)
+        (spec.bound_under (spec.bound_local mode name.now (plain_place simple.now)) (plain_scope outer.entry))
+        (desugared_type ty.now) (state_of store.old whole.old)).0) }
+    ensures left { OnOk result (state_of store.new whole.new
+        ≡ (spec.fill_type (plain_signature sig.now) (map plain_named variables.now)
+        (spec.bound_under (spec.bound_local mode name.now (plain_place simple.now)) (plain_scope outer.entry))
+        (desugared_type ty.now) (state_of store.old whole.old)).1) }
 {
-    let inner = outer.with(store.alloc(), mode, name, place_of(simple))?;
-    fill_type(ty, sig, variables, &inner, store, whole)
+    let mut scope = outer;
+    scope.bind(mode, name, place_of(simple))?;
+    fill_type(ty, sig, variables, &scope, store, whole)
 }
 
 /// The entries of a telescope, under these binders.
@@ -139,13 +145,14 @@ pub fn fill_telescope<'a>(
         (spec.no_bindings_yet (plain_scope scope.now), state_of store.old whole.old)
         (desugared_telescope tele.now)).1) }
 {
-    let simples = simples_of(store.alloc(), sig, tele.entries.as_slice())?;
+    let alloc = store.alloc();
+    let simples = simples_of(alloc, sig, tele.entries.as_slice())?;
     fill_bindings(
         tele.entries.as_slice(),
         sig,
         variables,
         simples.as_slice(),
-        scope,
+        scope.copy(alloc)?,
         store,
         whole,
     )
@@ -180,14 +187,14 @@ fn simple_of_entry(
     boxed(alloc, simple_of(alloc, sig, &entry.ty))
 }
 
-/// The entries, each under those before it. The binders are copied, since they need not last as long as the others.
+/// The entries, each under those before it.
 #[cycle(types)]
 fn fill_bindings<'a>(
     entries: &'a [PEntry],
     sig: &'a Signature,
     variables: &'a [Implicit],
     simples: &'a [Option<Boxed<Simple>>],
-    outer: &Scope<'a>,
+    outer: Scope<'a>,
     store: &mut Store,
     whole: &mut bool,
 ) -> Result<Items<TeleEntry>, Shortage>
@@ -196,16 +203,15 @@ fn fill_bindings<'a>(
     ensures made { IfOk result (λ es.
         map plain_tele_entry es
         ≡ (left_along (spec.fill_binding (plain_signature sig.now) (map plain_named variables.now))
-        (spec.no_bindings_yet (plain_scope outer.now), state_of store.old whole.old)
+        (spec.no_bindings_yet (plain_scope outer.entry), state_of store.old whole.old)
         (map desugared_entry entries.now)).0.entries) }
     ensures left { OnOk result (state_of store.new whole.new
         ≡ (left_along (spec.fill_binding (plain_signature sig.now) (map plain_named variables.now))
-        (spec.no_bindings_yet (plain_scope outer.now), state_of store.old whole.old)
+        (spec.no_bindings_yet (plain_scope outer.entry), state_of store.old whole.old)
         (map desugared_entry entries.now)).1) }
 {
-    let alloc = store.alloc();
-    let mut scope = outer.copy(alloc)?;
-    let mut filled = Items::new(alloc);
+    let mut scope = outer;
+    let mut filled = Items::new(store.alloc());
     for (index, entry) in entries.iter().enumerate() {
         filled.push(fill_binding(entry, sig, variables, &scope, store, whole)?)?;
         scope.bind(entry.mode, &entry.name, place_at(simples, index))?;
@@ -301,7 +307,7 @@ fn nothing_typed(alloc: Global) -> Result<Ty, AllocError>
     Ok(family_at(0, indices))
 }
 
-/// Indices, of which so many are filled in. The binders are copied, since they need not last as long as the others.
+/// Indices, of which so many are filled in.
 fn fill_indices<'a>(
     indices: &'a [PObj],
     sig: &'a Signature,
@@ -348,14 +354,34 @@ fn fill_first<'a>(
         ≡ spec.fill_first (plain_scope scope.now) implicit (spec.no_indices_yet (map plain_simple_entry wanted.now),
         state_of store.old whole.old)) }
 {
-    let mut objects = Items::new(store.alloc());
-    let mut wanted = wanted;
+    let mut filled = Indices {
+        objects: Items::new(store.alloc()),
+        wanted,
+    };
     let mut left = implicit;
     while left > 0 {
         left -= 1;
-        let next = next_part(wanted);
-        objects.push(fill_place(store, whole, scope, next.place)?)?;
-        wanted = next.later;
+        filled = fill_index(scope, filled, store, whole)?;
     }
-    Ok(Indices { objects, wanted })
+    Ok(filled)
+}
+
+/// One index more that is filled in.
+fn fill_index<'a>(
+    scope: &Scope<'a>,
+    filled: Indices<'a>,
+    store: &mut Store,
+    whole: &mut bool,
+) -> Result<Indices<'a>, Shortage>
+    ensures { IfOk result (λ is.
+        (plain_indices is, state_of store.new whole.new)
+        ≡ spec.fill_index (plain_scope scope.now) (plain_indices filled.entry, state_of store.old whole.old)) }
+{
+    let next = next_part(filled.wanted);
+    let mut objects = filled.objects;
+    objects.push(fill_place(store, whole, scope, next.place)?)?;
+    Ok(Indices {
+        objects,
+        wanted: next.later,
+    })
 }

@@ -12,4 +12,4 @@ use Rattle.celf_filled.proofs.types.+types.Given as goal
 abbrev pub invariant-fill_bindings-loop-index : goal.invariant-fill_bindings-loop-index
 invariant-fill_bindings-loop-index l =
     left_along (fill_binding (plain_signature l.sig) (map plain_named l.variables)) (plain_bindings l.filled l.scope, state_of l.store l.whole) (map desugared_entry (drop l.index l.entries))
-    ≡ left_along (fill_binding (plain_signature l.sig) (map plain_named l.variables)) (no_bindings_yet (plain_scope l.outer), state_of l.fn.store l.fn.whole) (map desugared_entry l.entries)
+    ≡ left_along (fill_binding (plain_signature l.sig) (map plain_named l.variables)) (no_bindings_yet (plain_scope l.fn.outer), state_of l.fn.store l.fn.whole) (map desugared_entry l.entries)
