@@ -5,6 +5,8 @@ pub mod States
 pub mod Scopes
 pub mod Walk
 pub mod WalkTypes
+pub mod WalkItems
+pub mod Whole
 pub mod Headed
 pub mod HeadedTypes
 pub mod TypedFrom

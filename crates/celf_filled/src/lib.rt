@@ -3,6 +3,7 @@
 
 mod headed;
 mod heads;
+mod items;
 mod objects;
 mod places;
 mod scope;
@@ -10,4 +11,5 @@ mod trees;
 mod typed;
 mod types;
 
+pub use items::{Filled, read_filled};
 pub use typed::typed_from;
