@@ -1,5 +1,5 @@
 -- The bindings of a telescope's entries, one after the other.
-use Rattle.std.specs.Prelude.{ℕ, ◌≡◌, ◌<◌, List, [], ◌∷◌, ◌++◌, map, length, get_or, Option, None, Some, Result, Ok, Err, OnOk, refl}
+use Rattle.std.specs.Prelude.{ℕ, ◌≡◌, ◌<◌, List, [], ◌∷◌, ◌++◌, map, length, get_or, Option, None, Some, refl}
 use Rattle.std.proofs.Common.{ap, sym, ◌∙◌, arith}
 use Rattle.std.proofs.lemmas.List.{get_or-map, length-map, map-append}
 use Rattle.clf_syntax.specs.declared.tree.Mode.{Mode}
@@ -15,11 +15,7 @@ use Rattle.celf_places.specs.SimpleTypes.{simple_type}
 use Rattle.celf_filled.specs.Scopes.{Named, DeclaredScope, plain_scoped, plain_scope}
 use Rattle.celf_filled.specs.States.{State}
 use Rattle.celf_filled.specs.HeadedTypes.{plain_bindings}
-use Rattle.celf_filled.specs.WalkTypes.{bound_local, entry_typed, fill_binding, entry_place}
-
-pub on_ok : {T E P Q : Type 0} (r : Result T E) → OnOk r P → (P → Q) → OnOk r Q
-on_ok (Ok x) p f = f p
-on_ok (Err x) p f = tt
+use Rattle.celf_filled.specs.WalkTypes.{bound_local, with_binding, entry_typed, fill_binding, entry_place}
 
 -- the simple type at a place of a list
 pub place_here : (sig : PlainSignature) (simples : List (Option Simple)) (entries : List PEntry) (i : ℕ) (e : PEntry) (t : Option Simple) → i < length entries → e ≡ get_or entries i e
@@ -36,4 +32,6 @@ place_here sig simples entries i e t h g v p =
 pub binding_next : (sig : PlainSignature) (xs : List Named) (filled new_filled : List TeleEntry) (x : TeleEntry) (scope new_scope : DeclaredScope) (s t : State) (e : DesugaredEntry) (l : Mode × Declared)
     → (plain_tele_entry x, t) ≡ entry_typed sig xs (plain_scope scope) e s → new_filled ≡ filled ++ x ∷ [] → new_scope ≡ l ∷ scope → plain_scoped l ≡ bound_local e.0 e.1 (simple_type sig e.2)
     → (plain_bindings new_filled new_scope, t) ≡ fill_binding sig xs (plain_bindings filled scope, s) e
-binding_next sig xs filled new_filled x scope new_scope s t e l p n m q = rw (n, m, map-append plain_tele_entry filled (x ∷ []), q, ← p) refl
+binding_next sig xs filled new_filled x scope new_scope s t e l p n m q =
+    let here : (plain_bindings new_filled new_scope, t) ≡ with_binding (plain_bindings filled scope) (plain_scoped l) (plain_tele_entry x, t) = rw (n, m, map-append plain_tele_entry filled (x ∷ [])) refl in
+    here ∙ ap (λ v. with_binding (plain_bindings filled scope) (plain_scoped l) v) p ∙ ap (λ k. with_binding (plain_bindings filled scope) k (entry_typed sig xs (plain_scope scope) e s)) q

@@ -6,3 +6,4 @@ pub mod WholeObjects
 pub mod WholeReadings
 pub mod Bindings
 pub mod WholeTypes
+pub mod WholeIndices

@@ -10,11 +10,12 @@ use Rattle.celf_places.specs.Locals.{plain_place}
 use Rattle.celf_places.specs.Along.{left_along}
 use Rattle.celf_places.proofs.AlongLaws.{left_next}
 use Rattle.celf_explicit.proofs.Expressions.{ok_along}
+use Rattle.celf_implicit.proofs.Walks.{on_ok}
 use Rattle.celf_filled.specs.Scopes.{DeclaredScope, plain_scope, plain_named}
 use Rattle.celf_filled.specs.States.{State, state_of}
 use Rattle.celf_filled.specs.HeadedTypes.{plain_bindings}
 use Rattle.celf_filled.specs.WalkTypes.{Bindings, bound_local, fill_binding, fill_telescope, no_bindings_yet, telescope-along}
-use Rattle.celf_filled.proofs.Bindings.{on_ok, place_here, binding_next}
+use Rattle.celf_filled.proofs.Bindings.{place_here, binding_next}
 use Rattle.celf_filled.proofs.types.+types.Goals as goal
 
 pub fill_bindings-loop-index-preserved : goal.fill_bindings-loop-index-preserved
@@ -54,4 +55,4 @@ fill_telescope-returns-clause-left t c =
     ap (λ (ls : DeclaredScope). left_along (fill_binding sig xs) (no_bindings_yet (plain_scope ls), old) (map desugared_entry c.as_slice-2.result.now)) c.in_ok-copy.ensures
     ∙ ap (λ (es : List PEntry). left_along (fill_binding sig xs) first (map desugared_entry es)) c.as_slice-2.ensures
     ∙ sym (telescope-along sig xs first (map desugared_entry (out-PTele c.args.tele.now).entries)) ∙ sym (ap (fill_telescope sig xs first) (telescope-of c.args.tele.now)) in
-    on_ok c.fill_bindings.result c.fill_bindings.ensures.left (λ e. e ∙ ap (λ v. v.1) all)
+    on_ok c.fill_bindings.result _ _ c.fill_bindings.ensures.left (λ e. e ∙ ap (λ v. v.1) all)
