@@ -1,6 +1,6 @@
 -- Where the walk over indices leaves a whole state, they are read.
 use Rattle.std.specs.Prelude.{ℕ, zero, suc, ◌≡◌, List, [], ◌∷◌, ◌++◌, map, Option, None, Some, option_and_then, refl}
-use Rattle.std.proofs.Common.{ap, sym, ◌∙◌, append_assoc, append-nil}
+use Rattle.std.proofs.Common.{ap, sym, ◌∙◌, append_assoc, append-nil, subst}
 use Rattle.clf_syntax.specs.declared.tree.Mode.{Mode}
 use Rattle.clf_syntax.specs.declared.tree.Mode.TheVariants.{Persistent}
 use Rattle.clf_syntax.specs.Tree.{PlainObject}
@@ -45,6 +45,21 @@ kind_of_place sig f (Some k) q = kind_of_class sig k f (class_at sig k) refl q
 
 pub family_has_kind : (sig : PlainSignature) (name : List ℕ) (f : ℕ) → family_named sig name ≡ Some f → (ks : PlainKind) × (family_kind sig f ≡ Some ks)
 family_has_kind sig name f q = kind_of_place sig f (place_of name sig) q
+
+pub unpersistent : (ts : List SimpleType) → map (λ (e : Mode × SimpleType). e.1) (map persistent ts) ≡ ts
+unpersistent [] = refl
+unpersistent (t ∷ ts) = ap (λ us. t ∷ us) (unpersistent ts)
+
+-- what is wanted after so many
+abbrev pub after_first : ℕ → List SimpleType → List SimpleType
+after_first zero ts = ts
+after_first (suc i) [] = after_first i []
+after_first (suc i) (t ∷ ts) = after_first i ts
+
+pub first_wanted : (ls : List Scoped) (i : ℕ) (w : Indices) (ts : List SimpleType) (s : State) → w.wanted ≡ map persistent ts → (fill_first ls i (w, s)).0.wanted ≡ map persistent (after_first i ts)
+first_wanted ls zero w ts s e = e
+first_wanted ls (suc i) w [] s e = first_wanted ls i (fill_index ls (w, s)).0 [] (fill_index ls (w, s)).1 (ap (λ ps. (next_part ps).later) e)
+first_wanted ls (suc i) w (t ∷ ts) s e = first_wanted ls i (fill_index ls (w, s)).0 ts (fill_index ls (w, s)).1 (ap (λ ps. (next_part ps).later) e)
 
 module _ (sig : PlainSignature) (vs : List ImplicitVariable) where
   -- what has been filled in of the first indices
