@@ -7,3 +7,5 @@ pub mod WholeReadings
 pub mod Bindings
 pub mod WholeTypes
 pub mod WholeIndices
+pub mod WholeItems
+pub mod Erasures

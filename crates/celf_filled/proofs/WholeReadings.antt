@@ -75,9 +75,9 @@ module _ (sig : PlainSignature) (vs : List ImplicitVariable) where
 
   atomic_read : (ls : List Scoped) (t : Place) (p : Span) (h : PName) (es : DesugaredSpine) (s : State) (b : Bool) → blank_at t ≡ b
       → IsRead (fill_head sig (map with_known_type vs) ls h s).1 (fill_spine sig (map with_known_type vs) ls (fill_head sig (map with_known_type vs) ls h s) es)
-        (λ fs x. ReadsSpine sig (declared_heads sig) vs ls (fill_head sig (map with_known_type vs) ls h s).0.neutral (fill_head sig (map with_known_type vs) ls h s).0.place es fs x.neutral x.place)
+      (λ fs x. ReadsSpine sig (declared_heads sig) vs ls (fill_head sig (map with_known_type vs) ls h s).0.neutral (fill_head sig (map with_known_type vs) ls h s).0.place es fs x.neutral x.place)
       → IsRead s (if b then (long_at t (core.head_alone (Var 0)), s) else in_long_form t (fill_spine sig (map with_known_type vs) ls (fill_head sig (map with_known_type vs) ls h s) es))
-        (λ fs n. ReadsObject sig (declared_heads sig) vs ls t (atomic p h es) fs n)
+      (λ fs n. ReadsObject sig (declared_heads sig) vs ls t (atomic p h es) fs n)
   atomic_read ls t p h es s true e r = read_alone s (long_at t (core.head_alone (Var 0))) _ (dropped_read ls t p h es s e)
   atomic_read ls t p h es s false e r =
       let head = fill_head sig (map with_known_type vs) ls h s in
@@ -138,7 +138,6 @@ module _ (sig : PlainSignature) (vs : List ImplicitVariable) where
         let right = fill_spine sig (map with_known_type vs) w.locals head es in
         let next = with_step w (step_with w.locals b right) in
         let rest = fill_steps sig (map with_known_type vs) next ss in
-
         read_then s right rest rest.0
         (λ fs x. (f g : Fillings) × (fs ≡ f ++ g) × ReadsHead sig (declared_heads sig) vs w.locals h f head.0.neutral head.0.place × ReadsSpine sig (declared_heads sig) vs w.locals head.0.neutral head.0.place es g x.neutral x.place)
         (λ gs x. (ys : List (List Mode × PlainNeutral)) × (x.steps ≡ next.0.steps ++ ys) × ReadsSteps sig (declared_heads sig) vs next.0.locals ss gs ys x.locals)

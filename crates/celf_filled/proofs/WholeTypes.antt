@@ -108,8 +108,11 @@ module _ (sig : PlainSignature) (vs : List ImplicitVariable) where
         read_then s c rest rest.0 (λ fs x. ReadsType sig (declared_heads sig) vs w.locals a fs x)
         (λ gs x. (es : List (Mode × PlainType)) × (x.entries ≡ next.0.entries ++ es) × ReadsTelescope sig (declared_heads sig) vs next.0.locals t gs (core.telescope_of es))
         (λ fs x. (es : List (Mode × PlainType)) × (x.entries ≡ w.entries ++ es) × ReadsTelescope sig (declared_heads sig) vs w.locals (binding m n a t) fs (core.telescope_of es))
-        (λ fs gs x y. ((m, c.0) ∷ y.0, y.1 ∙ append_assoc w.entries ((m, c.0) ∷ []) y.0,
-        reads_binding x (subst (λ u. ReadsTelescope sig (declared_heads sig) vs (bound_local m n u ∷ w.locals) t gs (core.telescope_of y.0)) (simple_known w.locals a fs c.0 x) y.2) refl))
+        (λ fs gs x y. (
+          (m, c.0) ∷ y.0,
+          y.1 ∙ append_assoc w.entries ((m, c.0) ∷ []) y.0,
+          reads_binding x (subst (λ u. ReadsTelescope sig (declared_heads sig) vs (bound_local m n u ∷ w.locals) t gs (core.telescope_of y.0)) (simple_known w.locals a fs c.0 x) y.2) refl,
+        ))
         (type_read w.locals a s) (telescope_read next.0 next.1 t)
 
   pub body_read : (body : DesugaredBody) (s : State) → IsRead s (fill_body sig (map with_known_type vs) body s) (λ fs c. ReadsBody sig (declared_heads sig) vs body fs c)

@@ -7,6 +7,7 @@ pub mod Walk
 pub mod WalkTypes
 pub mod WalkItems
 pub mod Whole
+pub mod Laws
 pub mod Headed
 pub mod HeadedTypes
 pub mod TypedFrom

@@ -176,11 +176,7 @@ pub fn only_object(alloc: Global, place: Option<&Simple>) -> Result<Obj, Shortag
 /// The long form of a neutral at a place. At a family a neutral stays as it is, and is not copied: so a deep object is
 /// read in time linear in its size.
 #[tactic(auto, using(clf_syntax::specs::Plain::plain_laws, clf_syntax::specs::PlainSimple::plain_simple_laws))]
-pub fn long_form(
-    alloc: Global,
-    neutral: Neutral,
-    place: Option<&Simple>,
-) -> Result<Obj, Shortage>
+pub fn long_form(alloc: Global, neutral: Neutral, place: Option<&Simple>) -> Result<Obj, Shortage>
     ensures { IfOk result
         (λ o. plain_obj o ≡ long_at (plain_place (option_copied place.entry)) (plain_neutral neutral)) }
 {

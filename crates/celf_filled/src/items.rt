@@ -1,5 +1,5 @@
 //! The reading of whole items, with new metavariables for what is left to be found.
-ghost use Rattle.std.specs.Prelude.{◌≡◌, true, map, IfOk, OnOk, IfErr, [], Some};
+ghost use Rattle.std.specs.Prelude.{◌≡◌, true, List, map, IfOk, OnOk, IfErr, [], Some};
 ghost use Rattle.clf_syntax.specs.Plain.{plain_obj};
 ghost use Rattle.clf_syntax.specs.PlainTypes.{plain_ty, plain_tele_entry};
 ghost use Rattle.clf_syntax.specs.PlainSimple.{plain_simple};
@@ -11,7 +11,9 @@ ghost use Rattle.clf_sig.specs.Signature.{plain_class, plain_signature};
 ghost use Rattle.celf_sugar.specs.Plain.{body_of, class_of, desugared_object, desugared_telescope, desugared_type};
 ghost use Rattle.celf_explicit.specs.Types.{kind_of};
 ghost use Rattle.celf_explicit.specs.Parts.{entry_type};
-ghost use Rattle.celf_filled.specs.Scopes.{plain_named};
+ghost use Rattle.celf_elaboration.specs.Names.{ImplicitVariable};
+ghost use Rattle.celf_filled.specs.Laws.{ReadsWithNew};
+ghost use Rattle.celf_filled.specs.Scopes.{plain_named, with_known_type};
 ghost use Rattle.celf_filled.specs.States.{state_of};
 ghost use Rattle.celf_filled.specs.WalkItems as spec;
 ghost use Rattle.celf_filled.specs.WalkTypes as types;
@@ -50,6 +52,9 @@ pub fn read_filled(
         (plain_core f.core, state_of store.new f.whole)
         ≡ spec.fill_body (plain_signature sig.now) (map plain_named variables.now) (body_of body.now)
         (state_of store.old true)) }
+    ensures read { IfOk result (λ f.
+        (vs : List ImplicitVariable) → map plain_named variables.now ≡ map with_known_type vs → f.whole ≡ true
+        → ReadsWithNew (plain_signature sig.now) vs (body_of body.now) store.old store.new (plain_core f.core)) }
     ensures wanting { IfErr result IsWant }
 {
     let mut whole = true;

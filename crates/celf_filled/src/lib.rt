@@ -4,6 +4,7 @@
 mod headed;
 mod heads;
 mod items;
+mod laws;
 mod objects;
 mod places;
 mod scope;
@@ -12,4 +13,5 @@ mod typed;
 mod types;
 
 pub use items::{Filled, read_filled};
+pub use laws::whole_is_read;
 pub use typed::typed_from;

@@ -15,14 +15,18 @@ ghost use Rattle.celf_filled.specs.States.{state_of};
 ghost use Rattle.celf_filled.specs.Headed.{plain_headed};
 ghost use Rattle.celf_filled.specs.Walk as spec;
 
-use crate::headed::{Headed, applied, fill_head, first_of, is_dropped, long_form, only_object, second_of};
+use crate::headed::{
+    Headed, applied, fill_head, first_of, is_dropped, long_form, only_object, second_of,
+};
 use crate::places::fill_place;
 use crate::scope::Scope;
 use celf_implicit::Implicit;
 use celf_places::{entries_at, function_parts, marked, next_part, pair_parts};
 use celf_sugar::{PBinder, PElim, PExpr, PMarked, PName, PObj, PObjForm, PStep};
 use clf_sig::Signature;
-use clf_syntax::{Expr, Mode, Modes, Neutral, Obj, Shortage, Simple, SimpleEntry, Step, TupleEntry};
+use clf_syntax::{
+    Expr, Mode, Modes, Neutral, Obj, Shortage, Simple, SimpleEntry, Step, TupleEntry,
+};
 use metavars::Store;
 use sqlite_items::{Boxed, Items};
 use std::alloc::Global;
@@ -67,7 +71,15 @@ pub fn fill_object<'a>(
         PObjForm::Pair { left, right } => {
             let parts = pair_parts(place);
             let first = fill_object(left.get(), sig, variables, scope, parts.left, store, whole)?;
-            let second = fill_object(right.get(), sig, variables, scope, parts.right, store, whole)?;
+            let second = fill_object(
+                right.get(),
+                sig,
+                variables,
+                scope,
+                parts.right,
+                store,
+                whole,
+            )?;
             pair(store.alloc(), first, second)
         }
         PObjForm::Unit => Ok(Obj::Unit),
@@ -253,11 +265,7 @@ fn step_of(modes: Modes, rhs: Neutral) -> Step
 }
 
 /// The modes of a pattern for these entries.
-fn modes_of(
-    alloc: Global,
-    entries: &[SimpleEntry],
-    pattern: &[PBinder],
-) -> Result<Modes, Shortage>
+fn modes_of(alloc: Global, entries: &[SimpleEntry], pattern: &[PBinder]) -> Result<Modes, Shortage>
     ensures { IfOk result (λ ms. ms ≡ pattern_modes (map plain_simple_entry entries.now) pattern.now) }
 {
     let mut modes = Modes::empty(alloc);
@@ -284,12 +292,16 @@ fn fill_tuple<'a>(
     ensures made { IfOk result (λ es.
         map plain_entry es
         ≡ (left_along (spec.fill_entry (plain_signature sig.now) (map plain_named variables.now)
-        (plain_scope scope.now)) (spec.no_entries_yet (map plain_simple_entry wanted.now),
-        state_of store.old whole.old) (map desugared_marked tuple.now)).0.entries) }
+        (plain_scope scope.now)) (
+          spec.no_entries_yet (map plain_simple_entry wanted.now),
+          state_of store.old whole.old,
+        ) (map desugared_marked tuple.now)).0.entries) }
     ensures left { OnOk result (state_of store.new whole.new
         ≡ (left_along (spec.fill_entry (plain_signature sig.now) (map plain_named variables.now)
-        (plain_scope scope.now)) (spec.no_entries_yet (map plain_simple_entry wanted.now),
-        state_of store.old whole.old) (map desugared_marked tuple.now)).1) }
+        (plain_scope scope.now)) (
+          spec.no_entries_yet (map plain_simple_entry wanted.now),
+          state_of store.old whole.old,
+        ) (map desugared_marked tuple.now)).1) }
 {
     let mut entries = Items::new(store.alloc());
     let mut wanted = wanted;

@@ -129,8 +129,10 @@ impl<'a> Scope<'a> {
     /// The newest binder of a name. It fails only where its number would pass the greatest one.
     pub fn find(&self, name: &Name) -> Result<Option<FoundLocal<'a>>, Shortage>
         ensures { IfOk result (λ f.
-            option_map (λ h. (Var h.number,
-            plain_place (option_copied h.place))) f
+            option_map (λ h. (
+              Var h.number,
+              plain_place (option_copied h.place),
+            )) f
             ≡ heads.local_from 0 name.now (plain_locals (map declared_local self.now))) }
     {
         let mut left = self.locals.len();

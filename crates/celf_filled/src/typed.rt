@@ -3,6 +3,7 @@ ghost use Rattle.std.specs.Prelude.{◌≡◌, ◌+◌, ◌++◌, ◌∷◌, [],
 ghost use Rattle.clf_syntax.specs.Plain.{plain_obj};
 ghost use Rattle.clf_syntax.specs.PlainSimple.{plain_simple, plain_simple_entry};
 ghost use Rattle.clf_syntax.specs.PlainTypes.{plain_ty, plain_tele_entry};
+ghost use Rattle.clf_syntax.specs.Simple.{erase};
 ghost use Rattle.clf_syntax.specs.TypeTree as core_type;
 ghost use Rattle.clf_syntax.specs.Wide.{IsWant};
 ghost use Rattle.clf_sig.specs.Signature.{plain_signature};
@@ -24,11 +25,13 @@ use std::alloc::{AllocError, Global};
 ///
 /// These are numbered in order, and applied to the persistent variables that are bound on the way. A family that the
 /// signature does not have gets no indices. It fails only where memory runs out or a number passes its range.
+#[tactic(auto, using(crate::proofs::Erasures::erasure_laws))]
 pub fn typed_from(sig: &Signature, store: &mut Store, simple: &Simple) -> Result<Ty, Want>
     ensures made { IfOk result (λ a.
         plain_ty a
         ≡ spec.typed_from (spec.indices_of (plain_signature sig.now)) (count store.old) []
         (plain_simple simple.now)) }
+    ensures erased { IfOk result (λ a. erase (plain_ty a) ≡ plain_simple simple.now) }
     ensures grown { OnOk result (IsGrownBy store.old store.new
         (spec.new_in (spec.indices_of (plain_signature sig.now)) [] (plain_simple simple.now))) }
     ensures wanting { IfErr result IsWant }
@@ -124,11 +127,7 @@ fn fresh_objects(
 
 /// An object of new metavariables, of the simple type of an entry.
 #[tactic(auto, using(clf_syntax::specs::PlainSimple::plain_simple_laws))]
-fn fresh_object(
-    store: &mut Store,
-    entry: &SimpleEntry,
-    locals: &[SimpleEntry],
-) -> Result<Obj, Want>
+fn fresh_object(store: &mut Store, entry: &SimpleEntry, locals: &[SimpleEntry]) -> Result<Obj, Want>
     ensures made { IfOk result (λ o.
         plain_obj o
         ≡ spec.fresh_object (count store.old) (scope_of (map plain_simple_entry (reverse locals.now)))

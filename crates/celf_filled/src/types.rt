@@ -58,7 +58,15 @@ pub fn fill_type<'a>(
 {
     match &ty.form {
         PTyForm::Family { head, indices } => {
-            fill_family(indices.as_slice(), sig, variables, scope, head, store, whole)
+            fill_family(
+                indices.as_slice(),
+                sig,
+                variables,
+                scope,
+                head,
+                store,
+                whole,
+            )
         }
         PTyForm::Fun {
             mode,
@@ -333,9 +341,7 @@ fn fill_indices<'a>(
     let mut objects = first.objects;
     for index in indices {
         let next = next_part(wanted);
-        objects.push(fill_object(
-            index, sig, variables, outer, next.place, store, whole,
-        )?)?;
+        objects.push(fill_object(index, sig, variables, outer, next.place, store, whole)?)?;
         wanted = next.later;
     }
     Ok(objects)
@@ -351,8 +357,10 @@ fn fill_first<'a>(
 ) -> Result<Indices<'a>, Shortage>
     ensures { IfOk result (λ is.
         (plain_indices is, state_of store.new whole.new)
-        ≡ spec.fill_first (plain_scope scope.now) implicit (spec.no_indices_yet (map plain_simple_entry wanted.now),
-        state_of store.old whole.old)) }
+        ≡ spec.fill_first (plain_scope scope.now) implicit (
+          spec.no_indices_yet (map plain_simple_entry wanted.now),
+          state_of store.old whole.old,
+        )) }
 {
     let mut filled = Indices {
         objects: Items::new(store.alloc()),

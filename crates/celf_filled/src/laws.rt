@@ -1,0 +1,7 @@
+//! What holds of the walks over items.
+ghost use Rattle.celf_filled.specs.Laws.{WholeIsRead};
+
+/// What is made of an item is a reading of it with new metavariables, where all that is left to be found was filled in.
+pub fn whole_is_read()
+    ensures { WholeIsRead }
+{}
