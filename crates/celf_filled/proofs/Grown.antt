@@ -7,7 +7,7 @@ use Rattle.clf_syntax.specs.declared.tree.SimpleEntry.{SimpleEntry}
 use Rattle.clf_syntax.specs.PlainSimple.{plain_simple_entry}
 use Rattle.clf_syntax.specs.Tree.{PlainObject}
 use Rattle.clf_syntax.specs.TypeTree.{PlainType, SimpleType}
-use Rattle.store_laws.specs.Additions.{Addition, new, meta_types}
+use Rattle.store_laws.specs.Additions.{new, meta_types}
 use Rattle.pattern_laws.specs.Equations.{Locals}
 use Rattle.metavars.specs.Fresh.{Scope, new_types, fresh_object}
 use Rattle.metavars.specs.Stored.{Stored, constants, additions}

@@ -4,16 +4,15 @@ use Rattle.std.proofs.Common.{ap, sym, ◌∙◌, append_assoc, append-nil, subs
 use Rattle.clf_syntax.specs.declared.tree.Mode.{Mode}
 use Rattle.clf_syntax.specs.declared.tree.Mode.TheVariants.{Persistent}
 use Rattle.clf_syntax.specs.Tree.{PlainObject}
-use Rattle.clf_syntax.specs.TypeTree.{SimpleType, PlainType, PlainKind}
+use Rattle.clf_syntax.specs.TypeTree.{SimpleType, PlainKind}
 use Rattle.clf_syntax.specs.Simple.{erase}
 use Rattle.clf_sig.specs.Entry.{PlainClass, family_of, constant_of, PlainSignature, class_at, kind_in, family_kind, place_of}
-use Rattle.pattern_laws.specs.Equations.{Locals}
 use Rattle.celf_sugar.specs.PlainTree.{DesugaredObject}
 use Rattle.celf_names.specs.Names.{family_only, family_named}
-use Rattle.celf_places.specs.Places.{Place, next_part}
+use Rattle.celf_places.specs.Places.{next_part}
 use Rattle.celf_places.specs.Heads.{argument_entry}
 use Rattle.celf_places.specs.Along.{left_along}
-use Rattle.celf_elaboration.specs.Fillings.{Fillings, Scoped, KnownLocals}
+use Rattle.celf_elaboration.specs.Fillings.{Fillings, Scoped}
 use Rattle.celf_elaboration.specs.Names.{ImplicitVariable}
 use Rattle.celf_elaboration.specs.Declarations.{declared_heads}
 use Rattle.celf_elaboration.specs.Readings.{ReadsObject, ReadsFilled, filled_none, filled_next, ReadsIndices, indices_none, indices_next, indices_beyond}

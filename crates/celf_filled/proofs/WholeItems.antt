@@ -1,9 +1,7 @@
 -- What a walk makes of an item is a reading, where all was filled in.
-use Rattle.std.specs.Prelude.{◌≡◌, Bool, true, List, map}
+use Rattle.std.specs.Prelude.{◌≡◌, true, map}
 use Rattle.std.proofs.Common.{ap, sym, ◌∙◌, subst}
-use Rattle.clf_sig.specs.Entry.{PlainSignature}
 use Rattle.clf_sig.specs.Core.{PlainCore}
-use Rattle.celf_elaboration.specs.Fillings.{Fillings}
 use Rattle.celf_elaboration.specs.Declarations.{declared_heads}
 use Rattle.celf_elaboration.specs.Items.{ReadsBody}
 use Rattle.celf_filled.specs.Scopes.{with_known_type}

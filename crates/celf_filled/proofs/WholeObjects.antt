@@ -1,32 +1,20 @@
 -- Where the walk over an object leaves a whole state, its tree is read.
-use Rattle.std.specs.Prelude.{ℕ, zero, suc, ◌+◌, ◌≡◌, Bool, true, false, if◌then◌else◌, List, [], ◌∷◌, ◌++◌, length, map, Option, None, Some, option_map, refl}
-use Rattle.std.specs.Option.{option_or}
+use Rattle.std.specs.Prelude.{ℕ, ◌+◌, ◌≡◌, List, [], ◌∷◌, ◌++◌, length, map, Option, None, Some, refl}
 use Rattle.std.proofs.Common.{ap, sym, ◌∙◌, append_assoc, append-nil, arith}
-use Rattle.std.proofs.lemmas.List.{map-append, length-append}
-use Rattle.clf_syntax.specs.declared.tree.Mode.{Mode}
-use Rattle.clf_syntax.specs.declared.tree.Head.{Head}
-use Rattle.clf_syntax.specs.Word.{same_bytes}
-use Rattle.clf_syntax.specs.Tree as core
-use Rattle.clf_syntax.specs.Tree.{PlainObject, PlainNeutral}
-use Rattle.clf_syntax.specs.TypeTree.{SimpleType, base, arrow, simple_with, simple_top, lax}
-use Rattle.clf_sig.specs.Entry.{PlainSignature}
+use Rattle.std.proofs.lemmas.List.{length-append}
+use Rattle.clf_syntax.specs.Tree.{PlainObject}
+use Rattle.clf_syntax.specs.TypeTree.{SimpleType}
 use Rattle.store_laws.specs.Additions.{new, meta_types}
 use Rattle.pattern_laws.specs.Equations.{Locals}
 use Rattle.metavars.specs.Fresh.{scope_of, new_types}
 use Rattle.metavars.proofs.ScopesLaws.{types-more, new-twice}
-use Rattle.celf_sugar.specs.declared.plain.PName.{PName}
-use Rattle.celf_sugar.specs.PlainTree.{DesugaredObject, lam, pair, unit, monadic, atomic, hole, DesugaredSpine, end_of_spine, and_then, argument, first, second, DesugaredSteps, no_steps, step, DesugaredTuple, end_of_tuple, entry}
-use Rattle.celf_places.specs.Places.{Place, marked, function_parts, pair_parts, entries_at, next_part}
+use Rattle.celf_places.specs.Places.{Place}
 use Rattle.celf_places.specs.Combined.{combined}
-use Rattle.celf_explicit.specs.Objects.{long_at, pattern_modes, expression_of}
-use Rattle.celf_elaboration.specs.Fillings.{Filling, Fillings, AreNew, types_of_new, Scoped, KnownLocals}
-use Rattle.celf_elaboration.specs.Names.{ImplicitVariable, Meaning, meaning, implicit_from}
-use Rattle.celf_elaboration.specs.Declarations.{declared_heads}
-use Rattle.celf_elaboration.specs.Readings.{blank_at, with_pattern, lambda_local, ReadsImplicit, implicit_none, implicit_next, ReadsHead, reads_head, ReadsObject, reads_lam, reads_pair, reads_unit, reads_monadic, reads_atomic, reads_dropped, reads_hole, ReadsSpine, spine_end, spine_argument, spine_first, spine_second, ReadsSteps, steps_none, steps_next, ReadsTuple, tuple_end, tuple_entry}
-use Rattle.celf_filled.specs.Scopes.{Named, with_known_type, known_local, known_locals, variable_from, meaning_of}
-use Rattle.celf_filled.specs.States.{State, count_in, not_whole, with_new}
+use Rattle.celf_elaboration.specs.Fillings.{Fillings, AreNew, types_of_new, Scoped, KnownLocals}
+use Rattle.celf_filled.specs.Scopes.{known_local, known_locals}
+use Rattle.celf_filled.specs.States.{State, count_in}
 use Rattle.celf_filled.specs.Whole.{Grows, IsRead}
-use Rattle.celf_filled.specs.Walk.{fill_known, fill_place, Headed, fill_argument, fill_arguments, fill_implicit, fill_meaning, fill_head, fill_object, fill_spine, fill_act, Steps, fill_steps, step_with, with_step, no_steps_yet, Entries, fill_tuple, marked_with, with_entry, no_entries_yet}
+use Rattle.celf_filled.specs.Walk.{fill_known, fill_place}
 
 -- ---- growing
 

@@ -17,12 +17,12 @@ use Rattle.celf_explicit.specs.Objects.{long_at, pattern_modes, expression_of}
 use Rattle.celf_elaboration.specs.Fillings.{Fillings, Scoped, KnownLocals}
 use Rattle.celf_elaboration.specs.Names.{ImplicitVariable, Meaning, meaning, implicit_from}
 use Rattle.celf_elaboration.specs.Declarations.{declared_heads}
-use Rattle.celf_elaboration.specs.Readings.{blank_at, with_pattern, lambda_local, ReadsImplicit, implicit_none, implicit_next, ReadsHead, reads_head, ReadsObject, reads_lam, reads_pair, reads_unit, reads_monadic, reads_atomic, reads_dropped, reads_hole, ReadsSpine, spine_end, spine_argument, spine_first, spine_second, ReadsSteps, steps_none, steps_next, ReadsTuple, tuple_end, tuple_entry}
-use Rattle.celf_filled.specs.Scopes.{Named, with_known_type, variable_from, meaning_of}
-use Rattle.celf_filled.specs.States.{State, not_whole}
+use Rattle.celf_elaboration.specs.Readings.{blank_at, lambda_local, ReadsImplicit, implicit_none, implicit_next, ReadsHead, reads_head, ReadsObject, reads_lam, reads_pair, reads_unit, reads_monadic, reads_atomic, reads_dropped, reads_hole, ReadsSpine, spine_end, spine_argument, spine_first, spine_second, ReadsSteps, steps_none, steps_next, ReadsTuple, tuple_end, tuple_entry}
+use Rattle.celf_filled.specs.Scopes.{with_known_type, variable_from, meaning_of}
+use Rattle.celf_filled.specs.States.{State}
 use Rattle.celf_filled.specs.Whole.{IsRead}
-use Rattle.celf_filled.specs.Walk.{fill_place, Headed, applied_to, first_of, second_of, fill_argument, fill_arguments, fill_implicit, fill_meaning, nothing_read, fill_head, fill_object, fill_spine, fill_act, in_long_form, Steps, fill_steps, step_with, with_step, no_steps_yet, Entries, fill_tuple, marked_with, with_entry, no_entries_yet}
-use Rattle.celf_filled.proofs.WholeObjects.{grows_none, read_alone, read_by, read_then, IsFilling, place_read}
+use Rattle.celf_filled.specs.Walk.{fill_place, Headed, first_of, second_of, fill_argument, fill_arguments, fill_implicit, fill_meaning, fill_head, fill_object, fill_spine, fill_act, in_long_form, Steps, fill_steps, step_with, with_step, no_steps_yet, Entries, fill_tuple, marked_with, with_entry, no_entries_yet}
+use Rattle.celf_filled.proofs.WholeObjects.{read_alone, read_by, read_then, IsFilling, place_read}
 
 pub variables_same : (heads : ℕ → Head) (k : ℕ) (name : List ℕ) (vs : List ImplicitVariable) → variable_from heads k name (map with_known_type vs) ≡ implicit_from heads k name vs
 variables_same heads k name [] = refl

@@ -1,18 +1,13 @@
 -- Where the walk over a type leaves a whole state, its tree is read with the new metavariables as fillings.
-use Rattle.std.specs.Prelude.{ℕ, zero, suc, ◌≡◌, Bool, true, List, [], ◌∷◌, ◌++◌, map, Option, None, Some, option_map, option_and_then, refl}
+use Rattle.std.specs.Prelude.{ℕ, ◌≡◌, List, [], ◌∷◌, ◌++◌, map, Option, None, Some, option_map, refl}
 use Rattle.std.proofs.Common.{ap, sym, ◌∙◌, append_assoc, append-nil, subst}
 use Rattle.clf_syntax.specs.declared.tree.Mode.{Mode}
-use Rattle.clf_syntax.specs.declared.tree.Mode.TheVariants.{Persistent}
-use Rattle.clf_syntax.specs.Tree.{PlainObject}
 use Rattle.clf_syntax.specs.TypeTree as core
 use Rattle.clf_syntax.specs.TypeTree.{SimpleType, base, arrow, simple_with, lax, simple_binding, PlainType, PlainTelescope, PlainKind}
 use Rattle.clf_syntax.specs.Simple.{erase, erase_telescope}
-use Rattle.clf_sig.specs.Entry.{PlainClass, family_of, constant_of, PlainSignature, class_at, kind_in, family_kind, entry_at, place_of}
+use Rattle.clf_sig.specs.Entry.{family_of, constant_of, PlainSignature, family_kind, entry_at}
 use Rattle.celf_sugar.specs.PlainTree.{DesugaredObject, DesugaredType, family, function, both, top, monad, DesugaredTelescope, end, binding}
-use Rattle.celf_names.specs.Names.{family_only, family_named}
-use Rattle.celf_places.specs.Places.{next_part}
-use Rattle.celf_places.specs.Heads.{argument_entry}
-use Rattle.celf_places.specs.Combined.{combined}
+use Rattle.celf_names.specs.Names.{family_named}
 use Rattle.celf_places.specs.SimpleTypes.{simple_type, simple_telescope}
 use Rattle.celf_elaboration.specs.Fillings.{Fillings, Scoped}
 use Rattle.celf_elaboration.specs.Names.{ImplicitVariable}
@@ -29,13 +24,12 @@ use Rattle.celf_elaboration.specs.Items.{ReadsBody, reads_family_declaration, re
 use Rattle.celf_filled.specs.Scopes.{with_known_type, implicit_after}
 use Rattle.celf_filled.specs.States.{State}
 use Rattle.celf_filled.specs.Whole.{IsRead}
-use Rattle.celf_filled.specs.Walk.{fill_object}
 use Rattle.celf_filled.specs.WalkTypes.{Indices, no_indices_yet, fill_first, written_index, fill_family, Bindings, no_bindings_yet, bound_local, with_binding, entry_with, fill_type, fill_telescope}
 use Rattle.celf_filled.specs.WalkItems.{fill_against, fill_body}
-use Rattle.celf_filled.proofs.WholeObjects.{grows_none, read_alone, read_by, read_then}
+use Rattle.celf_filled.proofs.WholeObjects.{read_alone, read_by, read_then}
 use Rattle.celf_filled.proofs.WholeReadings.{object_read}
 use Rattle.celf_filled.proofs.WholeIndices.{persistent, arguments_persistent, unpersistent, after_first, first_wanted, family_has_kind, FirstRead, WrittenRead, first_read, written_read}
-use Rattle.celf_elaboration.specs.Readings.{ReadsObject, ReadsFilled, ReadsIndices, ReadsType, reads_family, reads_function, reads_both, reads_top, reads_monad, ReadsTelescope, reads_end, reads_binding}
+use Rattle.celf_elaboration.specs.Readings.{ReadsObject, ReadsFilled, ReadsType, reads_family, reads_function, reads_both, reads_top, reads_monad, ReadsTelescope, reads_end, reads_binding}
 
 -- What is left of a type that is read is the simple type of its tree.
 module _ (sig : PlainSignature) (vs : List ImplicitVariable) where

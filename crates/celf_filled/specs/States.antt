@@ -1,5 +1,5 @@
 -- Inner: how a store grows by new metavariables, and the state of a walk that makes them.
-use Rattle.std.specs.Prelude.{ℕ, ◌≡◌, ◌++◌, Bool, true, false, List, length, map}
+use Rattle.std.specs.Prelude.{ℕ, ◌≡◌, ◌++◌, Bool, false, List, length, map}
 use Rattle.clf_syntax.specs.TypeTree.{SimpleType}
 use Rattle.store_laws.specs.Additions.{Addition, new, meta_types}
 use Rattle.metavars.specs.Stored.{Stored, constants, additions}

@@ -1,6 +1,6 @@
 -- Inner: what a walk makes of objects: their trees, in which new metavariables stand for what is left to be found, and the state that it leaves.
 -- Where no filling can be made, since the place or a local has no known simple type, or a name has no meaning, a hole stands, and the state is not whole.
-use Rattle.std.specs.Prelude.{ℕ, zero, suc, ◌≡◌, Bool, true, false, if◌then◌else◌, List, [], ◌∷◌, ◌++◌, Option, None, Some, refl}
+use Rattle.std.specs.Prelude.{ℕ, zero, suc, ◌≡◌, if◌then◌else◌, List, [], ◌∷◌, ◌++◌, Option, None, Some, refl}
 use Rattle.clf_syntax.specs.declared.tree.Mode.{Mode}
 use Rattle.clf_syntax.specs.declared.tree.Mode.TheVariants.{Linear}
 use Rattle.clf_syntax.specs.declared.tree.Head.TheVariants.{Var}

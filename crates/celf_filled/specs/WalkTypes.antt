@@ -5,7 +5,6 @@ use Rattle.clf_syntax.specs.Tree.{PlainObject, hole}
 use Rattle.clf_syntax.specs.TypeTree as core
 use Rattle.clf_syntax.specs.TypeTree.{SimpleType, PlainType}
 use Rattle.clf_sig.specs.Entry.{PlainSignature, entry_at}
-use Rattle.celf_sugar.specs.declared.plain.PName.{PName}
 use Rattle.celf_sugar.specs.PlainTree.{DesugaredObject, DesugaredType, family, function, both, top, monad, DesugaredTelescope, end, binding, DesugaredEntry, telescope_of}
 use Rattle.celf_names.specs.Names.{family_named}
 use Rattle.celf_places.specs.Places.{Place, next_part}

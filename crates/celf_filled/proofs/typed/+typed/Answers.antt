@@ -1,6 +1,6 @@
-use Rattle.std.proofs.Common.{ap, sym, refl, ◌∙◌, ◌≡◌, ◌+◌, ◌++◌, ◌∷◌, [], map, drop, reverse}
+use Rattle.std.proofs.Common.{ap, sym, refl, ◌∙◌, ◌≡◌, ◌+◌, ◌∷◌, [], map, drop, reverse}
 use Rattle.std.proofs.lemmas.List.{map-append}
-use Rattle.clf_syntax.specs.TypeTree.{top, simple_top}
+use Rattle.clf_syntax.specs.TypeTree.{simple_top}
 use Rattle.clf_syntax.specs.PlainTypes.{plain_tele_entry, plain-Top}
 use Rattle.clf_syntax.specs.PlainSimple.{plain_simple, plain_simple_entry, plain-SimpleTop}
 use Rattle.clf_sig.specs.Signature.{plain_signature}

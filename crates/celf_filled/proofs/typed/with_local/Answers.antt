@@ -1,4 +1,4 @@
-use Rattle.std.proofs.Common.{ap, ◌∙◌, ◌++◌, ◌∷◌, reverse, map}
+use Rattle.std.proofs.Common.{ap, ◌∙◌, ◌∷◌, reverse, map}
 use Rattle.clf_syntax.specs.PlainSimple.{plain_simple, plain_simple_entry}
 use Rattle.celf_places.specs.Combined.{with_mode}
 use Rattle.celf_filled.proofs.Grown.{one_more}
