@@ -9,3 +9,4 @@ pub mod WholeTypes
 pub mod WholeIndices
 pub mod WholeItems
 pub mod Erasures
+pub mod FormedTypes

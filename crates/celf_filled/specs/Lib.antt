@@ -8,6 +8,7 @@ pub mod WalkTypes
 pub mod WalkItems
 pub mod Whole
 pub mod Laws
+pub mod FormedTypes
 pub mod Headed
 pub mod HeadedTypes
 pub mod TypedFrom

@@ -13,5 +13,5 @@ mod typed;
 mod types;
 
 pub use items::{Filled, read_filled};
-pub use laws::whole_is_read;
+pub use laws::{made_types_are_formed, whole_is_read};
 pub use typed::typed_from;
