@@ -1,10 +1,10 @@
 -- The type made of a simple type is simply formed.
-use Rattle.std.specs.Prelude.{ℕ, zero, suc, ◌+◌, ◌≡◌, List, [], ◌∷◌, ◌++◌, length, Some, refl}
-use Rattle.std.proofs.Common.{ap, sym, ◌∙◌, arith}
+use Rattle.std.specs.Prelude.{ℕ, zero, suc, ◌+◌, ◌≡◌, List, [], ◌∷◌, ◌++◌, length}
+use Rattle.std.proofs.Common.{ap, ◌∙◌, arith}
 use Rattle.clf_syntax.specs.declared.tree.Mode.{Mode}
 use Rattle.clf_syntax.specs.declared.tree.Head.TheVariants.{Meta}
 use Rattle.clf_syntax.specs.TypeTree.{SimpleType, base, arrow, simple_with, simple_top, lax, SimpleTelescope, simple_end, simple_binding}
-use Rattle.clf_syntax.specs.Simple.{erase, Assignment, Families, extended, SimplyTypedEach, SimplyFormed, SimplyFormedTelescope}
+use Rattle.clf_syntax.specs.Simple.{Assignment, Families, extended, SimplyTypedEach, SimplyFormed, SimplyFormedTelescope}
 use Rattle.clf_syntax.proofs.Lists.{get-front}
 use Rattle.pattern_laws.specs.Equations.{Locals}
 use Rattle.metavars.specs.Fresh.{scope_of, new_types}
