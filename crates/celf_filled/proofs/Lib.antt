@@ -1,0 +1,12 @@
+pub mod Forms
+pub mod Grown
+pub mod ScopeLaws
+pub mod Walks
+pub mod WholeObjects
+pub mod WholeReadings
+pub mod Bindings
+pub mod WholeTypes
+pub mod WholeIndices
+pub mod WholeItems
+pub mod Erasures
+pub mod FormedTypes

@@ -1,0 +1,14 @@
+pub use Rattle.celf_elaboration.specs.Readings
+pub use Rattle.celf_elaboration.specs.Items
+pub use Rattle.metavars.specs.Stored
+pub mod States
+pub mod Scopes
+pub mod Walk
+pub mod WalkTypes
+pub mod WalkItems
+pub mod Whole
+pub mod Laws
+pub mod FormedTypes
+pub mod Headed
+pub mod HeadedTypes
+pub mod TypedFrom
