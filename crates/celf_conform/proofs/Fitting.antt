@@ -1,0 +1,1 @@
+-- The walk finds no misfit exactly where an object conforms.
