@@ -3,5 +3,6 @@ pub mod Modes
 pub mod Scopes
 pub mod Lists
 pub mod Filling
-pub mod Fitting
+pub mod Families
+pub mod Judging
 pub mod Whole

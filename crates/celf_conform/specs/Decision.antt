@@ -55,8 +55,12 @@ second_found (simple_with c d) = Ok d
 second_found _ = Err NotPair
 
 -- ---- a part at a type of its form
+-- a lambda or an entry in its mode
+abbrev pub at_mode : Mode → Mode → Option Misfit → Option Misfit
+at_mode m n w = if same_mode m n then w else Some (ModeDiffers n m)
+
 abbrev pub at_function : Mode → SimpleType → (SimpleType → SimpleType → Option Misfit) → Option Misfit
-at_function m (arrow n d c) f = if same_mode m n then f d c else Some (ModeDiffers n m)
+at_function m (arrow n d c) f = at_mode m n (f d c)
 at_function m _ f = Some NotFunction
 
 abbrev pub at_with : SimpleType → (SimpleType → Option Misfit) → (SimpleType → Option Misfit) → Option Misfit
@@ -113,10 +117,6 @@ in_scope (Err w) f = Some w
 abbrev pub at_end : Misfit → SimpleTelescope → Option Misfit
 at_end w simple_end = None
 at_end w (simple_binding m t s) = Some w
-
--- an entry in its mode
-abbrev pub at_mode : Mode → Mode → Option Misfit → Option Misfit
-at_mode m n w = if same_mode m n then w else Some (ModeDiffers n m)
 
 abbrev pub at_entry : Misfit → Mode → SimpleTelescope → (SimpleType → Option Misfit) → (SimpleTelescope → Option Misfit) → Option Misfit
 at_entry w m simple_end f later = Some w

@@ -7,4 +7,5 @@ pub mod Known
 pub mod Seen
 pub mod Decision
 pub mod Fits
+pub mod Misses
 pub mod Conforms

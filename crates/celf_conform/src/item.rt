@@ -8,7 +8,7 @@ ghost use Rattle.store_laws.specs.Additions.{meta_types};
 ghost use Rattle.metavars.specs.Stored.{constants, additions};
 ghost use Rattle.celf_conform.specs.Known.{known_over};
 ghost use Rattle.celf_conform.specs.Seen.{known_of};
-ghost use Rattle.celf_conform.specs.Conforms.{JudgesCore};
+ghost use Rattle.celf_conform.specs.Conforms.{IsOver, JudgesCore};
 ghost use Rattle.celf_conform.specs.Decision as spec;
 
 use crate::formation::{kind_misfit, object_misfit, telescope_misfit, type_misfit};
@@ -29,6 +29,7 @@ pub fn first_misfit(
     store: &Store,
     core: &Core,
 ) -> Result<Option<Misfit>, AllocError>
+    requires over { IsOver (plain_signature sig.now) (constants store.now) }
     ensures { IfOk result (JudgesCore
         (known_over (plain_signature sig.now) (constants store.now) (meta_types (additions store.now)))
         (plain_core core.now)) }

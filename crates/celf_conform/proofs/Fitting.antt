@@ -1,1 +1,0 @@
--- The walk finds no misfit exactly where an object conforms.
