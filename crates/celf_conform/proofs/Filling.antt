@@ -1,11 +1,13 @@
 -- The walk of simple typing decides whether a metavariable may be filled in.
 use Rattle.std.proofs.Common.{◌≡◌, Bool, true, false, List, [], ◌∷◌, ◌++◌, map, reverse, refl, sym, ap, subst, ◌∙◌, IsTrue, ◌↔◌}
+use Rattle.std.specs.Prelude.{Result, Ok, Err, IfOk}
+use Rattle.clf_syntax.specs.declared.tree.SimpleEntry.{SimpleEntry}
 use Rattle.std.specs.Borrow.{Bor}
 use Rattle.std.proofs.lemmas.List.{append_assoc, append-nil, reverse-append}
 use Rattle.clf_syntax.specs.declared.tree.Simple.{Simple}
 use Rattle.clf_syntax.specs.Tree.{PlainObject}
 use Rattle.clf_syntax.specs.TypeTree.{SimpleType, SimpleTelescope}
-use Rattle.clf_syntax.specs.PlainSimple.{plain_simple, simple_telescope_of}
+use Rattle.clf_syntax.specs.PlainSimple.{plain_simple, plain_simple_entry, simple_telescope_of}
 use Rattle.clf_syntax.specs.Simple.{assigned, extended_by, SimplyTyped}
 use Rattle.clf_simple.specs.Decision.{HeadTypes, heads_in, behind, typed}
 use Rattle.clf_simple.proofs.Decided.{sound, complete}
@@ -26,7 +28,7 @@ decides false k g o t e = by_typed (typed k g o t) refl
     by_typed false p = sym p
 
 -- the entries made of the locals
-pub filling : (k : HeadTypes) (ls : List (Bor Simple)) (o : PlainObject) (t : SimpleType) (s : SimpleTelescope) (b : Bool) → s ≡ simple_telescope_of (map persistent_entry ls)
+filling : (k : HeadTypes) (ls : List (Bor Simple)) (o : PlainObject) (t : SimpleType) (s : SimpleTelescope) (b : Bool) → s ≡ simple_telescope_of (map persistent_entry ls)
     → IsTrue b ↔ SimplyTyped (extended_by s (assigned k.constants k.metavariables [])) o t → b ≡ typed k (scope ls) o t
 filling k ls o t s b q e = decides b k (scope ls) o t (subst (λ a. IsTrue b ↔ SimplyTyped a o t) (sym h) e)
   where
@@ -34,4 +36,7 @@ filling k ls o t s b q e = decides b k (scope ls) o t (subst (λ a. IsTrue b ↔
     h = ap (heads_in k) (sym (behind_more ls [] ∙ append-nil (scope ls))) ∙ behind_assigned k.constants k.metavariables (simple_telescope_of (map persistent_entry ls)) []
         ∙ ap (λ u. extended_by u (assigned k.constants k.metavariables [])) (sym q)
 
-pub ruleset filling_laws = (filling)
+pub filling_of : {E : Type 0} (k : HeadTypes) (ls : List (Bor Simple)) (o : PlainObject) (t : SimpleType) (es : List SimpleEntry) (r : Result Bool E) → map plain_simple_entry es ≡ map persistent_entry ls
+    → IfOk r (λ b. IsTrue b ↔ SimplyTyped (extended_by (simple_telescope_of (map plain_simple_entry es)) (assigned k.constants k.metavariables [])) o t) → IfOk r (λ b. b ≡ typed k (scope ls) o t)
+filling_of k ls o t es (Ok b) q e = filling k ls o t (simple_telescope_of (map plain_simple_entry es)) b (ap simple_telescope_of q) e
+filling_of k ls o t es (Err x) q e = tt

@@ -51,7 +51,7 @@ modes_same Affine Linear e = absurd (cc)
 modes_same Linear Persistent e = absurd (cc)
 modes_same Linear Affine e = absurd (cc)
 
-mode_itself : (m : Mode) → same_mode m m ≡ true
+pub mode_itself : (m : Mode) → same_mode m m ≡ true
 mode_itself Persistent = refl
 mode_itself Affine = refl
 mode_itself Linear = refl
@@ -201,7 +201,7 @@ module _ (k : PlainKnown) (families : FamiliesAtTop k) where
   without_families g (Var i) t e = inl e
   without_families g (Meta m) t e = inl e
 
-  with_families : (g : List SimpleType) → ButTop (heads_in k g) (assigned k.constants k.metavariables g)
+  pub with_families : (g : List SimpleType) → ButTop (heads_in k g) (assigned k.constants k.metavariables g)
   with_families g (Const c) t e = inl (at (k.is_family c) e)
     where
       at : (v : Bool) → (if v then None else slice_get k.constants c) ≡ Some t → slice_get k.constants c ≡ Some t

@@ -71,7 +71,6 @@ fn other_family(wanted: u32, found: &Simple) -> Option<Misfit>
 }
 
 /// What is wrong with an object to be filled in: its metavariable has to be there with the type that is wanted.
-#[tactic(auto, using(crate::proofs::Filling::filling_laws))]
 pub fn filled_misfit<'a>(
     known: &Known<'a>,
     locals: &[&'a Simple],
@@ -81,13 +80,31 @@ pub fn filled_misfit<'a>(
     ensures { IfOk result (λ w. w ≡ spec.filled
         (typed (spec.head_types (known_of known.now)) (scope locals.now) (plain_obj obj.now) (plain_simple ty.now))) }
 {
-    let entries = entries_of(known.alloc, locals)?;
-    let ctx = entries.as_slice();
-    if simply_typed(known.alloc, known.consts, known.metas, ctx, obj, ty)? {
+    if is_typed(known, locals, obj, ty)? {
         Ok(None)
     } else {
         Ok(Some(Misfit::NotClosed))
     }
+}
+
+fn is_typed<'a>(
+    known: &Known<'a>,
+    locals: &[&'a Simple],
+    obj: &Obj,
+    ty: &Simple,
+) -> Result<bool, AllocError>
+    ensures { IfOk result (λ b. b
+        ≡ typed (spec.head_types (known_of known.now)) (scope locals.now) (plain_obj obj.now) (plain_simple ty.now)) }
+{
+    let entries = entries_of(known.alloc, locals)?;
+    simply_typed(
+        known.alloc,
+        known.consts,
+        known.metas,
+        entries.as_slice(),
+        obj,
+        ty,
+    )
 }
 
 #[tactic(auto, using(clf_syntax::specs::PlainSimple::plain_simple_laws))]
