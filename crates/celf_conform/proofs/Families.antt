@@ -1,5 +1,5 @@
 -- Whether families have the type <T> or none makes no difference to what is simply typed: nothing stands at it as a head.
-use Rattle.std.specs.Prelude.{ℕ, zero, suc, ◌≡◌, ◌⊎◌, List, [], ◌∷◌, Some, refl}
+use Rattle.std.specs.Prelude.{ℕ, zero, suc, ◌≡◌, ◌⊎◌, true, List, [], ◌∷◌, Some, refl}
 use Rattle.std.proofs.Common.{inl, inr, sym, ◌∙◌, ⊎_elim}
 use Rattle.clf_syntax.specs.declared.tree.Mode.{Mode}
 use Rattle.clf_syntax.specs.declared.tree.Head.{Head}

@@ -62,16 +62,16 @@ false_true e q = absurd (cc)
 modes_differ : (m n : Mode) → same_mode m n ≡ false → n ≡ m → ⊥
 modes_differ m n e q = false_true e (subst (λ i. same_mode m i ≡ true) (sym q) (mode_itself m))
 
-by_mode : (m j : Mode) (x : Option Misfit) {F : Type 0} {M : Misfit → Type 0} → (m ≡ j → Judged x F M) → ((j ≡ m → ⊥) → M (ModeDiffers j m)) → Judged (at_mode m j x) F M
-by_mode m j x {F} {M} yes no = at (same_mode m j) refl
+by_mode : (m j : Mode) (x : Option Misfit) (F : Type 0) (M : Misfit → Type 0) → (m ≡ j → Judged x F M) → ((j ≡ m → ⊥) → M (ModeDiffers j m)) → Judged (at_mode m j x) F M
+by_mode m j x F M agrees differs = at (same_mode m j) refl
   where
     at : (v : Bool) → same_mode m j ≡ v → Judged (if v then x else Some (ModeDiffers j m)) F M
-    at true e = yes (modes_same m j e)
-    at false e = no (modes_differ m j e)
+    at true e = agrees (modes_same m j e)
+    at false e = differs (modes_differ m j e)
 
-unless_found : {A : Type 0} (x : Option Misfit) (c : A) {F : Type 0} {M : Misfit → Type 0} {G : A → Type 0} {N : Misfit → Type 0} → (F → G c) → ((w : Misfit) → M w → N w) → Judged x F M → JudgedFound (unless x c) G N
-unless_found None c f g p = f p
-unless_found (Some w) c f g p = g w p
+unless_found : {A : Type 0} (x : Option Misfit) (c : A) (F : Type 0) (M : Misfit → Type 0) (G : A → Type 0) (N : Misfit → Type 0) → (F → G c) → ((w : Misfit) → M w → N w) → Judged x F M → JudgedFound (unless x c) G N
+unless_found None c F M G N f g p = f p
+unless_found (Some w) c F M G N f g p = g w p
 
 numbers_same : (f g : ℕ) → (f == g) ≡ true → f ≡ g
 numbers_same f g e = grind arith
@@ -124,7 +124,7 @@ module _ (b : Assignment) where
   applies m r n f (Ok (arrow j d c)) p q = at (same_mode m j) refl
     where
       at : (v : Bool) → same_mode m j ≡ v → JudgedFound (if v then unless (f d) c else Err (ModeDiffers j m)) (λ u. NeutralFits b (app m r n) u) (λ w. NeutralMisses b (app m r n) w)
-      at true e = let h = subst (λ i. NeutralFits b r (arrow i d c)) (sym (modes_same m j e)) p in unless_found (f d) c (λ y. (d, h, y)) (λ w y. in_argument d c h y) (q d)
+      at true e = let h = subst (λ i. NeutralFits b r (arrow i d c)) (sym (modes_same m j e)) p in unless_found (f d) c (Fits b n d) (λ w. Misses b n d w) (λ u. NeutralFits b (app m r n) u) (λ w. NeutralMisses b (app m r n) w) (λ y. (d, h, y)) (λ w y. in_argument d c h y) (q d)
       at false e = argument_mode d c p (modes_differ m j e)
   applies m r n f (Ok (base g)) p q = function_at (base g) p tt
   applies m r n f (Ok (simple_with c d)) p q = function_at (simple_with c d) p tt
@@ -219,7 +219,7 @@ module _ (k : PlainKnown) (families : FamiliesAtTop k) where
 
   mutual
     pub object : (g : List SimpleType) (n : PlainObject) (t : SimpleType) → Judged (misfit k g n t) (Fits (heads_in k g) n t) (λ w. Misses (heads_in k g) n t w)
-    object g (lam m n) (arrow j d c) = by_mode m j (misfit k (d ∷ g) n c) (λ e. judged_as (misfit k (d ∷ g) n c) (λ p. (d, c, ap (λ i. arrow i d c) (sym e), subst (λ a. Fits a n c) (next_scope k d g) p))
+    object g (lam m n) (arrow j d c) = by_mode m j (misfit k (d ∷ g) n c) (Fits (heads_in k g) (lam m n) (arrow j d c)) (λ w. Misses (heads_in k g) (lam m n) (arrow j d c) w) (λ e. judged_as (misfit k (d ∷ g) n c) (λ p. (d, c, ap (λ i. arrow i d c) (sym e), subst (λ a. Fits a n c) (next_scope k d g) p))
         (λ w p. subst (λ i. Misses (heads_in k g) (lam m n) (arrow i d c) w) e (in_body (subst (λ a. Misses a n c w) (next_scope k d g) p))) (object (d ∷ g) n c)) (λ q. lambda_mode q)
     object g (lam m n) (base f) = lambda_at tt
     object g (lam m n) (simple_with x y) = lambda_at tt
@@ -259,5 +259,5 @@ module _ (k : PlainKnown) (families : FamiliesAtTop k) where
     tuple g v (entry m n t) simple_end = too_long
     tuple g v (entry m n t) (simple_binding j d u) = one_after (at_mode m j (misfit k g n d)) (tuple_misfit k g v t u) {F = (m ≡ j) × Fits (heads_in k g) n d} {M = λ w. TupleMisses (heads_in k g) v (entry m n t) (simple_binding j d u) w}
         (λ p q. (d, u, ap (λ i. simple_binding i d u) (sym p.0), p.1, q)) (λ w p. p) (λ w p q. subst (λ i. TupleMisses (heads_in k g) v (entry m n t) (simple_binding i d u) w) p.0 (in_later p.1 q))
-        (by_mode m j (misfit k g n d) (λ e. judged_as (misfit k g n d) (λ q. (e, q)) (λ w q. subst (λ i. TupleMisses (heads_in k g) v (entry m n t) (simple_binding i d u) w) e (in_entry q)) (object g n d)) (λ q. entry_mode q))
+        (by_mode m j (misfit k g n d) ((m ≡ j) × Fits (heads_in k g) n d) (λ w. TupleMisses (heads_in k g) v (entry m n t) (simple_binding j d u) w) (λ e. judged_as (misfit k g n d) (λ q. (e, q)) (λ w q. subst (λ i. TupleMisses (heads_in k g) v (entry m n t) (simple_binding i d u) w) e (in_entry q)) (object g n d)) (λ q. entry_mode q))
         (tuple g v t u)

@@ -5,4 +5,5 @@ pub mod Lists
 pub mod Filling
 pub mod Families
 pub mod Judging
+pub mod Completing
 pub mod Whole
