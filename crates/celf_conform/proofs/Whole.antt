@@ -15,6 +15,7 @@ use Rattle.celf_conform.specs.Fits.{Fits, EachFits, TypeFits, TelescopeFits, Kin
 use Rattle.celf_conform.specs.Misses.{Misses, SharedFit, IndicesMisses, index_here, index_later, TypeMisses, unknown_family, in_indices, family_arity, in_domain, in_range, in_left_type, in_right_type, in_entries, TelescopeMisses, in_entry_type, in_later_types, KindMisses, in_argument_type, in_later_arguments, ClassMisses, CheckMisses, CoreMisses}
 use Rattle.celf_conform.specs.Conforms.{IsOver, JudgesCore}
 use Rattle.celf_conform.proofs.Heads.{next_scope}
+use Rattle.celf_conform.proofs.Completing.{both_none, number_itself, complete}
 use Rattle.celf_conform.proofs.Judging.{Judged, judged_as, one_after, FamiliesAtTop, object}
 
 numbers_same : (f g : ℕ) → (f == g) ≡ true → f ≡ g
@@ -78,9 +79,49 @@ module _ (k : PlainKnown) (families : FamiliesAtTop k) where
   cores (equates m n a) = one_after (check_misfit k m a) (misfit k [] n (erase a)) (λ p q. (p.0, p.1, q)) (λ w p. inl p) (λ w p q. inr (p, q)) (checked m a) (object k families [] n (erase a))
   cores (checks n a) = checked n a
 
-  as_answered : (c : PlainCore) (x : Option Misfit) → Judged x (CoreFits k.arguments (heads_in k []) c) (λ w. CoreMisses k.arguments (heads_in k []) c w) → JudgesCore k c x
-  as_answered c None p = p
-  as_answered c (Some w) p = p
+  -- ---- of what conforms nothing is found
+  each_complete : (g : List SimpleType) (ns : List PlainObject) (ts : List SimpleType) → EachFits (heads_in k g) ns ts → (indices_misfit k g ns ts ≡ None) × (length ts ≡ length ns)
+  each_complete g [] [] p = (refl, refl)
+  each_complete g (n ∷ ns) (t ∷ ts) p = let (q, e) = each_complete g ns ts p.1 in (both_none (complete k families g n t p.0) q, ap suc e)
+  each_complete g [] (t ∷ ts) p = absurd p
+  each_complete g (n ∷ ns) [] p = absurd p
+
+  arity_none : (n m : ℕ) → n ≡ m → arity n m ≡ None
+  arity_none n m e = ap (λ v. if v then None else Some (FamilyArity n m)) (subst (λ i. (n == i) ≡ true) e (number_itself n))
+
+  mutual
+    type_complete : (g : List SimpleType) (a : PlainType) → TypeFits k.arguments (heads_in k g) a → type_misfit k g a ≡ None
+    type_complete g (family f ns) p = let (ts, e, q) = p in let (x, y) = each_complete g ns ts q in ap (family_misfit k g f ns) e ∙ both_none x (arity_none (length ts) (length ns) y)
+    type_complete g (function m a c) p = both_none (type_complete g a p.0) (type_complete (erase a ∷ g) c (subst (λ b. TypeFits k.arguments b c) (sym (next_scope k (erase a) g)) p.1))
+    type_complete g (both a c) p = both_none (type_complete g a p.0) (type_complete g c p.1)
+    type_complete g top p = refl
+    type_complete g (monad s) p = telescope_complete g s p
+
+    telescope_complete : (g : List SimpleType) (s : PlainTelescope) → TelescopeFits k.arguments (heads_in k g) s → telescope_misfit k g s ≡ None
+    telescope_complete g end p = refl
+    telescope_complete g (binding m a s) p = both_none (type_complete g a p.0) (telescope_complete (erase a ∷ g) s (subst (λ b. TelescopeFits k.arguments b s) (sym (next_scope k (erase a) g)) p.1))
+
+  kind_complete : (g : List SimpleType) (as' : PlainKind) → KindFits k.arguments (heads_in k g) as' → kind_misfit k g as' ≡ None
+  kind_complete g [] p = refl
+  kind_complete g (a ∷ as') p = both_none (type_complete g a p.0) (kind_complete (erase a ∷ g) as' (subst (λ b. KindFits k.arguments b as') (sym (next_scope k (erase a) g)) p.1))
+
+  class_complete : (c : PlainClass) → ClassFits k.arguments (heads_in k []) c → class_misfit k c ≡ None
+  class_complete (family_of as') p = kind_complete [] as' p
+  class_complete (constant_of a) p = type_complete [] a p
+
+  core_complete : (c : PlainCore) → CoreFits k.arguments (heads_in k []) c → core_misfit k c ≡ None
+  core_complete (declares name e) p = class_complete e.class p
+  core_complete (queries a) p = type_complete [] a p
+  core_complete (traces s) p = telescope_complete [] s p
+  core_complete (equates m n a) p = let (q, x, y) = p in both_none (both_none (type_complete [] a q) (complete k families [] m (erase a) x)) (complete k families [] n (erase a) y)
+  core_complete (checks n a) p = both_none (type_complete [] a p.0) (complete k families [] n (erase a) p.1)
+
+  some_none : (w : Misfit) → Some w ≡ None → ⊥
+  some_none w e = absurd (cc)
+
+  as_answered : (c : PlainCore) (x : Option Misfit) → x ≡ core_misfit k c → Judged x (CoreFits k.arguments (heads_in k []) c) (λ w. CoreMisses k.arguments (heads_in k []) c w) → JudgesCore k c x
+  as_answered c None e p = p
+  as_answered c (Some w) e p = record { found = p; conforms_not = λ q. some_none w (e ∙ core_complete c q) }
 
 -- ---- families in a list over a signature
 family_at_top : (c : PlainClass) → is_family_class (Some c) ≡ true → simple_class c ≡ simple_top
@@ -102,5 +143,5 @@ pub judged : {E : Type 0} (sig : PlainSignature) (constants metas : List SimpleT
     → IfOk r (λ w. w ≡ core_misfit (known_over sig constants metas) core) → IfOk r (JudgesCore (known_over sig constants metas) core)
 judged sig constants metas core (Ok w) o e = let k = known_over sig constants metas in
     let f = families_over sig constants metas o in
-    as_answered k f core w (subst (λ x. Judged x (CoreFits k.arguments (heads_in k []) core) (λ w. CoreMisses k.arguments (heads_in k []) core w)) (sym e) (cores k f core))
+    as_answered k f core w e (subst (λ x. Judged x (CoreFits k.arguments (heads_in k []) core) (λ w. CoreMisses k.arguments (heads_in k []) core w)) (sym e) (cores k f core))
 judged sig constants metas core (Err x) o e = tt

@@ -12,6 +12,11 @@ use Rattle.celf_conform.specs.Misses.{CoreMisses}
 abbrev pub IsOver : PlainSignature → List SimpleType → Type 0
 IsOver sig constants = (variables : List SimpleType) × (constants ≡ simple_types sig ++ variables)
 
+-- The core does not conform, and this is wrong at the first place.
+pub record IsFirstMisfit (k : PlainKnown) (core : PlainCore) (w : Misfit) : Type 0 where
+  pub found : CoreMisses k.arguments (heads_in k []) core w
+  pub conforms_not : CoreFits k.arguments (heads_in k []) core → ⊥
+
 abbrev pub JudgesCore : PlainKnown → PlainCore → Option Misfit → Type 0
 JudgesCore k core None = CoreFits k.arguments (heads_in k []) core
-JudgesCore k core (Some w) = CoreMisses k.arguments (heads_in k []) core w
+JudgesCore k core (Some w) = IsFirstMisfit k core w
