@@ -1,0 +1,9 @@
+pub mod Heads
+pub mod Modes
+pub mod Scopes
+pub mod Lists
+pub mod Filling
+pub mod Families
+pub mod Judging
+pub mod Completing
+pub mod Whole
