@@ -1,5 +1,5 @@
 -- Misfits of trees in memory, whose spines, steps and tuples are lists.
-use Rattle.std.proofs.Common.{◌≡◌, ℕ, suc, ◌+◌, ◌<◌, ◌≤◌, Bool, true, false, List, [], ◌∷◌, length, map, drop, get_or, Option, Some, None, Result, Ok, Err, refl, sym, ap, subst, ◌∙◌, add-one}
+use Rattle.std.proofs.Common.{◌≡◌, ℕ, zero, suc, arith, ◌+◌, ◌<◌, ◌≤◌, Bool, true, false, List, [], ◌∷◌, length, map, drop, get_or, Option, Some, None, Result, Ok, Err, refl, sym, ap, subst, ◌∙◌, add-one}
 use Rattle.std.proofs.Math.Seq.{drop-cons}
 use Rattle.std.proofs.lemmas.List.{drop_all}
 use Rattle.clf_syntax.specs.declared.tree.Mode.{Mode}
@@ -74,3 +74,19 @@ from_place f xs i x l e = rw add-one (ap (map f) (drop-cons xs i x l ∙ ap (λ 
 
 pub rest_none : {X Y : Type 0} (f : X → Y) (xs : List X) (i : ℕ) → length xs ≤ i → map f (drop i xs) ≡ []
 rest_none f xs i l = ap (map f) (drop_all i xs l)
+
+module _ (k : PlainKnown) (g : List SimpleType) (w : Misfit) where
+  -- a tuple that goes on where the entries have ended, or ends where they go on
+  pub tuple_long : (ts : List TupleEntry) (es : List SimpleEntry) (i : ℕ) → i < length ts → length es ≤ i → tuple_misfit k g w (tuple_of (map plain_entry (drop i ts))) (simple_telescope_of (map plain_simple_entry (drop i es))) ≡ Some w
+  tuple_long [] es i l m = absurd (omega (arith, l))
+  tuple_long (t ∷ ts) [] zero l m = refl
+  tuple_long (t ∷ ts) (e ∷ es) zero l m = absurd (omega (arith, m))
+  tuple_long (t ∷ ts) [] (suc i) l m = tuple_long ts [] i (omega (arith, l)) (omega arith)
+  tuple_long (t ∷ ts) (e ∷ es) (suc i) l m = tuple_long ts es i (omega (arith, l)) (omega (arith, m))
+
+  pub tuple_short : (ts : List TupleEntry) (es : List SimpleEntry) (i : ℕ) → length ts ≤ i → i < length es → tuple_misfit k g w (tuple_of (map plain_entry (drop i ts))) (simple_telescope_of (map plain_simple_entry (drop i es))) ≡ Some w
+  tuple_short ts [] i l m = absurd (omega (arith, m))
+  tuple_short [] (e ∷ es) zero l m = refl
+  tuple_short (t ∷ ts) (e ∷ es) zero l m = absurd (omega (arith, l))
+  tuple_short [] (e ∷ es) (suc i) l m = tuple_short [] es i (omega arith) (omega (arith, m))
+  tuple_short (t ∷ ts) (e ∷ es) (suc i) l m = tuple_short ts es i (omega (arith, l)) (omega (arith, m))

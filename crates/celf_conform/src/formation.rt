@@ -23,11 +23,7 @@ use std::alloc::AllocError;
 /// The first misfit of a type.
 #[cycle(form)]
 #[tactic(auto, using(clf_syntax::specs::PlainTypes::plain_type_laws))]
-pub fn type_misfit(
-    known: &Known,
-    scope: &[Simple],
-    ty: &Ty,
-) -> Result<Option<Misfit>, AllocError>
+pub fn type_misfit(known: &Known, scope: &[Simple], ty: &Ty) -> Result<Option<Misfit>, AllocError>
     ensures { IfOk result (λ w. w ≡ spec.type_misfit (known_of known.now) (owned scope.now) (plain_ty ty.now)) }
 {
     match ty {
