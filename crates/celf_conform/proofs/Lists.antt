@@ -8,7 +8,7 @@ use Rattle.clf_syntax.specs.declared.tree.SimpleEntry.{SimpleEntry}
 use Rattle.clf_syntax.specs.declared.tree.TupleEntry.{TupleEntry}
 use Rattle.clf_syntax.specs.PlainSimple.{plain_simple_entry, simple_telescope_of, plain-simple-entry}
 use Rattle.clf_syntax.specs.declared.tree.Expr.{Expr, out-Expr}
-use Rattle.clf_syntax.specs.Tree.{PlainNeutral, head_alone, PlainElimination, arg, first, second, spine_on, steps_on, PlainTuple, done, tuple_of, head_of}
+use Rattle.clf_syntax.specs.Tree.{PlainObject, PlainNeutral, head_alone, PlainElimination, arg, first, second, spine_on, steps_on, PlainTuple, done, tuple_of, head_of}
 use Rattle.clf_syntax.specs.TypeTree.{SimpleType, SimpleTelescope, simple_binding}
 use Rattle.clf_syntax.specs.Plain.{plain_neutral, plain_elim, plain_expr, plain_step, plain_entry, plain-neutral, plain-expr}
 use Rattle.clf_simple.proofs.Lists as simple
@@ -16,7 +16,7 @@ use Rattle.celf_conform.specs.declared.misfit.Misfit.{Misfit}
 use Rattle.celf_conform.specs.declared.misfit.Misfit.TheVariants.{Width}
 use Rattle.celf_conform.proofs.Modes.{wanted_width}
 use Rattle.celf_conform.specs.Known.{PlainKnown}
-use Rattle.celf_conform.specs.Decision.{and_then, in_scope, found, head_found, elimination_found, spine_found, step_scope, steps_scope, expression_misfit, tuple_misfit, tuple_width, widths}
+use Rattle.celf_conform.specs.Decision.{and_then, in_scope, found, head_found, elimination_found, spine_found, step_scope, steps_scope, expression_misfit, tuple_misfit, tuple_width, widths, indices_misfit}
 
 then_ok : {A : Type 0} (x : Result A Misfit) → and_then x (λ t. Ok t) ≡ x
 then_ok (Ok t) = refl
@@ -90,3 +90,11 @@ module _ (k : PlainKnown) (g : List SimpleType) (w : Misfit) where
   tuple_short (t ∷ ts) (e ∷ es) zero l m = absurd (omega (arith, l))
   tuple_short [] (e ∷ es) (suc i) l m = tuple_short [] es i (omega arith) (omega (arith, m))
   tuple_short (t ∷ ts) (e ∷ es) (suc i) l m = tuple_short ts es i (omega (arith, l)) (omega (arith, m))
+
+-- where no argument is left
+pub indices_past : (k : PlainKnown) (g : List SimpleType) (ns : List PlainObject) (ts : List SimpleType) → ts ≡ [] → indices_misfit k g ns ts ≡ None
+indices_past k g ns ts e = ap (indices_misfit k g ns) e ∙ none_left ns
+  where
+    none_left : (ns : List PlainObject) → indices_misfit k g ns [] ≡ None
+    none_left [] = refl
+    none_left (n ∷ ns) = refl
