@@ -81,14 +81,14 @@ module _ (k : PlainKnown) (g : List SimpleType) (w : Misfit) where
   tuple_long [] es i l m = absurd (omega (arith, l))
   tuple_long (t ∷ ts) [] zero l m = refl
   tuple_long (t ∷ ts) (e ∷ es) zero l m = absurd (omega (arith, m))
-  tuple_long (t ∷ ts) [] (suc i) l m = tuple_long ts [] i (omega (arith, l)) (omega arith)
+  tuple_long (t ∷ ts) [] (suc i) l m = subst (λ es. tuple_misfit k g w (tuple_of (map plain_entry (drop i ts))) (simple_telescope_of (map plain_simple_entry es)) ≡ Some w) (drop_all i [] (omega arith)) (tuple_long ts [] i (omega (arith, l)) (omega arith))
   tuple_long (t ∷ ts) (e ∷ es) (suc i) l m = tuple_long ts es i (omega (arith, l)) (omega (arith, m))
 
   pub tuple_short : (ts : List TupleEntry) (es : List SimpleEntry) (i : ℕ) → length ts ≤ i → i < length es → tuple_misfit k g w (tuple_of (map plain_entry (drop i ts))) (simple_telescope_of (map plain_simple_entry (drop i es))) ≡ Some w
   tuple_short ts [] i l m = absurd (omega (arith, m))
   tuple_short [] (e ∷ es) zero l m = refl
   tuple_short (t ∷ ts) (e ∷ es) zero l m = absurd (omega (arith, l))
-  tuple_short [] (e ∷ es) (suc i) l m = tuple_short [] es i (omega arith) (omega (arith, m))
+  tuple_short [] (e ∷ es) (suc i) l m = subst (λ ts. tuple_misfit k g w (tuple_of (map plain_entry ts)) (simple_telescope_of (map plain_simple_entry (drop i es))) ≡ Some w) (drop_all i [] (omega arith)) (tuple_short [] es i (omega arith) (omega (arith, m)))
   tuple_short (t ∷ ts) (e ∷ es) (suc i) l m = tuple_short ts es i (omega (arith, l)) (omega (arith, m))
 
 -- where no argument is left
