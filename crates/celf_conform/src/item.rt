@@ -51,7 +51,11 @@ fn core_misfit(known: &Known, core: &Core) -> Result<Option<Misfit>, AllocError>
     match core {
         Core::Declare { entry, .. } => class_misfit(known, &entry.class),
         Core::Query { ty } => type_misfit(known, &Binders::none(known.alloc), ty),
-        Core::Trace { tele } => telescope_misfit(known, &Binders::none(known.alloc), tele.entries.as_slice()),
+        Core::Trace { tele } => telescope_misfit(
+            known,
+            &Binders::none(known.alloc),
+            tele.entries.as_slice(),
+        ),
         Core::Equal { left, right, ty } => match check_misfit(known, left, ty)? {
             None => object_misfit(known, &Binders::none(known.alloc), right, ty),
             Some(misfit) => Ok(Some(misfit)),
