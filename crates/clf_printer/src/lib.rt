@@ -11,7 +11,7 @@ mod types;
 mod words;
 
 pub use laws::worked_texts;
-pub use metas::note_object;
+pub use metas::{note_class, note_object, note_type};
 pub use objects::push_object;
 pub use text::{declaration_text, entry_text, object_text, type_text};
 pub use words::{push_number, push_place, push_variable};
