@@ -1,0 +1,5 @@
+pub mod Placed
+pub mod Circles
+pub mod Replacing
+pub mod Fronts
+pub mod UnderFronts
