@@ -3,3 +3,6 @@ pub mod Circles
 pub mod Replacing
 pub mod Fronts
 pub mod UnderFronts
+pub mod Occurrings
+pub mod Marks
+pub mod Listings

@@ -5,3 +5,8 @@ pub mod Replaced
 pub mod InFront
 pub mod BinderTypes
 pub mod UnderFront
+pub mod Occurring
+pub mod OccurringParts
+pub mod Mentions
+pub mod Marking
+pub mod Metavariables

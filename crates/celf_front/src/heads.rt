@@ -55,7 +55,7 @@ fn front_constant(place: u32, front: &Front<'_>, depth: u64) -> Result<Head, Sho
 }
 
 /// The variable of the binder that a constant stands for, if it stands for one.
-fn binder_of(place: u32, front: &Front<'_>) -> Option<usize>
+pub fn binder_of(place: u32, front: &Front<'_>) -> Option<usize>
     ensures { result ≡ binder_at front.now.first front.now.binders.now place }
 {
     match place.checked_sub(front.first) {
