@@ -1,15 +1,15 @@
 -- What is found of an item in which something is not written: its tree with the solutions of the gathered equations put in.
-use Rattle.std.specs.Prelude.{ℕ, ◌≡◌, List, [], ◌∷◌}
+use Rattle.std.specs.Prelude.{ℕ, ◌≡◌, List, [], ◌∷◌, ◌++◌, map, slice_get}
 use Rattle.clf_syntax.specs.TypeTree.{PlainType}
 use Rattle.hered_subst.specs.Substitution.{SubstitutedType}
 use Rattle.subst_laws.specs.Environments.{Instantiation, instant}
-use Rattle.clf_sig.specs.Entry.{PlainSignature}
+use Rattle.clf_sig.specs.Entry.{PlainSignature, simple_types}
 use Rattle.clf_sig.specs.Core.{PlainCore, declares, queries, traces, equates, checks}
 use Rattle.pattern_laws.specs.Instantiations.{Types}
 use Rattle.pattern_laws.specs.Equations.{Equation}
 use Rattle.unify_laws.specs.Problems.{Problem}
 use Rattle.reach_laws.specs.Unified.{Unified, IsPutIn}
-use Rattle.elaboration_laws.specs.ItemSetting.{item_constants}
+use Rattle.clf_syntax.specs.Simple.{erase}
 use Rattle.elaboration_laws.specs.General.{fresh_problem}
 use Rattle.clf_printer.specs.Metas.{appearing, appearing_type, appearing_telescope, appearing_kind, appearing_class}
 use Rattle.celf_sugar.specs.PlainTree.{DesugaredBody}
@@ -36,11 +36,15 @@ EachBecomes s (a ∷ as_) (b ∷ bs) = SubstitutedType (instant s) a b × EachBe
 EachBecomes s [] (b ∷ bs) = ⊥
 EachBecomes s (a ∷ as_) [] = ⊥
 
+-- the simple types of the constants, and behind them those of the implicit variables
+abbrev pub constants_of : PlainSignature → List TypedVariable → Types
+constants_of sig vs = slice_get (simple_types sig ++ map erase (types_read vs))
+
 -- The equations of the tree are solved but for those left.
 pub record IsUnified (sig : PlainSignature) (vs : List TypedVariable) (metas : Types) (tree : PlainCore) (now : Problem) (left : List Equation) : Type 0 where
   pub equations : List Equation
   pub gathers : TreeGathers sig vs metas tree equations
-  pub unified : Unified (item_constants sig (types_read vs)) (fresh_problem metas equations) now left
+  pub unified : Unified (constants_of sig vs) (fresh_problem metas equations) now left
 
 -- The core, and the types of the implicit variables, are what was read with all solutions put in. Metavariables may be left.
 pub record IsFound (sig : PlainSignature) (body : DesugaredBody) (vs : List TypedVariable) (core : PlainCore) (types : List PlainType) : Type 0 where
@@ -50,6 +54,6 @@ pub record IsFound (sig : PlainSignature) (body : DesugaredBody) (vs : List Type
   pub solutions : Instantiation
   pub is_tree : IsItemTree sig body vs metas tree
   pub unified : IsUnified sig vs metas tree now []
-  pub put_in : IsPutIn (item_constants sig (types_read vs)) now.metas now.given solutions
+  pub put_in : IsPutIn (constants_of sig vs) now.metas now.given solutions
   pub core_becomes : SubstitutedCore (instant solutions) tree core
   pub types_become : EachBecomes solutions (types_read vs) types

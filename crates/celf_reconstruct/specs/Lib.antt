@@ -3,3 +3,6 @@ pub use Rattle.celf_replies.specs.Reply
 pub mod Trees
 pub mod Found
 pub mod Reconstructed
+pub mod Known
+pub mod Scenes
+pub mod Steps

@@ -1,5 +1,5 @@
 -- What an item comes to in which something is not written: its core, or why none is answered.
-use Rattle.std.specs.Prelude.{ℕ, ◌+◌, ◌≡◌, ◌≤◌, ◌<◌, ◌^◌, Bool, true, List, [], length, map, Option, Some, None, Result, Ok, Err, option_map, slice_get}
+use Rattle.std.specs.Prelude.{ℕ, ◌+◌, ◌≡◌, ◌≤◌, ◌<◌, ◌^◌, List, [], length, map, Option, Some, None, Result, Ok, Err, option_map, slice_get}
 use Rattle.clf_syntax.specs.TypeTree.{PlainType}
 use Rattle.clf_syntax.specs.Wide.{IsWide}
 use Rattle.clf_syntax.specs.declared.fault.OrWide.{OrWide}
@@ -12,20 +12,21 @@ use Rattle.pattern_laws.specs.Instantiations.{Types}
 use Rattle.pattern_laws.specs.Equations.{Equation}
 use Rattle.unify_laws.specs.Problems.{Problem}
 use Rattle.reach_laws.specs.Unified.{Clashed}
-use Rattle.elaboration_laws.specs.ItemSetting.{item_constants}
 use Rattle.elaboration_laws.specs.General.{fresh_problem}
-use Rattle.celf_sugar.specs.PlainTree.{DesugaredBody, declare, query, trace, equal, check, DesugaredItem}
+use Rattle.celf_sugar.specs.PlainTree.{DesugaredBody, of_family, of_constant, declare, query, trace, equal, check, DesugaredItem}
 use Rattle.celf_implicit.specs.declared.variable.Variable.{Variable}
 use Rattle.celf_implicit.specs.Rounds.{determined, undetermined}
 use Rattle.celf_explicit.specs.Explicit.{entry_of}
 use Rattle.celf_elaboration.specs.Names.{TypedVariable, types_read}
 use Rattle.celf_elaboration.specs.Binders.{IsOrder, IsCircle}
-use Rattle.celf_front.specs.Occurring.{MentionsConstant}
+use Rattle.celf_front.specs.declared.needs.Needs.{Needs}
+use Rattle.celf_front.specs.Needs.{count_of, mentions}
+use Rattle.celf_front.specs.Mentions.{AreNeeds}
 use Rattle.celf_front.specs.UnderFront.{IsUnderFront}
 use Rattle.celf_replies.specs.declared.reply.Why.{Why}
 use Rattle.celf_replies.specs.Reply.{PlainSides, PlainMismatch, PlainWhy, undetermined as undetermined_name, ill_typed, unresolved, loose, circular, not_yet, index_differs, plain_why}
 use Rattle.celf_reconstruct.specs.Trees.{IsItemTree, TreeGathers}
-use Rattle.celf_reconstruct.specs.Found.{metavariables_in, metavariables_with, IsUnified, IsFound}
+use Rattle.celf_reconstruct.specs.Found.{metavariables_in, metavariables_with, constants_of, IsUnified, IsFound}
 
 -- ---- the core
 
@@ -36,18 +37,20 @@ IsCheck (traces s) = ⊥
 IsCheck (equates n o a) = Unit {0}
 IsCheck (checks n a) = Unit {0}
 
--- `needs i j` says whether the type of implicit variable i mentions implicit variable j, which is constant `first + j`.
-pub record AreNeeds (first : ℕ) (types : List PlainType) (needs : ℕ → ℕ → Bool) : Type 0 where
-  pub mentioned : (i j : ℕ) (a : PlainType) → slice_get types i ≡ Some a → needs i j ≡ true → MentionsConstant (first + j) a
-  pub needed : (i j : ℕ) (a : PlainType) → slice_get types i ≡ Some a → MentionsConstant (first + j) a → needs i j ≡ true
+-- All implicit variables, each as the number of its constant past those of the signature, in the order in which they are determined.
+pub record AreAll (count : ℕ) (list : List ℕ) : Type 0 where
+  pub length_is : length list ≡ count
+  pub each : (i : ℕ) → i < count → slice_get list i ≡ Some i
 
 -- The declared kind or type of what is found, with its implicit variables as persistent arguments in front, each after those that its type mentions. They are
 -- implicit, beside as many as are written so.
 pub record IsDeclared (sig : PlainSignature) (types : List PlainType) (count : ℕ) (class : PlainClass) (e : PlainEntry) : Type 0 where
-  pub needs : ℕ → ℕ → Bool
+  pub list : List ℕ
+  pub all : AreAll (length types) list
+  pub needs : Needs
   pub order : List ℕ
-  pub are_needs : AreNeeds (length sig) types needs
-  pub is_order : IsOrder (length types) needs order
+  pub are_needs : AreNeeds (length sig) types list needs
+  pub is_order : IsOrder (count_of needs) (mentions needs) order
   pub under : IsUnderFront (length sig) types order class e.class
   pub implicit : e.implicit ≡ length types + count
   -- It has no more implicit arguments than it can have, nor than can be counted.
@@ -81,7 +84,7 @@ pub record HasClash (sig : PlainSignature) (body : DesugaredBody) (sides : Plain
   pub equations : List Equation
   pub gathers : TreeGathers sig vs metas tree equations
   pub now : Problem
-  pub clashed : Clashed (item_constants sig (types_read vs)) (fresh_problem metas equations) now sides.under sides.left sides.right
+  pub clashed : Clashed (constants_of sig vs) (fresh_problem metas equations) now sides.under sides.left sides.right
 
 -- These equations are left, of which each is stuck.
 pub record IsStuck (sig : PlainSignature) (body : DesugaredBody) (left : List Equation) : Type 0 where
@@ -99,10 +102,12 @@ pub record HasCircle (sig : PlainSignature) (body : DesugaredBody) (names : List
   pub core : PlainCore
   pub types : List PlainType
   pub found : IsFound sig body vs core types
-  pub needs : ℕ → ℕ → Bool
-  pub are_needs : AreNeeds (length sig) types needs
+  pub list : List ℕ
+  pub all : AreAll (length types) list
+  pub needs : Needs
+  pub are_needs : AreNeeds (length sig) types list needs
   pub circle : List ℕ
-  pub is_circle : IsCircle (length types) needs circle
+  pub is_circle : IsCircle (count_of needs) (mentions needs) circle
   pub named : names ≡ map (name_of vs) circle
 
 -- So many metavariables are left in a check or an equation.
@@ -127,9 +132,18 @@ IsTest (trace n t) = ⊥
 IsTest (equal l r t) = Unit {0}
 IsTest (check o t) = Unit {0}
 
--- What is out of reach so far: queries and traces, implicit variables of a check or an equation, and declarations in which metavariables are left.
+abbrev pub IsFamily : DesugaredBody → Type 0
+IsFamily (declare n i (of_family t)) = Unit {0}
+IsFamily (declare n i (of_constant a)) = ⊥
+IsFamily (query d e l a t) = ⊥
+IsFamily (trace n t) = ⊥
+IsFamily (equal l r t) = ⊥
+IsFamily (check o t) = ⊥
+
+-- What is out of reach so far: queries and traces, families, implicit variables of a check or an equation, and declarations in which metavariables are left.
 pub data IsBeyond (sig : PlainSignature) (body : DesugaredBody) : Type 0 where
   a_search : IsSearch body → IsBeyond sig body
+  a_family : IsFamily body → IsBeyond sig body
   variables_in_test : IsTest body → (determined sig body ≡ [] → ⊥) → IsBeyond sig body
   unnamed_left : {vs : List TypedVariable} {name : List ℕ} {e : PlainEntry} {types : List PlainType}
       → IsFound sig body vs (declares name e) types → (metavariables_with (declares name e) types ≡ [] → ⊥) → IsBeyond sig body
@@ -140,6 +154,8 @@ pub data Declines (sig : PlainSignature) (body : DesugaredBody) : PlainWhy → T
   -- Nothing is gathered of the tree: it does not conform to simple types, whatever is found.
   misfit : {vs : List TypedVariable} {metas : Types} {tree : PlainCore} {m : PlainMismatch}
       → IsItemTree sig body vs metas tree → ((q : List Equation) → TreeGathers sig vs metas tree q → ⊥) → Declines sig body (ill_typed m)
+  -- No such tree is there: the place of something that is not written has no simple type.
+  no_tree : {m : PlainMismatch} → ((vs : List TypedVariable) (metas : Types) (tree : PlainCore) → IsItemTree sig body vs metas tree → ⊥) → Declines sig body (ill_typed m)
   clash : {sides : PlainSides} → HasClash sig body sides → Declines sig body (ill_typed (index_differs sides))
   stuck : {left : List Equation} → IsStuck sig body left → Declines sig body (unresolved (map sides_of left))
   left_loose : {count : ℕ} → IsLoose sig body count → Declines sig body (loose count)
