@@ -4,5 +4,6 @@ pub mod Trees
 pub mod Found
 pub mod Reconstructed
 pub mod Known
+pub mod Reach
 pub mod Scenes
 pub mod Steps

@@ -1,4 +1,7 @@
 //! The entry of a declaration, with its implicit variables in front.
+ghost use Rattle.std.specs.Prelude.{IfErr, IfOk};
+ghost use Rattle.clf_syntax.specs.Wide.{IsWant};
+ghost use Rattle.celf_reconstruct.specs.Reconstructed.{AreAll};
 
 use celf_front::{Placing, needs_of, place, under_front};
 use celf_implicit::Implicit;
@@ -28,7 +31,10 @@ pub fn declared(
 }
 
 /// The numbers below a count.
-fn numbers(alloc: Global, count: usize) -> Result<Items<u32>, Want> {
+fn numbers(alloc: Global, count: usize) -> Result<Items<u32>, Want>
+    ensures all { IfOk result (AreAll count) }
+    ensures wide { IfErr result IsWant }
+{
     let Ok(count) = u32::try_from(count) else {
         return Err(Want::too_far(alloc));
     };

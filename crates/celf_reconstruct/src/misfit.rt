@@ -15,7 +15,7 @@ pub fn misfit(alloc: Global, sig: &Signature, store: &Store, core: &Core) -> OrW
     match first_misfit(alloc, sig, store, core) {
         Ok(Some(misfit)) => OrWide::Fault(Why::IllTyped(mismatch(misfit))),
         Ok(None) => OrWide::Fault(Why::IllTyped(Mismatch::NotClosed)),
-        Err(want) => OrWide::from(want),
+        Err(_) => OrWide::NoMemory,
     }
 }
 
@@ -27,10 +27,10 @@ fn mismatch(misfit: Misfit) -> Mismatch {
         Misfit::NotMonad => Mismatch::NotMonad,
         Misfit::NotAtomic => Mismatch::NotAtomic,
         Misfit::NotClosed => Mismatch::NotClosed,
-        Misfit::ModeDiffers { wanted, found } => Mismatch::ModeDiffers { wanted, found },
-        Misfit::Width { wanted, found } => Mismatch::Width { wanted, found },
+        Misfit::ModeDiffers { .. } => Mismatch::ModeDiffers,
+        Misfit::Width { .. } => Mismatch::Width,
         Misfit::FamilyDiffers { found, wanted } => Mismatch::FamilyDiffers { found, wanted },
-        Misfit::UnknownHead => Mismatch::UnknownHead,
-        Misfit::FamilyArity { wanted, found } => Mismatch::FamilyArity { wanted, found },
+        Misfit::UnknownHead { .. } => Mismatch::UnknownHead,
+        Misfit::FamilyArity { .. } => Mismatch::FamilyArity,
     }
 }

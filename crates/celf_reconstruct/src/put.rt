@@ -1,5 +1,18 @@
 //! All solutions put in.
-ghost use Rattle.std.specs.Prelude.{IfErr, IfOk};
+ghost use Rattle.std.specs.Prelude.{◌≡◌, map, IfErr, IfOk};
+ghost use Rattle.clf_syntax.specs.Plain.{plain_obj};
+ghost use Rattle.clf_syntax.specs.PlainTypes.{plain_ty};
+ghost use Rattle.clf_syntax.specs.Wide.{IsWant};
+ghost use Rattle.hered_subst.specs.Substitution.{Substituted, SubstitutedType};
+ghost use Rattle.subst_laws.specs.Environments.{Instantiation, instant};
+ghost use Rattle.store_laws.specs.Additions.{given};
+ghost use Rattle.store_laws.specs.PutIn.{IsClosed, PutIn};
+ghost use Rattle.clf_sig.specs.Core.{plain_core};
+ghost use Rattle.clf_sig.specs.Signature.{plain_class};
+ghost use Rattle.metavars.specs.Stored.{additions};
+ghost use Rattle.celf_elaboration.specs.Items.{SubstitutedClass, SubstitutedCore};
+ghost use Rattle.celf_reconstruct.specs.Found.{EachBecomes};
+ghost use Rattle.celf_reconstruct.specs.Reach.{IsConstantClass, IsInReach};
 ghost use Rattle.clf_sig.specs.Signature.{plain_signature};
 ghost use Rattle.celf_sugar.specs.Plain.{desugared_item};
 ghost use Rattle.celf_reconstruct.specs.Steps.{Declined, HasFound, IsSolved};
@@ -31,7 +44,11 @@ pub fn put_in(
     Ok(Found { core, types })
 }
 
-fn types_in(alloc: Global, store: &Store, types: &[Ty]) -> Result<Items<Ty>, Want> {
+fn types_in(alloc: Global, store: &Store, types: &[Ty]) -> Result<Items<Ty>, Want>
+    ensures put_in { IfOk result (λ x. (s : Instantiation) → PutIn (given (additions store.now)) s → IsClosed s →
+        EachBecomes s (map plain_ty types.now) (map plain_ty x)) }
+    ensures wide { IfErr result IsWant }
+{
     let mut all = Items::new(alloc);
     for ty in types {
         all.push(type_in(store, ty)?)?;
@@ -39,7 +56,11 @@ fn types_in(alloc: Global, store: &Store, types: &[Ty]) -> Result<Items<Ty>, Wan
     Ok(all)
 }
 
-fn type_in(store: &Store, ty: &Ty) -> Result<Ty, Want> {
+fn type_in(store: &Store, ty: &Ty) -> Result<Ty, Want>
+    ensures put_in { IfOk result (λ x. (s : Instantiation) → PutIn (given (additions store.now)) s → IsClosed s →
+        SubstitutedType (instant s) (plain_ty ty.now) (plain_ty x)) }
+    ensures wide { IfErr result IsWant }
+{
     match store.instantiate_ty(ty) {
         Ok(instance) => Ok(instance),
         Err(OrWide::Fault(_)) => unreachable!(),
@@ -48,7 +69,11 @@ fn type_in(store: &Store, ty: &Ty) -> Result<Ty, Want> {
     }
 }
 
-fn object_in(store: &Store, obj: &Obj) -> Result<Obj, Want> {
+fn object_in(store: &Store, obj: &Obj) -> Result<Obj, Want>
+    ensures put_in { IfOk result (λ x. (s : Instantiation) → PutIn (given (additions store.now)) s → IsClosed s →
+        Substituted (instant s) (plain_obj obj.now) (plain_obj x)) }
+    ensures wide { IfErr result IsWant }
+{
     match store.instantiate(obj) {
         Ok(instance) => Ok(instance),
         Err(OrWide::Fault(_)) => unreachable!(),
@@ -58,7 +83,12 @@ fn object_in(store: &Store, obj: &Obj) -> Result<Obj, Want> {
 }
 
 /// A core of a constant, a check or an equation, in which all solutions are put.
-fn core_in(store: &Store, core: Core) -> Result<Core, Want> {
+fn core_in(store: &Store, core: Core) -> Result<Core, Want>
+    requires reached { IsInReach (plain_core core) }
+    ensures put_in { IfOk result (λ x. (s : Instantiation) → PutIn (given (additions store.now)) s → IsClosed s →
+        SubstitutedCore (instant s) (plain_core core) (plain_core x)) }
+    ensures wide { IfErr result IsWant }
+{
     match core {
         Core::Declare { name, entry } => {
             let entry = entry_in(store, entry)?;
@@ -78,7 +108,12 @@ fn core_in(store: &Store, core: Core) -> Result<Core, Want> {
     }
 }
 
-fn entry_in(store: &Store, entry: Entry) -> Result<Entry, Want> {
+fn entry_in(store: &Store, entry: Entry) -> Result<Entry, Want>
+    requires reached { IsConstantClass (plain_class entry.class) }
+    ensures put_in { IfOk result (λ x. (s : Instantiation) → PutIn (given (additions store.now)) s → IsClosed s →
+        SubstitutedClass (instant s) (plain_class entry.class) (plain_class x.class) × (x.implicit ≡ entry.implicit)) }
+    ensures wide { IfErr result IsWant }
+{
     let Entry { implicit, class } = entry;
     match class {
         Class::Constant(ty) => Ok(Entry {

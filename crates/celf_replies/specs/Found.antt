@@ -32,11 +32,11 @@ mismatch_text sig not_top = codes "not a unit"
 mismatch_text sig not_monad = codes "not a monad"
 mismatch_text sig not_atomic = codes "not atomic"
 mismatch_text sig not_closed = codes "not closed"
-mismatch_text sig (mode_differs wanted found) = codes "mode differs"
-mismatch_text sig (width wanted found) = codes "width differs"
+mismatch_text sig mode_differs = codes "mode differs"
+mismatch_text sig width = codes "width differs"
 mismatch_text sig (family_differs found wanted) = codes "family differs: " ++ place_text sig found ++ codes " and " ++ place_text sig wanted
 mismatch_text sig unknown_head = codes "unknown head"
-mismatch_text sig (family_arity wanted found) = codes "family arity"
+mismatch_text sig family_arity = codes "family arity"
 mismatch_text sig (index_differs s) = codes "index differs: " ++ sides_text sig (appearing_sides [] s) (codes " and ") s
 
 -- a variable without a name is _

@@ -1,6 +1,5 @@
 -- Replies to items, and why an item is refused, as plain data.
 use Rattle.std.specs.Prelude.{ℕ, Bool, true, false, List, Option, map}
-use Rattle.clf_syntax.specs.declared.tree.Mode.{Mode}
 use Rattle.clf_syntax.specs.Plain.{plain_obj}
 use Rattle.clf_syntax.specs.PlainTypes.{plain_ty}
 use Rattle.clf_syntax.specs.Tree.{PlainObject}
@@ -21,8 +20,8 @@ pub record PlainSides : Type 0 where
   pub left : PlainObject
   pub right : PlainObject
 
--- What does not go together in an item, whatever is put for that of it which is not written: as the rules' causes, but for the types of what
--- was found.
+-- What does not go together in an item, whatever is put for that of it which is not written: as the rules' causes, with as
+-- much of them as is told.
 pub data PlainMismatch : Type 0 where
   not_function : PlainMismatch
   not_pair : PlainMismatch
@@ -30,13 +29,12 @@ pub data PlainMismatch : Type 0 where
   not_monad : PlainMismatch
   not_atomic : PlainMismatch
   not_closed : PlainMismatch
-  -- the modes, and the numbers of entries, that are wanted and found
-  mode_differs : Mode → Mode → PlainMismatch
-  width : ℕ → ℕ → PlainMismatch
+  mode_differs : PlainMismatch
+  width : PlainMismatch
   -- the families that are found and wanted
   family_differs : ℕ → ℕ → PlainMismatch
   unknown_head : PlainMismatch
-  family_arity : ℕ → ℕ → PlainMismatch
+  family_arity : PlainMismatch
   index_differs : PlainSides → PlainMismatch
 
 pub data PlainWhy : Type 0 where
@@ -103,11 +101,11 @@ plain_mismatch NotTop = not_top
 plain_mismatch NotMonad = not_monad
 plain_mismatch NotAtomic = not_atomic
 plain_mismatch NotClosed = not_closed
-plain_mismatch (ModeDiffers wanted found) = mode_differs wanted found
-plain_mismatch (Width wanted found) = width wanted found
+plain_mismatch ModeDiffers = mode_differs
+plain_mismatch Width = width
 plain_mismatch (FamilyDiffers found wanted) = family_differs found wanted
 plain_mismatch UnknownHead = unknown_head
-plain_mismatch (FamilyArity wanted found) = family_arity wanted found
+plain_mismatch FamilyArity = family_arity
 plain_mismatch (IndexDiffers sides) = index_differs (plain_sides sides)
 
 abbrev pub plain_why : Why → PlainWhy

@@ -28,11 +28,11 @@ pub fn push_mismatch(
         Mismatch::NotMonad => out.extend_from_slice(b"not a monad"),
         Mismatch::NotAtomic => out.extend_from_slice(b"not atomic"),
         Mismatch::NotClosed => out.extend_from_slice(b"not closed"),
-        Mismatch::ModeDiffers { .. } => out.extend_from_slice(b"mode differs"),
-        Mismatch::Width { .. } => out.extend_from_slice(b"width differs"),
+        Mismatch::ModeDiffers => out.extend_from_slice(b"mode differs"),
+        Mismatch::Width => out.extend_from_slice(b"width differs"),
         Mismatch::FamilyDiffers { found, wanted } => push_families(out, sig, *found, *wanted),
         Mismatch::UnknownHead => out.extend_from_slice(b"unknown head"),
-        Mismatch::FamilyArity { .. } => out.extend_from_slice(b"family arity"),
+        Mismatch::FamilyArity => out.extend_from_slice(b"family arity"),
         Mismatch::IndexDiffers(sides) => push_clash(alloc, out, sig, sides),
     }
 }

@@ -1,7 +1,7 @@
 //! Replies.
 
 use clf_kernel::Refusal;
-use clf_syntax::{Mode, Name, Obj, Ty};
+use clf_syntax::{Name, Obj, Ty};
 
 /// The two sides of an equation, under so many variables.
 #[derive(Drop)]
@@ -11,7 +11,7 @@ pub struct Sides {
     pub right: Obj,
 }
 
-/// What does not go together in an item, whatever is put for that of it which is not written.
+/// What does not go together in an item, whatever is put for that of it which is not written: as much of it as is told.
 #[derive(Drop)]
 pub enum Mismatch {
     /// A lambda stands at a type that is no function, or an argument is given to what has no such type.
@@ -27,15 +27,15 @@ pub enum Mismatch {
     /// A part that is not written cannot be found, as its place has no simple type.
     NotClosed,
     /// A lambda, an argument or an entry has another mode than its type.
-    ModeDiffers { wanted: Mode, found: Mode },
+    ModeDiffers,
     /// A pattern or a tuple has another number of entries than its type.
-    Width { wanted: u32, found: u32 },
+    Width,
     /// An object of one family stands where one of another is wanted.
     FamilyDiffers { found: u32, wanted: u32 },
     /// What is in front of the arguments is no variable in scope, no constant, or no family, as it has to be.
     UnknownHead,
     /// A family has another number of arguments than its kind.
-    FamilyArity { wanted: u32, found: u32 },
+    FamilyArity,
     /// These two would have to be joined, and nothing that is put for their metavariables makes them so.
     IndexDiffers(Sides),
 }
