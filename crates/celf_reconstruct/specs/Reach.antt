@@ -1,4 +1,10 @@
--- Inner: the cores that are reached so far: declarations of constants, checks and equations.
+-- Inner: the cores that are reached so far: declarations of constants, checks and equations; and what is typed in a store.
+use Rattle.std.specs.Prelude.{List}
+use Rattle.clf_syntax.specs.Tree.{PlainObject}
+use Rattle.clf_syntax.specs.TypeTree.{PlainType, SimpleType}
+use Rattle.clf_syntax.specs.Simple.{Assignment, Families, SimplyFormed, SimplyTyped}
+use Rattle.store_laws.specs.Additions.{Addition}
+use Rattle.metavars.specs.Typed.{TypesStore}
 use Rattle.clf_sig.specs.Entry.{PlainClass, family_of, constant_of}
 use Rattle.clf_sig.specs.Core.{PlainCore, declares, queries, traces, equates, checks}
 
@@ -12,3 +18,16 @@ IsInReach (queries a) = ⊥
 IsInReach (traces s) = ⊥
 IsInReach (equates n o a) = Unit {0}
 IsInReach (checks n a) = Unit {0}
+
+-- Some assignment that types the store forms the type, or types the object.
+pub record IsFormedIn (zs : List Addition) (a : PlainType) : Type 0 where
+  pub arguments : Families
+  pub assignment : Assignment
+  pub store : TypesStore assignment zs
+  pub formed : SimplyFormed arguments assignment a
+
+pub record IsTypedIn (zs : List Addition) (n : PlainObject) : Type 0 where
+  pub assignment : Assignment
+  pub type : SimpleType
+  pub store : TypesStore assignment zs
+  pub typed : SimplyTyped assignment n type

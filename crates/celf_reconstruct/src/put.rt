@@ -12,7 +12,7 @@ ghost use Rattle.clf_sig.specs.Signature.{plain_class};
 ghost use Rattle.metavars.specs.Stored.{additions};
 ghost use Rattle.celf_elaboration.specs.Items.{SubstitutedClass, SubstitutedCore};
 ghost use Rattle.celf_reconstruct.specs.Found.{EachBecomes};
-ghost use Rattle.celf_reconstruct.specs.Reach.{IsConstantClass, IsInReach};
+ghost use Rattle.celf_reconstruct.specs.Reach.{IsConstantClass, IsFormedIn, IsInReach, IsTypedIn};
 ghost use Rattle.clf_sig.specs.Signature.{plain_signature};
 ghost use Rattle.celf_sugar.specs.Plain.{desugared_item};
 ghost use Rattle.celf_reconstruct.specs.Steps.{Declined, HasFound, IsSolved};
@@ -57,6 +57,7 @@ fn types_in(alloc: Global, store: &Store, types: &[Ty]) -> Result<Items<Ty>, Wan
 }
 
 fn type_in(store: &Store, ty: &Ty) -> Result<Ty, Want>
+    requires formed { IsFormedIn (additions store.now) (plain_ty ty.now) }
     ensures put_in { IfOk result (λ x. (s : Instantiation) → PutIn (given (additions store.now)) s → IsClosed s →
         SubstitutedType (instant s) (plain_ty ty.now) (plain_ty x)) }
     ensures wide { IfErr result IsWant }
@@ -70,6 +71,7 @@ fn type_in(store: &Store, ty: &Ty) -> Result<Ty, Want>
 }
 
 fn object_in(store: &Store, obj: &Obj) -> Result<Obj, Want>
+    requires typed { IsTypedIn (additions store.now) (plain_obj obj.now) }
     ensures put_in { IfOk result (λ x. (s : Instantiation) → PutIn (given (additions store.now)) s → IsClosed s →
         Substituted (instant s) (plain_obj obj.now) (plain_obj x)) }
     ensures wide { IfErr result IsWant }

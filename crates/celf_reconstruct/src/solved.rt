@@ -1,6 +1,7 @@
 //! The equations of a tree, solved.
 ghost use Rattle.std.specs.Prelude.{IfErr, OnOk};
 ghost use Rattle.clf_sig.specs.Signature.{plain_signature};
+ghost use Rattle.clf_rules.specs.WellFormed.{WellFormedSignature};
 ghost use Rattle.celf_sugar.specs.Plain.{desugared_item};
 ghost use Rattle.celf_reconstruct.specs.Steps.{Declined, HasScene, IsSolved};
 
@@ -23,6 +24,7 @@ pub fn solve(
     plain: &Plain,
     scene: &mut Scene,
 ) -> Result<(), OrWide<Why>>
+    requires formed { WellFormedSignature (plain_signature sig.now) }
     requires scene { HasScene (plain_signature sig.now) (desugared_item plain.now) scene.old }
     ensures solved { OnOk result (IsSolved (plain_signature sig.now) (desugared_item plain.now) scene.new) }
     ensures declined { IfErr result (Declined (plain_signature sig.now) (desugared_item plain.now)) }

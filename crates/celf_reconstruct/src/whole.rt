@@ -1,6 +1,7 @@
 //! The call.
 ghost use Rattle.std.specs.Prelude.{◌≡◌};
 ghost use Rattle.clf_sig.specs.Signature.{plain_signature};
+ghost use Rattle.clf_rules.specs.WellFormed.{WellFormedSignature};
 ghost use Rattle.celf_sugar.specs.Plain.{desugared_item};
 ghost use Rattle.celf_implicit.specs.Answers.{AreAll};
 ghost use Rattle.celf_replies.specs.Reply.{plain_why, undetermined as undetermined_name};
@@ -25,6 +26,7 @@ use std::alloc::Global;
 /// variable has no type, where no solution is there or none is found, where metavariables are left, and where the types
 /// of implicit variables mention one another in a circle. Whether the rules derive the core is not asked here.
 pub fn reconstruct(alloc: Global, sig: &Signature, plain: &Plain) -> Result<Core, OrWide<Why>>
+    requires formed { WellFormedSignature (plain_signature sig.now) }
     ensures { IsReconstruction (plain_signature sig.now) (desugared_item plain.now) result }
 {
     match implicit_variables(alloc, sig, plain) {
@@ -50,6 +52,7 @@ fn with_variables(
     plain: &Plain,
     variables: Items<Implicit>,
 ) -> Result<Core, OrWide<Why>>
+    requires formed { WellFormedSignature (plain_signature sig.now) }
     requires all { AreAll (plain_signature sig.now) (desugared_item plain.now).body variables }
     ensures { IsReconstruction (plain_signature sig.now) (desugared_item plain.now) result }
 {
@@ -85,6 +88,7 @@ fn find(
     plain: &Plain,
     variables: &[Implicit],
 ) -> Result<Core, OrWide<Why>>
+    requires formed { WellFormedSignature (plain_signature sig.now) }
     requires all { AreAll (plain_signature sig.now) (desugared_item plain.now).body variables.now }
     ensures { IsReconstruction (plain_signature sig.now) (desugared_item plain.now) result }
 {
