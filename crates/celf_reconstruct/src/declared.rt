@@ -1,5 +1,5 @@
 //! The entry of a declaration, with its implicit variables in front.
-ghost use Rattle.std.specs.Prelude.{IfErr, IfOk};
+ghost use Rattle.std.specs.Prelude.{ℕ, ◌<◌, IfErr, IfOk, length, slice_index};
 ghost use Rattle.clf_syntax.specs.Wide.{IsWant};
 ghost use Rattle.celf_reconstruct.specs.Reconstructed.{AreAll};
 
@@ -52,7 +52,9 @@ fn in_order(
     order: &[u32],
     types: &[Ty],
     entry: Entry,
-) -> Result<Entry, OrWide<Why>> {
+) -> Result<Entry, OrWide<Why>>
+    requires within { (k : ℕ) → k < length order.now → slice_index order.now k < length types.now }
+{
     let class = under_front(alloc, sig.len() as u32, order, types, &entry.class)?;
     let written = entry.implicit;
     drop(entry);

@@ -12,7 +12,7 @@ ghost use Rattle.clf_sig.specs.Signature.{plain_class};
 ghost use Rattle.metavars.specs.Stored.{additions};
 ghost use Rattle.celf_elaboration.specs.Items.{SubstitutedClass, SubstitutedCore};
 ghost use Rattle.celf_reconstruct.specs.Found.{EachBecomes};
-ghost use Rattle.celf_reconstruct.specs.Reach.{IsConstantClass, IsFormedIn, IsInReach, IsTypedIn};
+ghost use Rattle.celf_reconstruct.specs.Reach.{ClassIsFormedIn, CoreIsTypedIn, EachIsFormedIn, IsConstantClass, IsFormedIn, IsInReach, IsTypedIn};
 ghost use Rattle.clf_sig.specs.Signature.{plain_signature};
 ghost use Rattle.celf_sugar.specs.Plain.{desugared_item};
 ghost use Rattle.celf_reconstruct.specs.Steps.{Declined, HasFound, IsSolved};
@@ -45,6 +45,7 @@ pub fn put_in(
 }
 
 fn types_in(alloc: Global, store: &Store, types: &[Ty]) -> Result<Items<Ty>, Want>
+    requires formed { EachIsFormedIn (additions store.now) (map plain_ty types.now) }
     ensures put_in { IfOk result (λ x. (s : Instantiation) → PutIn (given (additions store.now)) s → IsClosed s →
         EachBecomes s (map plain_ty types.now) (map plain_ty x)) }
     ensures wide { IfErr result IsWant }
@@ -87,6 +88,7 @@ fn object_in(store: &Store, obj: &Obj) -> Result<Obj, Want>
 /// A core of a constant, a check or an equation, in which all solutions are put.
 fn core_in(store: &Store, core: Core) -> Result<Core, Want>
     requires reached { IsInReach (plain_core core) }
+    requires typed { CoreIsTypedIn (additions store.now) (plain_core core) }
     ensures put_in { IfOk result (λ x. (s : Instantiation) → PutIn (given (additions store.now)) s → IsClosed s →
         SubstitutedCore (instant s) (plain_core core) (plain_core x)) }
     ensures wide { IfErr result IsWant }
@@ -112,6 +114,7 @@ fn core_in(store: &Store, core: Core) -> Result<Core, Want>
 
 fn entry_in(store: &Store, entry: Entry) -> Result<Entry, Want>
     requires reached { IsConstantClass (plain_class entry.class) }
+    requires formed { ClassIsFormedIn (additions store.now) (plain_class entry.class) }
     ensures put_in { IfOk result (λ x. (s : Instantiation) → PutIn (given (additions store.now)) s → IsClosed s →
         SubstitutedClass (instant s) (plain_class entry.class) (plain_class x.class) × (x.implicit ≡ entry.implicit)) }
     ensures wide { IfErr result IsWant }

@@ -20,7 +20,7 @@ use celf_implicit::Implicit;
 use celf_replies::Why;
 use celf_sugar::Plain;
 use clf_sig::Signature;
-use clf_syntax::{OrWide, Simple, Ty, Want};
+use clf_syntax::{OrWide, Simple, Ty, Want, copy_simples};
 use metavars::Store;
 use sqlite_items::Items;
 use std::alloc::{AllocError, Global};
@@ -59,10 +59,7 @@ fn simples_of(
         map plain_simple simples
         ≡ simple_types (plain_signature sig.now) ++ map simple_or_unit (map plain_implicit variables.now)) }
 {
-    let mut simples = Items::new(alloc);
-    for simple in sig.simples() {
-        simples.push(simple.copy(alloc)?)?;
-    }
+    let mut simples = copy_simples(alloc, sig.simples())?;
     for variable in variables {
         simples.push(simple_of(alloc, variable)?)?;
     }

@@ -55,7 +55,8 @@ pub fn sides_of_each(alloc: Global, equations: &Equations) -> Result<Vec<Sides>,
     ensures wide { IfErr result IsWant }
 {
     let mut all = Vec::new(alloc);
-    for equation in equations.as_slice() {
+    let items = equations.as_slice();
+    for equation in items {
         let sides = sides_of_equation(alloc, equation)?;
         if all.push(sides).is_err() {
             return Err(Want::NoMemory);
