@@ -89,8 +89,10 @@ other_modes (k ∷ ks) (m ∷ ms) e = one_after (other_mode k m) (first_other_mo
   where
     conses : m ≡ k → ks ≡ ms → k ∷ ks ≡ m ∷ ms
     conses p q = cc
+
     tails : suc (length ms) ≡ suc (length ks) → length ms ≡ length ks
     tails p = omega (arith, p)
+
     here : (v : Bool) → same_mode m k ≡ v → Judged (if v then None else Some (ModeDiffers k m)) (m ≡ k) (λ w. FirstOther (k ∷ ks) (m ∷ ms) w)
     here true p = modes_same m k p
     here false p = other_here (modes_differ m k p)
@@ -148,7 +150,6 @@ module _ (b : Assignment) where
   seconds r (Ok (lax s)) p = second_at (lax s) p tt
 
 module _ (k : PlainKnown) (g : List SimpleType) where
-
   heads : (h : Head) → JudgedFound (head_found k g h) (λ t. HeadFits (heads_in k g) h t) (λ w. NeutralMisses (heads_in k g) (head_alone h) w)
   heads (Const c) = at (constant_type k c) refl
     where

@@ -1,5 +1,5 @@
 -- Misfits of trees in memory, whose spines, steps and tuples are lists.
-use Rattle.std.proofs.Common.{◌≡◌, ℕ, suc, ◌+◌, ◌<◌, ◌≤◌, Bool, true, false, List, [], ◌∷◌, length, map, drop, get_or, Option, Some, None, Result, Ok, Err, refl, sym, ap, subst, ◌∙◌, add-one}
+use Rattle.std.proofs.Common.{◌≡◌, ℕ, zero, suc, arith, ◌+◌, ◌<◌, ◌≤◌, Bool, true, false, List, [], ◌∷◌, length, map, drop, get_or, Option, Some, None, Result, Ok, Err, refl, sym, ap, subst, ◌∙◌, add-one}
 use Rattle.std.proofs.Math.Seq.{drop-cons}
 use Rattle.std.proofs.lemmas.List.{drop_all}
 use Rattle.clf_syntax.specs.declared.tree.Mode.{Mode}
@@ -8,7 +8,7 @@ use Rattle.clf_syntax.specs.declared.tree.SimpleEntry.{SimpleEntry}
 use Rattle.clf_syntax.specs.declared.tree.TupleEntry.{TupleEntry}
 use Rattle.clf_syntax.specs.PlainSimple.{plain_simple_entry, simple_telescope_of, plain-simple-entry}
 use Rattle.clf_syntax.specs.declared.tree.Expr.{Expr, out-Expr}
-use Rattle.clf_syntax.specs.Tree.{PlainNeutral, head_alone, PlainElimination, arg, first, second, spine_on, steps_on, PlainTuple, done, tuple_of, head_of}
+use Rattle.clf_syntax.specs.Tree.{PlainObject, PlainNeutral, head_alone, PlainElimination, arg, first, second, spine_on, steps_on, PlainTuple, done, tuple_of, head_of}
 use Rattle.clf_syntax.specs.TypeTree.{SimpleType, SimpleTelescope, simple_binding}
 use Rattle.clf_syntax.specs.Plain.{plain_neutral, plain_elim, plain_expr, plain_step, plain_entry, plain-neutral, plain-expr}
 use Rattle.clf_simple.proofs.Lists as simple
@@ -16,7 +16,7 @@ use Rattle.celf_conform.specs.declared.misfit.Misfit.{Misfit}
 use Rattle.celf_conform.specs.declared.misfit.Misfit.TheVariants.{Width}
 use Rattle.celf_conform.proofs.Modes.{wanted_width}
 use Rattle.celf_conform.specs.Known.{PlainKnown}
-use Rattle.celf_conform.specs.Decision.{and_then, in_scope, found, head_found, elimination_found, spine_found, step_scope, steps_scope, expression_misfit, tuple_misfit, tuple_width, widths}
+use Rattle.celf_conform.specs.Decision.{and_then, in_scope, found, head_found, elimination_found, spine_found, step_scope, steps_scope, expression_misfit, tuple_misfit, tuple_width, widths, indices_misfit}
 
 then_ok : {A : Type 0} (x : Result A Misfit) → and_then x (λ t. Ok t) ≡ x
 then_ok (Ok t) = refl
@@ -74,3 +74,27 @@ from_place f xs i x l e = rw add-one (ap (map f) (drop-cons xs i x l ∙ ap (λ 
 
 pub rest_none : {X Y : Type 0} (f : X → Y) (xs : List X) (i : ℕ) → length xs ≤ i → map f (drop i xs) ≡ []
 rest_none f xs i l = ap (map f) (drop_all i xs l)
+
+module _ (k : PlainKnown) (g : List SimpleType) (w : Misfit) where
+  -- a tuple that goes on where the entries have ended, or ends where they go on
+  pub tuple_long : (ts : List TupleEntry) (es : List SimpleEntry) (i : ℕ) → i < length ts → length es ≤ i → tuple_misfit k g w (tuple_of (map plain_entry (drop i ts))) (simple_telescope_of (map plain_simple_entry (drop i es))) ≡ Some w
+  tuple_long [] es i l m = absurd (omega (arith, l))
+  tuple_long (t ∷ ts) [] zero l m = refl
+  tuple_long (t ∷ ts) (e ∷ es) zero l m = absurd (omega (arith, m))
+  tuple_long (t ∷ ts) [] (suc i) l m = subst (λ es. tuple_misfit k g w (tuple_of (map plain_entry (drop i ts))) (simple_telescope_of (map plain_simple_entry es)) ≡ Some w) (drop_all i [] (omega arith)) (tuple_long ts [] i (omega (arith, l)) (omega arith))
+  tuple_long (t ∷ ts) (e ∷ es) (suc i) l m = tuple_long ts es i (omega (arith, l)) (omega (arith, m))
+
+  pub tuple_short : (ts : List TupleEntry) (es : List SimpleEntry) (i : ℕ) → length ts ≤ i → i < length es → tuple_misfit k g w (tuple_of (map plain_entry (drop i ts))) (simple_telescope_of (map plain_simple_entry (drop i es))) ≡ Some w
+  tuple_short ts [] i l m = absurd (omega (arith, m))
+  tuple_short [] (e ∷ es) zero l m = refl
+  tuple_short (t ∷ ts) (e ∷ es) zero l m = absurd (omega (arith, l))
+  tuple_short [] (e ∷ es) (suc i) l m = subst (λ ts. tuple_misfit k g w (tuple_of (map plain_entry ts)) (simple_telescope_of (map plain_simple_entry (drop i es))) ≡ Some w) (drop_all i [] (omega arith)) (tuple_short [] es i (omega arith) (omega (arith, m)))
+  tuple_short (t ∷ ts) (e ∷ es) (suc i) l m = tuple_short ts es i (omega (arith, l)) (omega (arith, m))
+
+-- where no argument is left
+pub indices_past : (k : PlainKnown) (g : List SimpleType) (ns : List PlainObject) (ts : List SimpleType) → ts ≡ [] → indices_misfit k g ns ts ≡ None
+indices_past k g ns ts e = ap (indices_misfit k g ns) e ∙ none_left ns
+  where
+    none_left : (ns : List PlainObject) → indices_misfit k g ns [] ≡ None
+    none_left [] = refl
+    none_left (n ∷ ns) = refl

@@ -13,29 +13,24 @@ ghost use Rattle.celf_conform.specs.Decision as spec;
 
 use crate::known::Known;
 use crate::misfit::Misfit;
-use crate::scope::{locals_of, under};
+use crate::scope::{Binders, locals_of, under};
 use crate::walk::check;
 use clf_sig::{Class, Signature};
-use clf_syntax::{Head, Kind, Obj, Simple, TeleEntry, Ty, copy_simples, erase};
-use sqlite_items::Items;
+use clf_syntax::{Head, Kind, Obj, Simple, TeleEntry, Ty, erase};
 use std::alloc::AllocError;
 
 /// The first misfit of a type.
 #[cycle(form)]
 #[tactic(auto, using(clf_syntax::specs::PlainTypes::plain_type_laws))]
-pub fn type_misfit(
-    known: &Known,
-    scope: &[Simple],
-    ty: &Ty,
-) -> Result<Option<Misfit>, AllocError>
-    ensures { IfOk result (λ w. w ≡ spec.type_misfit (known_of known.now) (owned scope.now) (plain_ty ty.now)) }
+pub fn type_misfit(known: &Known, scope: &Binders, ty: &Ty) -> Result<Option<Misfit>, AllocError>
+    ensures { IfOk result (λ w. w ≡ spec.type_misfit (known_of known.now) (owned scope.now.types) (plain_ty ty.now)) }
 {
     match ty {
         Ty::Fam { family, indices } => family_misfit(known, scope, *family, indices.as_slice()),
         Ty::Fun { mode: _, dom, cod } => match type_misfit(known, scope, dom.get())? {
             None => {
                 let inner = under(known.alloc, scope, dom.get())?;
-                type_misfit(known, inner.as_slice(), cod.get())
+                type_misfit(known, &inner, cod.get())
             }
             Some(misfit) => Ok(Some(misfit)),
         },
@@ -53,18 +48,18 @@ pub fn type_misfit(
 #[tactic(auto, using(clf_syntax::specs::PlainTypes::plain_type_laws, crate::proofs::Scopes::scope_laws, crate::proofs::Lists::from_place))]
 pub fn telescope_misfit(
     known: &Known,
-    scope: &[Simple],
+    scope: &Binders,
     entries: &[TeleEntry],
 ) -> Result<Option<Misfit>, AllocError>
-    ensures { IfOk result (λ w. w ≡ spec.telescope_misfit (known_of known.now) (owned scope.now)
+    ensures { IfOk result (λ w. w ≡ spec.telescope_misfit (known_of known.now) (owned scope.now.types)
         (telescope_of (map plain_tele_entry entries.now))) }
 {
-    let mut inner = copy_simples(known.alloc, scope)?;
+    let mut inner = scope.copy(known.alloc)?;
     for entry in entries {
-        if let Some(misfit) = type_misfit(known, inner.as_slice(), &entry.ty)? {
+        if let Some(misfit) = type_misfit(known, &inner, &entry.ty)? {
             return Ok(Some(misfit));
         }
-        inner.push(erase(known.alloc, &entry.ty)?)?;
+        inner.types.push(erase(known.alloc, &entry.ty)?)?;
     }
     Ok(None)
 }
@@ -74,12 +69,12 @@ pub fn telescope_misfit(
 pub fn kind_misfit(known: &Known, args: &[Ty]) -> Result<Option<Misfit>, AllocError>
     ensures { IfOk result (λ w. w ≡ spec.kind_misfit (known_of known.now) [] (map plain_ty args.now)) }
 {
-    let mut inner = Items::new(known.alloc);
+    let mut inner = Binders::none(known.alloc);
     for arg in args {
-        if let Some(misfit) = type_misfit(known, inner.as_slice(), arg)? {
+        if let Some(misfit) = type_misfit(known, &inner, arg)? {
             return Ok(Some(misfit));
         }
-        inner.push(erase(known.alloc, arg)?)?;
+        inner.types.push(erase(known.alloc, arg)?)?;
     }
     Ok(None)
 }
@@ -87,13 +82,13 @@ pub fn kind_misfit(known: &Known, args: &[Ty]) -> Result<Option<Misfit>, AllocEr
 /// The first misfit of a family at its indices: those that have an argument in order, and then how many there are.
 fn family_misfit(
     known: &Known,
-    scope: &[Simple],
+    scope: &Binders,
     family: u32,
     indices: &[Obj],
 ) -> Result<Option<Misfit>, AllocError>
     ensures { IfOk result (λ w.
         w
-        ≡ spec.family_misfit (known_of known.now) (owned scope.now) family (map plain_obj indices.now)
+        ≡ spec.family_misfit (known_of known.now) (owned scope.now.types) family (map plain_obj indices.now)
         (option_map (map erased) (kind_of_family (plain_signature known.now.sig.now) family))) }
 {
     match family_kind(known.sig, family) {
@@ -120,13 +115,13 @@ fn arity_misfit(wanted: usize, found: usize) -> Option<Misfit>
 #[tactic(auto, using(crate::proofs::Lists::from_place, crate::proofs::Lists::rest_none))]
 fn indices_misfit(
     known: &Known,
-    scope: &[Simple],
+    scope: &Binders,
     indices: &[Obj],
     args: &[Ty],
 ) -> Result<Option<Misfit>, AllocError>
     ensures { IfOk result (λ w.
         w
-        ≡ spec.indices_misfit (known_of known.now) (owned scope.now) (map plain_obj indices.now)
+        ≡ spec.indices_misfit (known_of known.now) (owned scope.now.types) (map plain_obj indices.now)
         (map erased (map plain_ty args.now))) }
 {
     for place in 0..indices.len() {
@@ -143,12 +138,12 @@ fn indices_misfit(
 /// The first misfit of an object at the simple type that is left of a type.
 pub fn object_misfit(
     known: &Known,
-    scope: &[Simple],
+    scope: &Binders,
     obj: &Obj,
     ty: &Ty,
 ) -> Result<Option<Misfit>, AllocError>
     ensures { IfOk result
-        (λ w. w ≡ spec.misfit (known_of known.now) (owned scope.now) (plain_obj obj.now) (erased (plain_ty ty.now))) }
+        (λ w. w ≡ spec.misfit (known_of known.now) (owned scope.now.types) (plain_obj obj.now) (erased (plain_ty ty.now))) }
 {
     let simple = erase(known.alloc, ty)?;
     at_simple(known, scope, obj, &simple)
@@ -157,12 +152,12 @@ pub fn object_misfit(
 /// What is known is borrowed anew, for as long as the walk lasts.
 fn at_simple(
     known: &Known,
-    scope: &[Simple],
+    scope: &Binders,
     obj: &Obj,
     ty: &Simple,
 ) -> Result<Option<Misfit>, AllocError>
     ensures { IfOk result
-        (λ w. w ≡ spec.misfit (known_of known.now) (owned scope.now) (plain_obj obj.now) (plain_simple ty.now)) }
+        (λ w. w ≡ spec.misfit (known_of known.now) (owned scope.now.types) (plain_obj obj.now) (plain_simple ty.now)) }
 {
     let known = Known {
         alloc: known.alloc,
@@ -170,7 +165,7 @@ fn at_simple(
         consts: known.consts,
         metas: known.metas,
     };
-    let locals = locals_of(known.alloc, scope)?;
+    let locals = locals_of(known.alloc, scope.types.as_slice())?;
     check(&known, locals.as_slice(), obj, ty)
 }
 

@@ -14,6 +14,7 @@ ghost use Rattle.celf_conform.specs.Decision as spec;
 use crate::formation::{kind_misfit, object_misfit, telescope_misfit, type_misfit};
 use crate::known::Known;
 use crate::misfit::Misfit;
+use crate::scope::Binders;
 use clf_sig::{Class, Core, Signature};
 use clf_syntax::{Obj, Ty};
 use metavars::Store;
@@ -43,15 +44,20 @@ pub fn first_misfit(
     core_misfit(&known, core)
 }
 
+#[tactic(auto, using(clf_syntax::specs::PlainTypes::plain_type_laws))]
 fn core_misfit(known: &Known, core: &Core) -> Result<Option<Misfit>, AllocError>
     ensures { IfOk result (λ w. w ≡ spec.core_misfit (known_of known.now) (plain_core core.now)) }
 {
     match core {
         Core::Declare { entry, .. } => class_misfit(known, &entry.class),
-        Core::Query { ty } => type_misfit(known, &[], ty),
-        Core::Trace { tele } => telescope_misfit(known, &[], tele.entries.as_slice()),
+        Core::Query { ty } => type_misfit(known, &Binders::none(known.alloc), ty),
+        Core::Trace { tele } => telescope_misfit(
+            known,
+            &Binders::none(known.alloc),
+            tele.entries.as_slice(),
+        ),
         Core::Equal { left, right, ty } => match check_misfit(known, left, ty)? {
-            None => object_misfit(known, &[], right, ty),
+            None => object_misfit(known, &Binders::none(known.alloc), right, ty),
             Some(misfit) => Ok(Some(misfit)),
         },
         Core::Check { obj, ty } => check_misfit(known, obj, ty),
@@ -63,7 +69,7 @@ fn class_misfit(known: &Known, class: &Class) -> Result<Option<Misfit>, AllocErr
 {
     match class {
         Class::Family(kind) => kind_misfit(known, kind.args.as_slice()),
-        Class::Constant(ty) => type_misfit(known, &[], ty),
+        Class::Constant(ty) => type_misfit(known, &Binders::none(known.alloc), ty),
     }
 }
 
@@ -71,8 +77,8 @@ fn class_misfit(known: &Known, class: &Class) -> Result<Option<Misfit>, AllocErr
 fn check_misfit(known: &Known, obj: &Obj, ty: &Ty) -> Result<Option<Misfit>, AllocError>
     ensures { IfOk result (λ w. w ≡ spec.check_misfit (known_of known.now) (plain_obj obj.now) (plain_ty ty.now)) }
 {
-    match type_misfit(known, &[], ty)? {
-        None => object_misfit(known, &[], obj, ty),
+    match type_misfit(known, &Binders::none(known.alloc), ty)? {
+        None => object_misfit(known, &Binders::none(known.alloc), obj, ty),
         Some(misfit) => Ok(Some(misfit)),
     }
 }

@@ -1,5 +1,5 @@
 //! Scopes that grow under binders. The newest variable is the last one.
-ghost use Rattle.std.specs.Prelude.{◌≡◌, ◌∷◌, IfOk, map, reverse};
+ghost use Rattle.std.specs.Prelude.{◌≡◌, [], ◌∷◌, IfOk, map, reverse};
 ghost use Rattle.clf_syntax.specs.declared.tree.Mode.TheVariants.{Persistent};
 ghost use Rattle.clf_syntax.specs.PlainSimple.{plain_simple, plain_simple_entry, simple_telescope_of};
 ghost use Rattle.clf_syntax.specs.PlainTypes.{plain_ty};
@@ -54,14 +54,40 @@ pub fn locals_of<'a>(alloc: Global, types: &'a [Simple]) -> Result<Vec<&'a Simpl
     Ok(locals)
 }
 
+/// The simple types of the variables that types bind. The newest is the last one.
+#[derive(Drop)]
+pub struct Binders {
+    pub types: Items<Simple>,
+}
+
+impl Binders {
+    /// No variables.
+    pub fn none(alloc: Global) -> Binders
+        ensures { owned result.types ≡ [] }
+    {
+        Binders {
+            types: Items::new(alloc),
+        }
+    }
+
+    /// The same variables.
+    pub fn copy(&self, alloc: Global) -> Result<Binders, AllocError>
+        ensures { IfOk result (λ copied. owned copied.types ≡ owned self.now.types) }
+    {
+        Ok(Binders {
+            types: copy_simples(alloc, self.types.as_slice())?,
+        })
+    }
+}
+
 /// The scope under the variable of a type.
 #[tactic(auto, using(crate::proofs::Scopes::scope_laws))]
-pub fn under(alloc: Global, types: &[Simple], ty: &Ty) -> Result<Items<Simple>, AllocError>
-    ensures { IfOk result (λ inner. owned inner ≡ erased (plain_ty ty.now) ∷ owned types.now) }
+pub fn under(alloc: Global, scope: &Binders, ty: &Ty) -> Result<Binders, AllocError>
+    ensures { IfOk result (λ inner. owned inner.types ≡ erased (plain_ty ty.now) ∷ owned scope.now.types) }
 {
-    let mut inner = copy_simples(alloc, types)?;
+    let mut inner = copy_simples(alloc, scope.types.as_slice())?;
     inner.push(erase(alloc, ty)?)?;
-    Ok(inner)
+    Ok(Binders { types: inner })
 }
 
 /// The scope as a list of entries, whose modes do not count.

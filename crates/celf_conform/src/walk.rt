@@ -1,7 +1,7 @@
 //! The first misfit of an object at a simple type. A part's children come in the order of their numbers.
 ghost use Rattle.std.specs.Prelude.{◌≡◌, ◌∷◌, IfOk, map};
 ghost use Rattle.clf_syntax.specs.Plain.{plain_obj, plain_neutral, plain_elim, plain_expr, plain_step, plain_entry};
-ghost use Rattle.clf_syntax.specs.Tree.{atomic, tuple_of};
+ghost use Rattle.clf_syntax.specs.Tree.{tuple_of};
 ghost use Rattle.clf_syntax.specs.PlainSimple.{plain_simple, plain_simple_entry, simple_telescope_of};
 ghost use Rattle.hered_subst.specs.TypedEnvironments.{is_metavariable};
 ghost use Rattle.celf_conform.specs.Seen.{known_of, plain_found, plain_scope, scope};
@@ -20,7 +20,7 @@ use std::alloc::AllocError;
 
 /// The first misfit of an object at a simple type.
 #[cycle(check)]
-#[tactic(auto, using(clf_syntax::specs::Plain::plain_laws))]
+#[tactic(auto, using(clf_syntax::specs::Plain::plain_laws, clf_syntax::specs::PlainSimple::plain_simple_laws, crate::proofs::Lists::neutral_head))]
 pub fn check<'a>(
     known: &Known<'a>,
     locals: &[&'a Simple],
@@ -32,10 +32,26 @@ pub fn check<'a>(
 {
     match obj {
         Obj::Lam { mode, body } => check_lambda(known, locals, *mode, body.get(), ty),
-        Obj::Pair { left, right } => check_pair(known, locals, left.get(), right.get(), ty),
+        Obj::Pair { left, right } => match ty {
+            Simple::With {
+                left: first,
+                right: second,
+            } => match check(known, locals, left.get(), first.get())? {
+                None => check(known, locals, right.get(), second.get()),
+                Some(misfit) => Ok(Some(misfit)),
+            },
+            Simple::Atom(_) | Simple::Fun { .. } | Simple::Top | Simple::Monad { .. } => {
+                Ok(Some(Misfit::NotPair))
+            }
+        },
         Obj::Unit => Ok(unit_misfit(ty)),
         Obj::Mon { expr } => check_monadic(known, locals, expr.get(), ty),
-        Obj::At { neutral } => check_atomic(known, locals, obj, neutral, ty),
+        Obj::At { neutral } => {
+            if is_meta(neutral.head) {
+                return filled_misfit(known, locals, obj, ty);
+            }
+            check_atomic(known, locals, neutral, ty)
+        }
         Obj::Hole => Ok(Some(Misfit::NotClosed)),
     }
 }
@@ -75,35 +91,6 @@ fn check_lambda<'a>(
     }
 }
 
-#[cycle(check)]
-#[tactic(auto, using(clf_syntax::specs::PlainSimple::plain_simple_laws))]
-fn check_pair<'a>(
-    known: &Known<'a>,
-    locals: &[&'a Simple],
-    left: &Obj,
-    right: &Obj,
-    ty: &'a Simple,
-) -> Result<Option<Misfit>, AllocError>
-    ensures { IfOk result (λ w.
-        w
-        ≡ spec.at_with (plain_simple ty.now)
-        (λ c. spec.misfit (known_of known.now) (scope locals.now) (plain_obj left.now) c)
-        (λ d. spec.misfit (known_of known.now) (scope locals.now) (plain_obj right.now) d)) }
-{
-    match ty {
-        Simple::With {
-            left: first,
-            right: second,
-        } => match check(known, locals, left, first.get())? {
-            None => check(known, locals, right, second.get()),
-            Some(misfit) => Ok(Some(misfit)),
-        },
-        Simple::Atom(_) | Simple::Fun { .. } | Simple::Top | Simple::Monad { .. } => {
-            Ok(Some(Misfit::NotPair))
-        }
-    }
-}
-
 fn is_meta(head: Head) -> bool
     ensures { result ≡ is_metavariable head }
 {
@@ -113,24 +100,19 @@ fn is_meta(head: Head) -> bool
     }
 }
 
-/// An object to be filled in, or a neutral that stands at a family, and has it.
+/// A neutral that stands at a family, and has it.
 #[cycle(check)]
-#[tactic(auto, using(crate::proofs::Lists::neutral_head))]
 fn check_atomic<'a>(
     known: &Known<'a>,
     locals: &[&'a Simple],
-    obj: &Obj,
     neutral: &Neutral,
     ty: &'a Simple,
 ) -> Result<Option<Misfit>, AllocError>
-    requires { plain_obj obj.now ≡ atomic (plain_neutral neutral.now) }
     ensures { IfOk result (λ w.
         w
-        ≡ spec.misfit (known_of known.now) (scope locals.now) (atomic (plain_neutral neutral.now)) (plain_simple ty.now)) }
+        ≡ spec.at_family (plain_simple ty.now)
+        (spec.found (known_of known.now) (scope locals.now) (plain_neutral neutral.now))) }
 {
-    if is_meta(neutral.head) {
-        return filled_misfit(known, locals, obj, ty);
-    }
     Ok(atomic_misfit(ty, infer(known, locals, neutral)?))
 }
 
