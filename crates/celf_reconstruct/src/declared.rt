@@ -80,11 +80,7 @@ fn names_of(
     Ok(names)
 }
 
-fn name_of(
-    alloc: Global,
-    variables: &[Implicit],
-    number: u32,
-) -> Result<Option<Name>, AllocError> {
+fn name_of(alloc: Global, variables: &[Implicit], number: u32) -> Result<Option<Name>, AllocError> {
     match variables.get(number as usize) {
         Some(variable) => Ok(Some(variable.name.copy(alloc)?)),
         None => Ok(None),

@@ -67,6 +67,7 @@ fn simples_of(
 }
 
 /// The simple type of an implicit variable.
+#[tactic(auto, using(clf_syntax::specs::PlainSimple::plain_simple_laws))]
 fn simple_of(alloc: Global, variable: &Implicit) -> Result<Simple, AllocError>
     ensures { IfOk result (λ simple. plain_simple simple ≡ simple_or_unit (plain_implicit variable.now)) }
 {

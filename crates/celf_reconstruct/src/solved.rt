@@ -29,7 +29,13 @@ pub fn solve(
     ensures solved { OnOk result (IsSolved (plain_signature sig.now) (desugared_item plain.now) scene.new) }
     ensures declined { IfErr result (Declined (plain_signature sig.now) (desugared_item plain.now)) }
 {
-    match gather(alloc, sig, scene.types.as_slice(), &scene.store, &scene.core)? {
+    match gather(
+        alloc,
+        sig,
+        scene.types.as_slice(),
+        &scene.store,
+        &scene.core,
+    )? {
         Some(equations) => solve_these(alloc, sig, plain, scene, &equations),
         None => Err(misfit(alloc, sig, &scene.store, &scene.core)),
     }

@@ -63,8 +63,7 @@ fn with_variables(
 }
 
 /// Whether the item is out of reach so far.
-fn is_beyond(plain: &Plain, no_variables: bool) -> bool
-{
+fn is_beyond(plain: &Plain, no_variables: bool) -> bool {
     match &plain.body {
         PlainBody::Declare { class, .. } => is_family(class),
         PlainBody::Query { .. } => true,

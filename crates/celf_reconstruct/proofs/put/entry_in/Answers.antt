@@ -13,6 +13,8 @@ pub type_in-requires : goal.type_in-requires
 type_in-requires c = record { formed = subst (λ (x : Class). ClassIsFormedIn (additions c.args.store.now) (plain_class x)) c.in-Constant.is c.requires.formed }
 
 pub returns-in_ok-type_in-in-Constant-clause-put_in : goal.returns-in_ok-type_in-in-Constant-clause-put_in
-returns-in_ok-type_in-in-Constant-clause-put_in c = λ s p k.
-    (subst (λ (x : Class). SubstitutedClass (instant s) (plain_class x) (constant_of (plain_ty c.in_ok-type_in-in-Constant.field-0))) (sym c.in-Constant.is)
-    (in_constant_class (c.in_ok-type_in-in-Constant.ensures.put_in s p k)), refl)
+returns-in_ok-type_in-in-Constant-clause-put_in c = λ s p k. (
+  subst (λ (x : Class). SubstitutedClass (instant s) (plain_class x) (constant_of (plain_ty c.in_ok-type_in-in-Constant.field-0))) (sym c.in-Constant.is)
+      (in_constant_class (c.in_ok-type_in-in-Constant.ensures.put_in s p k)),
+  refl,
+)
