@@ -1,7 +1,7 @@
 -- What conforms to simple types: simple typing of trees in which metavariables are to be filled in.
 --
 -- A metavariable stands as an object alone: nothing runs it as a step, and what it is applied to need only be simply typed. So an object conforms
--- exactly where it does by the relation of gathering at the shape in which nothing is passed over (the laws of this crate say so).
+-- exactly where it does by the relation of gathering at the shape in which nothing is passed over.
 use Rattle.std.specs.Prelude.{ℕ, ◌≡◌, ◌⊎◌, List, [], ◌∷◌, Some}
 use Rattle.clf_syntax.specs.declared.tree.Mode.{Mode}
 use Rattle.clf_syntax.specs.declared.tree.Head.{Head}

@@ -1,7 +1,9 @@
 //! Equations are taken apart while the store stays.
-ghost use Rattle.std.specs.Prelude.{◌≡◌, [], ◌∷◌, ◌++◌, map, IfErr, IfOk};
+ghost use Rattle.std.specs.Prelude.{◌≡◌, List, [], ◌∷◌, ◌++◌, map, reverse, IfErr, IfOk};
 ghost use Rattle.clf_syntax.specs.Wide.{IsWant};
 ghost use Rattle.celf_constraints.specs.Equated.{equations_in, plain_equation};
+ghost use Rattle.pattern_laws.specs.Equations.{Equation as PlainEquation};
+ghost use Rattle.metavars.specs.Stored.{Stored};
 ghost use Rattle.celf_unify.specs.Gathered.{IsTyped, Gathers};
 
 use crate::answer::Clash;
@@ -21,8 +23,30 @@ pub enum Gathered {
     Step(Step, Vec<Equation>),
 }
 
-/// Takes the equations apart, the last one first, until a step can be taken.
+/// Takes the equations apart, the first one first and the parts of one from left to right, until a step can be taken.
 pub fn gather(alloc: Global, store: &Store, work: Vec<Equation>) -> Result<Gathered, Want>
+    requires typed { IsTyped store.now (map plain_equation work.items) }
+    ensures gathered { IfOk result (λ g. Gathers store.now (map plain_equation work.items) g) }
+    ensures wanting { IfErr result IsWant }
+{
+    let stack = turned(alloc, work)?;
+    let gathered = from_stack(alloc, store, stack)?;
+    Ok(in_order(alloc, gathered)?)
+}
+
+/// With what is still to be looked at in its order.
+fn in_order(alloc: Global, gathered: Gathered) -> Result<Gathered, AllocError>
+    ensures { IfOk result (λ g. (s : Stored) → (ws : List PlainEquation) → Gathers s ws gathered → Gathers s ws g) }
+{
+    match gathered {
+        Gathered::Left(left) => Ok(Gathered::Left(left)),
+        Gathered::Clash(clash) => Ok(Gathered::Clash(clash)),
+        Gathered::Step(step, rest) => Ok(Gathered::Step(step, turned(alloc, rest)?)),
+    }
+}
+
+/// Takes the equations of a stack apart, whose first one is the last in the list.
+fn from_stack(alloc: Global, store: &Store, work: Vec<Equation>) -> Result<Gathered, Want>
     requires typed { IsTyped store.now (map plain_equation work.items) }
     ensures gathered { IfOk result (λ g. Gathers store.now (map plain_equation work.items) g) }
     ensures wanting { IfErr result IsWant }
@@ -31,7 +55,7 @@ pub fn gather(alloc: Global, store: &Store, work: Vec<Equation>) -> Result<Gathe
     let mut left = Equations::new(alloc);
     while let Some(equation) = work.pop() {
         match examine(alloc, store, equation)? {
-            Examined::Parts(parts) => work = with_each(work, parts)?,
+            Examined::Parts(parts) => work = with_each(work, turned(alloc, parts)?)?,
             Examined::Left(equation) => left = with_left(left, equation)?,
             Examined::Clash(clash) => return Ok(Gathered::Clash(clash)),
             Examined::Step(step, equation) => {
@@ -40,6 +64,18 @@ pub fn gather(alloc: Global, store: &Store, work: Vec<Equation>) -> Result<Gathe
         }
     }
     Ok(Gathered::Left(left))
+}
+
+/// Equations from the last one to the first.
+fn turned(alloc: Global, equations: Vec<Equation>) -> Result<Vec<Equation>, AllocError>
+    ensures { IfOk result (λ all. map plain_equation all.items ≡ reverse (map plain_equation equations.items)) }
+{
+    let mut rest = equations;
+    let mut all = Vec::new(alloc);
+    while let Some(equation) = rest.pop() {
+        all = with_equation(all, equation)?;
+    }
+    Ok(all)
 }
 
 /// More equations.
