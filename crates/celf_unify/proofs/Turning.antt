@@ -1,15 +1,12 @@
 -- Equations in the other order: the same ones are listed.
-use Rattle.std.proofs.Common.{ℕ, ◌≡◌, ◌<◌, ◌+◌, List, [], ◌∷◌, ◌++◌, map, reverse, refl, ap, sym, subst, ◌∙◌, arith, ⊎_elim, append_assoc}
-use Rattle.std.proofs.lemmas.List.{map-append, reverse-append, reverse-reverse}
+use Rattle.std.proofs.Common.{ℕ, ◌≡◌, ◌<◌, ◌+◌, List, [], ◌∷◌, ◌++◌, reverse, refl, ap, sym, subst, ◌∙◌, arith}
+use Rattle.std.proofs.lemmas.List.{reverse-append, reverse-reverse}
 use Rattle.pattern_laws.specs.Instantiations.{Types}
 use Rattle.pattern_laws.specs.Equations.{Equation, Listed, listed_here, listed_later, TypedEquation, TypedEquations}
 use Rattle.reach_laws.specs.Rest.{down_listed, Rest}
 use Rattle.reach_laws.proofs.Down.{down_further, listed_more, listed_behind}
 use Rattle.reach_laws.proofs.Rests.{typed_listed}
-use Rattle.answer_laws.proofs.InTurn.{listed_cases}
 use Rattle.solver_laws.specs.Reduced.{Reduced, work_size}
-use Rattle.celf_constraints.specs.declared.equation.Equation.{Equation as Declared}
-use Rattle.celf_constraints.specs.Equated.{plain_equation, equations_in}
 use Rattle.metavars.specs.Stored.{Stored}
 use Rattle.celf_unify.specs.declared.gather.Gathered.{Gathered}
 use Rattle.celf_unify.specs.declared.gather.Gathered.TheVariants.{Left, Clash, Step}
@@ -31,9 +28,6 @@ from_turned {e} es l = subst (Listed e) (reverse-reverse es) (into_turned (rever
 pub size_turned : (es : List Equation) → work_size (reverse es) ≡ work_size es
 size_turned [] = refl
 size_turned (e ∷ es) = let a = ap work_size (turn e es) ∙ size_append (reverse es) (e ∷ []) in let b = size_turned es in omega (arith, a, b)
-
-pub turn_step : (all now rest left : List Equation) (e : Equation) (whole : List Equation) → now ≡ all ++ e ∷ [] → rest ≡ left ++ e ∷ [] → all ++ reverse rest ≡ whole → now ++ reverse left ≡ whole
-turn_step all now rest left e whole f g h = ap (λ xs. xs ++ reverse left) f ∙ append_assoc all (e ∷ []) (reverse left) ∙ sym (ap (λ xs. all ++ xs) (ap reverse g ∙ reverse-append left (e ∷ []))) ∙ h
 
 typed_all : (constants metas : Types) (es : List Equation) → ((e : Equation) → Listed e es → TypedEquation constants metas e) → TypedEquations constants metas es
 typed_all constants metas [] f = tt
