@@ -33,7 +33,7 @@ use use_contexts::Ctx;
 /// The equations of an item, in the order of its parts. Implicit variables are constants past those of the signature,
 /// of the types `variables`; a metavariable is an object to be filled in.
 ///
-/// `None` where nothing is gathered of the item. Where it conforms to simple types that does not come.
+/// `None` where nothing is gathered of the item.
 pub fn gather(
     alloc: Global,
     sig: &Signature,

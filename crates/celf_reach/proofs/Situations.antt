@@ -130,12 +130,6 @@ finds_pair s types l r t q f k e a b ls ds ps h p =
     (walked_pair (sought_heads s) ls s.meta ps ds q.0 q.1 l r f k
     (a ls ds ps h (subst (SimplyTyped (scoped (ds ++ ls) (sought_heads s)) l) (sym u) p.3)) (b ls ds ps h (subst (SimplyTyped (scoped (ds ++ ls) (sought_heads s)) r) (sym v) p.4)))
 
-pub finds_unit : (s : Sought) (types : List (Bor Simple)) (t : SimpleType) → Finds s types unit t nothing
-finds_unit s types t ls ds ps h p = walked_unit (sought_heads s) ls s.meta ps ds t
-
-pub finds_hole : (s : Sought) (types : List (Bor Simple)) (t : SimpleType) (f : PlainFound) → Finds s types hole t f
-finds_hole s types t f ls ds ps h p = absurd (cc)
-
 -- whether a marked local occurs
 marked_at : (s : Sought) (types : List (Bor Simple)) (ls ds : Locals) (ps : List Place) (x : PlainObject) → Situated s types ls ds ps
     → (marked_in s.marks.now (length types - s.count) x ≡ false → NoForeign (length ls) ps (length ds) x) × (NoForeign (length ls) ps (length ds) x → marked_in s.marks.now (length types - s.count) x ≡ false)

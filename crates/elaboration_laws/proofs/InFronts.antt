@@ -125,10 +125,10 @@ module _ (sig : PlainSignature) (xs : List PlainType) (metas : Types) (formed_si
   formed_given c a (as_constant i e) = (type_formed sig item has refl a [] (types_formed c a e), well_formed_closed sig a (types_formed c a e))
   formed_given c a (as_implicit x i e) = ((read x a e).formed, (read x a e).closed_type)
 
-  setting_formed : FormedSetting item
+  pub setting_formed : FormedSetting item
   setting_formed c a e = let r = formed_given c a (given_as sig xs c a e) in record { formed = r.0; simple = ap (option_map erase) e; closed = r.1 }
 
-  kinds : FormedKinds sig item
+  pub kinds : FormedKinds sig item
   kinds f k e = record {
     arguments = ap (option_map (map erase)) e;
     formed = λ g. formed_over sig item has refl k ((entries_well_formed sig formed_sig).0 f k e) g;
