@@ -8,3 +8,4 @@ pub mod Appearances
 pub mod Firsts
 pub mod Walks
 pub mod Outcomes
+pub mod WorkedOrders
