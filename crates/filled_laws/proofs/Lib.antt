@@ -1,3 +1,5 @@
 pub mod FinalIndices
 pub mod Families
 pub mod FreshTypes
+pub mod Places
+pub mod Determined

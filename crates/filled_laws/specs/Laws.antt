@@ -4,13 +4,16 @@ use Rattle.std.specs.List.{All, slice_get}
 use Rattle.clf_syntax.specs.TypeTree.{PlainType, SimpleType}
 use Rattle.clf_syntax.specs.Simple.{Assignment, erase, SimplyFormed}
 use Rattle.clf_sig.specs.Entry.{PlainSignature}
+use Rattle.clf_rules.specs.WellFormed.{WellFormedSignature}
 use Rattle.typing_laws.specs.SimpleTyping.{families_of}
 use Rattle.pattern_laws.specs.Equations.{Locals}
 use Rattle.pattern_laws.specs.Instantiations.{Types}
 use Rattle.pattern_laws.specs.Patterns.{HasFinalResult}
 use Rattle.elaboration_laws.specs.ItemSetting.{ReadType}
+use Rattle.celf_sugar.specs.PlainTree.{DesugaredBody}
+use Rattle.celf_implicit.specs.Rounds.{determined}
 use Rattle.celf_filled.specs.TypedFrom.{indices_of, new_in}
-use Rattle.celf_filled.specs.FormedTypes.{HaveIndices}
+use Rattle.filled_laws.specs.Families.{HasFamilies}
 use Rattle.filled_laws.specs.FreshTypes.{types_from, new_in_each}
 
 -- The result of a new metavariable is a family or a monad.
@@ -22,13 +25,14 @@ NewInAreFinal = (indices : ℕ → List SimpleType)
 abbrev pub TypesHaveErasures : Type 0
 TypesHaveErasures = (indices : ℕ → List SimpleType) (k : ℕ) (ts : List SimpleType) → map erase (types_from indices k ts) ≡ ts
 
--- Each family in a simple type is one of the signature, with the simple types of its indices.
-abbrev pub HasFamilies : PlainSignature → SimpleType → Type 0
-HasFamilies sig t = HaveIndices (families_of sig) (indices_of sig) t
-
--- So it is in what is left of a simply formed type.
+-- The families in what is left of a simply formed type are those of the signature.
 abbrev pub FormedTypesHaveIndices : Type 0
 FormedTypesHaveIndices = (sig : PlainSignature) (g : Assignment) (a : PlainType) → SimplyFormed (families_of sig) g a → HasFamilies sig (erase a)
+
+-- So are those in the simple types of implicit variables, where all these are known.
+abbrev pub DeterminedHaveFamilies : Type 0
+DeterminedHaveFamilies = (sig : PlainSignature) (body : DesugaredBody) (ts : List SimpleType) → WellFormedSignature sig
+    → map (λ x. x.place) (determined sig body) ≡ map (λ t. Some t) ts → All (HasFamilies sig) ts
 
 -- The metavariables from a number on have these simple types.
 abbrev pub TypesFrom : Types → ℕ → List SimpleType → Type 0

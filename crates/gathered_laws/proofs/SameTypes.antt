@@ -77,14 +77,14 @@ equations_nearly b c metas n (e ∷ q) p =
 -- ---- the constants
 
 -- The store has the same simple type at a number, or <T> where the item has none.
-abbrev IsSame : Option SimpleType → Option SimpleType → Type 0
+abbrev pub IsSame : Option SimpleType → Option SimpleType → Type 0
 IsSame x y = (x ≡ y) ⊎ ((x ≡ Some simple_top) × (y ≡ None))
 
 class_same : (d : PlainClass) → IsSame (Some (simple_class d)) (option_map erase (type_in d))
 class_same (family_of k) = inr (refl, refl)
 class_same (constant_of a) = inl refl
 
-constant_same : (sig : PlainSignature) (c : ℕ) → IsSame (slice_get (simple_types sig) c) (option_map erase (constant_type sig c))
+pub constant_same : (sig : PlainSignature) (c : ℕ) → IsSame (slice_get (simple_types sig) c) (option_map erase (constant_type sig c))
 constant_same [] c = inl refl
 constant_same (d ∷ sig) zero = class_same d.1.class
 constant_same (d ∷ sig) (suc c) = constant_same sig c
