@@ -3,3 +3,5 @@ pub mod Families
 pub mod FreshTypes
 pub mod Places
 pub mod Determined
+pub mod NewFamilies
+pub mod FilledFamilies

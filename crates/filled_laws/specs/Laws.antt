@@ -1,17 +1,25 @@
 -- Laws of types made of simple types, as statements; the functions of the crate's `laws` state them.
 use Rattle.std.specs.Prelude.{ℕ, ◌+◌, ◌≡◌, List, map, Some}
 use Rattle.std.specs.List.{All, slice_get}
+use Rattle.clf_syntax.specs.declared.tree.Head.{Head}
 use Rattle.clf_syntax.specs.TypeTree.{PlainType, SimpleType}
 use Rattle.clf_syntax.specs.Simple.{Assignment, erase, SimplyFormed}
 use Rattle.clf_sig.specs.Entry.{PlainSignature}
+use Rattle.clf_sig.specs.Core.{PlainCore}
 use Rattle.clf_rules.specs.WellFormed.{WellFormedSignature}
 use Rattle.typing_laws.specs.SimpleTyping.{families_of}
+use Rattle.subst_laws.specs.Environments.{Instantiation}
 use Rattle.pattern_laws.specs.Equations.{Locals}
 use Rattle.pattern_laws.specs.Instantiations.{Types}
 use Rattle.pattern_laws.specs.Patterns.{HasFinalResult}
+use Rattle.unify_laws.specs.Problems.{Grows}
+use Rattle.unify_laws.specs.Progress.{Traced}
 use Rattle.elaboration_laws.specs.ItemSetting.{ReadType}
 use Rattle.celf_sugar.specs.PlainTree.{DesugaredBody}
 use Rattle.celf_implicit.specs.Rounds.{determined}
+use Rattle.celf_elaboration.specs.Fillings.{Fillings, types_of_new}
+use Rattle.celf_elaboration.specs.Names.{ImplicitVariable}
+use Rattle.celf_elaboration.specs.Items.{ReadsBody}
 use Rattle.celf_filled.specs.TypedFrom.{indices_of, new_in}
 use Rattle.filled_laws.specs.Families.{HasFamilies}
 use Rattle.filled_laws.specs.FreshTypes.{types_from, new_in_each}
@@ -33,6 +41,19 @@ FormedTypesHaveIndices = (sig : PlainSignature) (g : Assignment) (a : PlainType)
 abbrev pub DeterminedHaveFamilies : Type 0
 DeterminedHaveFamilies = (sig : PlainSignature) (body : DesugaredBody) (ts : List SimpleType) → WellFormedSignature sig
     → map (λ x. x.place) (determined sig body) ≡ map (λ t. Some t) ts → All (HasFamilies sig) ts
+
+-- And so are those in the simple types of new metavariables: in types made of simple types, and in what is filled in;
+abbrev pub NewHaveFamilies : Type 0
+NewHaveFamilies = (sig : PlainSignature) → WellFormedSignature sig → (ts : List SimpleType) → All (HasFamilies sig) ts → All (HasFamilies sig) (new_in_each (indices_of sig) ts)
+
+abbrev pub FillingsHaveFamilies : Type 0
+FillingsHaveFamilies = (sig : PlainSignature) (heads : ℕ → Head) (vs : List ImplicitVariable) (body : DesugaredBody) (fs : Fillings) (core : PlainCore) → WellFormedSignature sig
+    → All (λ v. HasFamilies sig v.type) vs → ReadsBody sig heads vs body fs core → All (HasFamilies sig) (types_of_new fs)
+
+-- and in those of the metavariables that unification makes.
+abbrev pub TracedHaveFamilies : Type 0
+TracedHaveFamilies = (sig : PlainSignature) (start metas : Types) (given : Instantiation) → Traced start metas given → Grows start metas
+    → ((m : ℕ) (a : SimpleType) → start m ≡ Some a → HasFamilies sig a) → (m : ℕ) (a : SimpleType) → metas m ≡ Some a → HasFamilies sig a
 
 -- The metavariables from a number on have these simple types.
 abbrev pub TypesFrom : Types → ℕ → List SimpleType → Type 0
