@@ -105,12 +105,13 @@ get_second (x ∷ xs) ys (suc i) l = get_second xs ys i (omega arith) ∙ ap (sl
     less : (i n : ℕ) → i - n ≡ suc i - suc n
     less i n = omega arith
 
+-- the simple type at a number that is that of a constant of the signature or not
+abbrev given_at : PlainSignature → List PlainType → ℕ → Bool → Option SimpleType
+given_at sig xs c b = option_map erase (if b then constant_type sig c else slice_get xs (c - length sig))
+
 same_at : (sig : PlainSignature) (xs : List PlainType) (c : ℕ) → IsSame (slice_get (store_constants sig xs) c) (item_constants sig xs c)
 same_at sig xs c = of_place (nat_lt c (length sig)) refl
   where
-    here : Bool → Option SimpleType
-    here b = option_map erase (if b then constant_type sig c else slice_get xs (c - length sig))
-
     moved : (x y z w : Option SimpleType) → x ≡ y → w ≡ z → IsSame y z → IsSame x w
     moved x y z w e f p = ⊎_elim (λ g. inl (e ∙ g ∙ sym f)) (λ g. inr (e ∙ g.0, f ∙ g.1)) p
 
@@ -118,12 +119,11 @@ same_at sig xs c = of_place (nat_lt c (length sig)) refl
     count = length-map sig (λ e. simple_class e.1.class)
 
     of_place : (b : Bool) → nat_lt c (length sig) ≡ b → IsSame (slice_get (store_constants sig xs) c) (item_constants sig xs c)
-    unfolding here
     of_place true l = let i : c < length sig = grind (arith, l) in let n = count in
         moved (slice_get (store_constants sig xs) c) (slice_get (simple_types sig) c) (option_map erase (constant_type sig c)) (item_constants sig xs c)
-        (get_first (simple_types sig) (map erase xs) c (omega (arith, i, n))) (ap here l) (constant_same sig c)
+        (get_first (simple_types sig) (map erase xs) c (omega (arith, i, n))) (ap (given_at sig xs c) l) (constant_same sig c)
     of_place false l = let i : length sig ≤ c = grind (arith, l) in let n = count in
-        inl (get_second (simple_types sig) (map erase xs) c (omega (arith, i, n)) ∙ ap (λ k. slice_get (map erase xs) (c - k)) count ∙ slice_get-map erase xs (c - length sig) ∙ sym (ap here l))
+        inl (get_second (simple_types sig) (map erase xs) c (omega (arith, i, n)) ∙ ap (λ k. slice_get (map erase xs) (c - k)) count ∙ slice_get-map erase xs (c - length sig) ∙ sym (ap (given_at sig xs c) l))
 
 module _ (sig : PlainSignature) (xs : List PlainType) (metas : Types) where
   abbrev of_item : Assignment
