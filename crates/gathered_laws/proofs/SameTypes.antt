@@ -70,9 +70,10 @@ module _ (arguments : Families) where
 equations_nearly : (b c metas : Types) → Nearly (closed b metas) (closed c metas) → (q : List Equation) → TypedEquations b metas q → TypedEquations c metas q
 equations_nearly b c metas n [] p = tt
 equations_nearly b c metas n (e ∷ q) p =
-    let k = scoped_nearly e.locals (closed b metas) (closed c metas) n in
-    ((typed_nearly e.left (scoped e.locals (closed b metas)) (scoped e.locals (closed c metas)) e.type k p.0.0, typed_nearly e.right (scoped e.locals (closed b metas)) (scoped e.locals (closed c metas)) e.type k p.0.1),
-    equations_nearly b c metas n q p.1)
+    let k = scoped_nearly e.locals (closed b metas) (closed c metas) n in (
+      (typed_nearly e.left (scoped e.locals (closed b metas)) (scoped e.locals (closed c metas)) e.type k p.0.0, typed_nearly e.right (scoped e.locals (closed b metas)) (scoped e.locals (closed c metas)) e.type k p.0.1),
+      equations_nearly b c metas n q p.1,
+    )
 
 -- ---- the constants
 
@@ -150,8 +151,10 @@ module _ (sig : PlainSignature) (xs : List PlainType) (metas : Types) where
 
 pub store_types_the_same : StoreTypesTheSame
 store_types_the_same sig xs metas = record {
-  equations = λ q. (equations_nearly (item_constants sig xs) (slice_get (store_constants sig xs)) metas (to_store sig xs metas) q,
-      equations_nearly (slice_get (store_constants sig xs)) (item_constants sig xs) metas (to_item sig xs metas) q);
+  equations = λ q. (
+    equations_nearly (item_constants sig xs) (slice_get (store_constants sig xs)) metas (to_store sig xs metas) q,
+    equations_nearly (slice_get (store_constants sig xs)) (item_constants sig xs) metas (to_item sig xs metas) q,
+  );
   types = λ arguments a. (type_nearly arguments a (of_item sig xs metas) (of_store sig xs metas) (to_store sig xs metas), type_nearly arguments a (of_store sig xs metas) (of_item sig xs metas) (to_item sig xs metas));
   cores = λ arguments c. (core_nearly arguments c (of_item sig xs metas) (of_store sig xs metas) (to_store sig xs metas), core_nearly arguments c (of_store sig xs metas) (of_item sig xs metas) (to_item sig xs metas));
 }
