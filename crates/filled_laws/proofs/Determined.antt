@@ -105,11 +105,11 @@ module _ (sig : PlainSignature) where
 
   variable_over : (xs : List PlainImplicit) (n : List ℕ) → VariablesOver xs → IsOver sig (variable_place xs n)
   variable_over [] n h = tt
-  variable_over (x ∷ xs) n h = here (has_name n x)
+  variable_over (x ∷ xs) n h = here (has_name n x) (variable_over xs n h.1)
     where
-      here : (b : Bool) → IsOver sig (if b then x.place else variable_place xs n)
-      here true = h.0
-      here false = variable_over xs n h.1
+      here : (b : Bool) → IsOver sig (variable_place xs n) → IsOver sig (if b then x.place else variable_place xs n)
+      here true k = h.0
+      here false k = k
 
   after_over : (n : ℕ) (p : Place) → IsOver sig p → IsOver sig (after_arguments n p)
   after_over zero p h = h
@@ -150,6 +150,9 @@ module _ (sig : PlainSignature) where
         here true = ((k, h), tt)
         here false = tt
 
+    behind_over : (t : Place) (a : DesugaredAct) → IsOver sig t → IsOver sig (behind_act t a)
+    behind_over t a k = spine_over sig t (and_then a end_of_spine) k
+
     mutual
       object_over : (s : Scope) (t : Place) (o : DesugaredObject) → ScopeOver s → IsOver sig t → OccurrencesOver (in_object sig xs s t o)
       object_over s t (lam p m n b) h k = object_over (under (marked m (function_parts t).mode) (n, (function_parts t).domain) s) (function_parts t).codomain b (domain_over sig t k, h) (codomain_over sig t k)
@@ -166,9 +169,6 @@ module _ (sig : PlainSignature) where
       acts_over : (s : Scope) (t : Place) (es : DesugaredSpine) → ScopeOver s → IsOver sig t → OccurrencesOver (in_spine sig xs s t es)
       acts_over s t end_of_spine h k = tt
       acts_over s t (and_then a es) h k = both_over (in_act sig xs s t a) (in_spine sig xs s (behind_act t a) es) (one_act_over s t a h k) (acts_over s (behind_act t a) es h (behind_over t a k))
-
-      behind_over : (t : Place) (a : DesugaredAct) → IsOver sig t → IsOver sig (behind_act t a)
-      behind_over t a k = spine_over sig t (and_then a end_of_spine) k
 
       one_act_over : (s : Scope) (t : Place) (a : DesugaredAct) → ScopeOver s → IsOver sig t → OccurrencesOver (in_act sig xs s t a)
       one_act_over s t (argument m o) h k = object_over s (function_parts t).domain o h (domain_over sig t k)

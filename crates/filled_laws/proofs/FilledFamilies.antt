@@ -88,11 +88,11 @@ module _ (sig : PlainSignature) where
 
     as_implicit : (x : ℕ) (name : List ℕ) (ws : List ImplicitVariable) → All (λ v. HasFamilies sig v.type) ws → MeaningOver (implicit_from heads x name ws)
     as_implicit x name [] h = tt
-    as_implicit x name (v ∷ ws) h = here (same_bytes name v.name)
+    as_implicit x name (v ∷ ws) h = here (same_bytes name v.name) (as_implicit (x + 1) name ws (All-tail (λ v. HasFamilies sig v.type) v ws h))
       where
-        here : (b : Bool) → MeaningOver (if b then Some (record { head = heads x; place = Some v.type; implicit = 0 }) else implicit_from heads (x + 1) name ws)
-        here true = All-head (λ v. HasFamilies sig v.type) v ws h
-        here false = as_implicit (x + 1) name ws (All-tail (λ v. HasFamilies sig v.type) v ws h)
+        here : (b : Bool) → MeaningOver (implicit_from heads (x + 1) name ws) → MeaningOver (if b then Some (record { head = heads x; place = Some v.type; implicit = 0 }) else implicit_from heads (x + 1) name ws)
+        here true k = All-head (λ v. HasFamilies sig v.type) v ws h
+        here false k = k
 
     meaning_over : (ls : List Scoped) (n : PName) → ScopedOver ls → MeaningOver (meaning sig heads vs ls n)
     meaning_over ls n h = here n.dollar
@@ -151,7 +151,7 @@ module _ (sig : PlainSignature) where
     indices_over (indices_beyond {fs = fs} {gs = gs} {hs = hs} p q e) h k = both_over fs gs hs e (object_over p h tt) (indices_over q h k)
 
     kind_have : (f : ℕ) (k : PlainKind) → family_kind sig f ≡ Some k → All (HasFamilies sig) (map erase k)
-    kind_have f k e = subst (All (HasFamilies sig)) (the_types (sym (has_indices sig (map erase k) e') ∙ e')) (indices_have sig formed f)
+    kind_have f k e = subst (All (HasFamilies sig)) (the_types (sym (has_indices sig f (map erase k) e') ∙ e')) (indices_have sig formed f)
       where
         e' : families_of sig f ≡ Some (map erase k)
         e' = ap (option_map (map erase)) e
@@ -162,7 +162,7 @@ module _ (sig : PlainSignature) where
     mutual
       type_over : {ls : List Scoped} {t : DesugaredType} {fs : Fillings} {a : PlainType} → ReadsType sig heads vs ls t fs a → ScopedOver ls → FillingsOver fs × HasFamilies sig (erase a)
       type_over (reads_family {f = f} {k = k} {fs = fs} {gs = gs} {hs = hs} i j p q e) h = let (x, y) = filled_over p h (kind_have f k j) in
-          (both_over fs gs hs e x (indices_over q h y), has_indices sig (map erase k) (ap (option_map (map erase)) j))
+          (both_over fs gs hs e x (indices_over q h y), has_indices sig f (map erase k) (ap (option_map (map erase)) j))
       type_over (reads_function {fs = fs} {gs = gs} {hs = hs} p q e) h = let (x1, y1) = type_over p h in let (x2, y2) = type_over q (y1, h) in (both_over fs gs hs e x1 x2, (y1, y2))
       type_over (reads_both {fs = fs} {gs = gs} {hs = hs} p q e) h = let (x1, y1) = type_over p h in let (x2, y2) = type_over q h in (both_over fs gs hs e x1 x2, (y1, y2))
       type_over reads_top h = (tt, tt)

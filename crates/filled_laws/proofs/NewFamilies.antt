@@ -112,15 +112,15 @@ module _ (sig : PlainSignature) where
     -- the metavariables before a number
     traced_below : (n k : ℕ) → k < n → (a : SimpleType) → metas k ≡ Some a → HasFamilies sig a
     traced_below zero k l a e = absurd (omega (arith, l))
-    traced_below (suc n) k l a e = ⊎_elim old came (traced k a e)
+    traced_below (suc n) k l a e = ⊎_elim old (came (λ j i b f. traced_below n j i b f)) (traced k a e)
       where
         old : (b : SimpleType) × (start k ≡ Some b) → HasFamilies sig a
         old (b, i) = subst (HasFamilies sig) (the_type (sym (grows k b i) ∙ e)) (have k b i)
 
-        came : (j : ℕ) × CameFrom metas given k j → HasFamilies sig a
-        came (j, c) =
+        came : ((j : ℕ) → j < n → (b : SimpleType) → metas j ≡ Some b → HasFamilies sig b) → (j : ℕ) × CameFrom metas given k j → HasFamilies sig a
+        came earlier (j, c) =
             let b : j < k = c.before in
-            let (x, y) = of_arrows c.places c.result (traced_below n j (omega (arith, l, b)) (arrows c.places c.result) c.older) in
+            let (x, y) = of_arrows c.places c.result (earlier j (omega (arith, l, b)) (arrows c.places c.result) c.older) in
             subst (HasFamilies sig) (the_type (sym c.newer ∙ e)) (to_arrows (masked 0 c.mask c.places) c.result (masked_have 0 c.mask c.places x) y)
 
 pub traced_have_families : TracedHaveFamilies
