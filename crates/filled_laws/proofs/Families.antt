@@ -1,5 +1,5 @@
 -- The families in what is left of a simply formed type are those of the signature.
-use Rattle.std.proofs.Common.{ap, ◌∙◌}
+use Rattle.std.proofs.Common.{ap}
 use Rattle.std.specs.Option.{option_map}
 use Rattle.std.specs.Prelude.{List, None, Option, Some, [], map, refl, ℕ, ◌∷◌, ◌≡◌}
 use Rattle.clf_syntax.specs.Simple.{Assignment, SimplyFormed, SimplyFormedTelescope, erase, erase_telescope, extended}

@@ -1,6 +1,6 @@
 -- The simple types of what is filled in have the families of the signature.
 use Rattle.std.proofs.Common.{ap, subst, sym, ◌∙◌}
-use Rattle.std.proofs.lemmas.List.Elements.{All-append, All-cons, All-head, All-nil, All-tail}
+use Rattle.std.proofs.lemmas.List.Elements.{All-append, All-head, All-nil, All-tail}
 use Rattle.std.specs.List.{All}
 use Rattle.std.specs.Option.{option_map, option_or}
 use Rattle.std.specs.Prelude.{Bool, List, None, Option, Some, [], false, if◌then◌else◌, map, refl, true, ℕ, ◌++◌, ◌+◌, ◌∷◌, ◌≡◌}
@@ -11,7 +11,7 @@ use Rattle.clf_syntax.specs.Word.{same_bytes}
 use Rattle.clf_syntax.specs.declared.tree.Head.{Head}
 use Rattle.clf_syntax.specs.declared.tree.Mode.{Mode}
 use Rattle.clf_sig.specs.Core.{PlainCore}
-use Rattle.clf_sig.specs.Entry.{PlainSignature, entry_at, family_kind, simple_types}
+use Rattle.clf_sig.specs.Entry.{PlainSignature, family_kind}
 use Rattle.clf_rules.specs.WellFormed.{WellFormedSignature}
 use Rattle.typing_laws.specs.SimpleTyping.{families_of}
 use Rattle.pattern_laws.specs.Equations.{Locals}
@@ -21,8 +21,8 @@ use Rattle.celf_sugar.specs.declared.plain.PBinder.{PBinder}
 use Rattle.celf_sugar.specs.declared.plain.PName.{PName}
 use Rattle.celf_names.specs.Names.{constant_named}
 use Rattle.celf_places.specs.Heads.{Typed, local_from}
-use Rattle.celf_places.specs.Places.{Place, entries_at, function_parts, marked, next_part, pair_parts}
-use Rattle.celf_elaboration.specs.Fillings.{Filling, Fillings, KnownLocals, Scoped, types_of_new}
+use Rattle.celf_places.specs.Places.{Place, entries_at, marked, next_part}
+use Rattle.celf_elaboration.specs.Fillings.{Fillings, KnownLocals, Scoped, types_of_new}
 use Rattle.celf_elaboration.specs.Items.{ReadsBody, reads_check, reads_constant_declaration, reads_equation, reads_family_declaration, reads_query, reads_trace}
 use Rattle.celf_elaboration.specs.Names.{ImplicitVariable, Meaning, all_arguments, as_local, constant_meaning, implicit_from, meaning}
 use Rattle.celf_elaboration.specs.Readings.{ReadsFilled, ReadsHead, ReadsImplicit, ReadsIndices, ReadsObject, ReadsSpine, ReadsSteps, ReadsTelescope, ReadsTuple, ReadsType, filled_next, filled_none, implicit_next, implicit_none, indices_beyond, indices_next, indices_none, reads_atomic, reads_binding, reads_both, reads_dropped, reads_end, reads_family, reads_function, reads_head, reads_hole, reads_lam, reads_monad, reads_monadic, reads_pair, reads_top, reads_unit, spine_argument, spine_end, spine_first, spine_second, steps_next, steps_none, tuple_end, tuple_entry, with_pattern}

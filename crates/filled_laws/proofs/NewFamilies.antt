@@ -2,7 +2,7 @@
 use Rattle.std.proofs.Common.{arith, subst, sym, ⊎_elim, ◌∙◌}
 use Rattle.std.proofs.lemmas.List.Elements.{All-append, All-cons, All-head, All-nil, All-tail}
 use Rattle.std.specs.List.{All}
-use Rattle.std.specs.Prelude.{Bool, List, Some, [], false, if◌then◌else◌, map, suc, true, zero, ℕ, ◌++◌, ◌<◌, ◌∷◌, ◌≡◌}
+use Rattle.std.specs.Prelude.{Bool, List, Some, [], false, if◌then◌else◌, map, suc, true, zero, ℕ, ◌<◌, ◌∷◌, ◌≡◌}
 use Rattle.clf_syntax.specs.TypeTree.{SimpleTelescope, SimpleType, arrow, base, lax, simple_binding, simple_end, simple_top, simple_with}
 use Rattle.clf_syntax.specs.declared.tree.Mode.{Mode}
 use Rattle.clf_sig.specs.Entry.{PlainSignature}
@@ -14,7 +14,7 @@ use Rattle.pattern_laws.specs.Instantiations.{Types}
 use Rattle.pattern_laws.specs.Patterns.{Place, arrows, masked}
 use Rattle.unify_laws.specs.Problems.{Grows}
 use Rattle.unify_laws.specs.Progress.{CameFrom, Traced}
-use Rattle.metavars.specs.Fresh.{Local, Scope, binder, functions, new_types, scope_of}
+use Rattle.metavars.specs.Fresh.{Scope, binder, functions, new_types, scope_of}
 use Rattle.celf_places.specs.Heads.{arguments_of}
 use Rattle.celf_filled.specs.FormedTypes.{EachHasIndices}
 use Rattle.celf_filled.specs.TypedFrom.{indices_of, new_in, new_in_telescope, new_of_each, type_of_entry}

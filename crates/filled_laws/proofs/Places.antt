@@ -7,7 +7,7 @@ use Rattle.clf_syntax.specs.Simple.{SimplyFormedKind, erase, extended, Assignmen
 use Rattle.clf_syntax.specs.TypeTree.{PlainKind, PlainType, SimpleTelescope, SimpleType, arrow, base, lax, simple_binding, simple_end, simple_top, simple_with}
 use Rattle.clf_syntax.specs.declared.tree.Head.TheVariants.{Var}
 use Rattle.clf_syntax.specs.declared.tree.Mode.{Mode}
-use Rattle.clf_sig.specs.Entry.{PlainEntry, PlainSignature, constant_type, entry_at, family_kind, simple_types}
+use Rattle.clf_sig.specs.Entry.{PlainSignature, constant_type, family_kind, simple_types}
 use Rattle.clf_rules.proofs.Signatures.{entries_well_formed}
 use Rattle.clf_rules.specs.WellFormed.{WellFormedSignature}
 use Rattle.typing_laws.proofs.FormedTypes.{well_formed_is_simply_formed}
