@@ -5,6 +5,7 @@ pub mod PlacingSteps
 pub mod Replaced
 pub mod InFront
 pub mod Named
+pub mod Places
 pub mod Heads
 pub mod BinderTypes
 pub mod UnderFront

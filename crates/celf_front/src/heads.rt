@@ -1,10 +1,12 @@
-//! What heads are replaced by: binders in front by their variables, or metavariables by named constants.
+//! What heads are replaced by: binders in front by their variables, metavariables by named constants, or constants by
+//! metavariables.
 ghost use Rattle.std.specs.Prelude.{◌≡◌, ◌+◌, ◌==◌, ◌-◌, IfOk};
 ghost use Rattle.std.specs.List.{position};
 ghost use Rattle.clf_syntax.specs.declared.tree.Head.TheVariants.{Const, Var, Meta};
 ghost use Rattle.celf_front.specs.Heads.{front_heads, heads_by};
 ghost use Rattle.celf_front.specs.InFront.{binder_at};
 ghost use Rattle.celf_front.specs.Named as spec;
+ghost use Rattle.celf_front.specs.Places as places_spec;
 
 use clf_syntax::{Head, Shortage};
 
@@ -23,6 +25,14 @@ pub struct Naming<'a> {
     pub metas: &'a [u32],
 }
 
+/// Constants in whose places metavariables stand: `at + x` in that of `first + x`, for each `x` below the count.
+#[derive(Clone, Copy)]
+pub struct Places {
+    pub first: u32,
+    pub at: u32,
+    pub count: u32,
+}
+
 /// What heads are replaced by.
 #[derive(Clone, Copy)]
 pub enum Heads<'a> {
@@ -30,6 +40,8 @@ pub enum Heads<'a> {
     InFront(Front<'a>),
     /// Metavariables by constants.
     Named(Naming<'a>),
+    /// Constants by metavariables.
+    Placed(Places),
 }
 
 /// A number of binders, raised by further ones.
@@ -59,6 +71,7 @@ pub fn replace_head(head: Head, heads: &Heads<'_>, depth: u64) -> Result<Head, S
     match heads {
         Heads::InFront(front) => front_head(head, front, depth),
         Heads::Named(naming) => named_head(head, naming),
+        Heads::Placed(places) => placed_head(head, places),
     }
 }
 
@@ -123,4 +136,36 @@ fn named_meta(meta: u32, naming: &Naming<'_>) -> Result<Head, Shortage>
         Some(place) => Ok(Head::Const(index(u64::from(naming.first), place as u64)?)),
         None => Ok(Head::Meta(meta)),
     }
+}
+
+fn placed_head(head: Head, places: &Places) -> Result<Head, Shortage>
+    ensures { IfOk result (λ h. h ≡ places_spec.placed_head (places_spec.place_in places.now) 0 head) }
+{
+    match head {
+        Head::Const(place) => placed_constant(place, places),
+        _ => Ok(head),
+    }
+}
+
+fn placed_constant(place: u32, places: &Places) -> Result<Head, Shortage>
+    ensures { IfOk result (λ h. h ≡ places_spec.meta_or place (places_spec.place_in places.now place)) }
+{
+    match place.checked_sub(places.first) {
+        Some(number) => numbered_place(place, number, places),
+        None => Ok(Head::Const(place)),
+    }
+}
+
+/// What stands for a constant, so many past the first that metavariables stand for.
+fn numbered_place(place: u32, number: u32, places: &Places) -> Result<Head, Shortage>
+    ensures { IfOk result (λ h. h ≡ places_spec.meta_or place
+        (places_spec.numbered places.now.at places.now.count number)) }
+{
+    if number < places.count {
+        return Ok(Head::Meta(index(
+            u64::from(places.at),
+            u64::from(number),
+        )?));
+    }
+    Ok(Head::Const(place))
 }

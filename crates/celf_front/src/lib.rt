@@ -1,4 +1,5 @@
-//! The binders in front of a declaration: their list, their order, and the kind or type with them in front.
+//! The binders in front of a declaration: their list, their order, and the kind or type with them in front; and heads
+//! that stand for others.
 #![tactic(auto)]
 
 mod circle;
@@ -13,13 +14,16 @@ mod needs;
 mod objects;
 mod occurring;
 mod occurring_types;
+mod places;
 mod placing;
 mod types;
 
 pub use front::under_front;
 pub use fronted::{Fronted, front_of};
+pub use heads::Places;
 pub use mentions::needs_of;
 pub use metavariables::{list_of_class, list_of_type};
 pub use named::{name_class, name_type};
 pub use needs::Needs;
+pub use places::{place_object, place_telescope, place_type};
 pub use placing::{Placing, place};

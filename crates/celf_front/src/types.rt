@@ -83,7 +83,7 @@ pub fn replace_type(alloc: Global, ty: &Ty, heads: &Heads<'_>, depth: u64) -> Re
 
 #[cycle(replace_type)]
 #[tactic(auto, using(clf_syntax::specs::PlainTypes::plain_type_laws, crate::proofs::Replacing::replacing_type_laws))]
-fn replace_telescope(
+pub fn replace_telescope(
     alloc: Global,
     tele: &Tele,
     heads: &Heads<'_>,

@@ -25,8 +25,8 @@ use Rattle.celf_solve.specs.Formed.{CoreIsFormed}
 use Rattle.celf_holders.specs.Holders.{Holder, holding}
 use Rattle.celf_holders.specs.Held.{IsDirective}
 use Rattle.gathering.specs.Becoming.{Becomes, BecomeEach}
-use Rattle.celf_holders.specs.Placed.{place_in}
-use Rattle.celf_holders.specs.declared.placed.Places.{Places}
+use Rattle.celf_front.specs.Places.{place_in}
+use Rattle.celf_front.specs.declared.heads.Places.{Places}
 use Rattle.celf_holders.specs.Holdings.{ObjectMayHold, TypeMayHold, TelescopeMayHold, CoreMayHold, EachMayHold, ObjectHolds, TypeHolds, TelescopeHolds, CoreHolds, holds_query, holds_trace, holds_equation, holds_check, EquationHolds, EachHolds}
 use Rattle.celf_holders.specs.Stored.{places}
 use Rattle.celf_holders.proofs.PlacedTypes.{KeepsTypes, keeps_bound, placed_object, placed_type, placed_telescope}

@@ -9,7 +9,7 @@ use Rattle.clf_syntax.specs.TypeTree.{PlainType, family, function, both, top, mo
 use Rattle.clf_syntax.specs.Simple.{Assignment, extended, extended_by, erase, erase_telescope, SimplyTyped, EachSimplyTypedWith, SimplyTypedEach, Families, SimplyFormed, SimplyFormedTelescope, no_holes}
 use Rattle.hered_subst.proofs.SimpleTyping.{Typed, typed_lam, typed_pair, typed_unit, typed_monadic, typed_metavariable, typed_atomic, TypedNeutral, typed_bare, typed_app, typed_fst, typed_snd, TypedExpression, typed_step, typed_done, TypedTuple, typed_empty, typed_entry, to_typed, of_typed}
 use Rattle.celf_front.specs.Replaced.{replaced, replaced_neutral, replaced_expression, replaced_tuple, replaced_type, replaced_telescope}
-use Rattle.celf_holders.specs.Placed.{meta_or, placed_head}
+use Rattle.celf_front.specs.Places.{meta_or, placed_head}
 
 -- What stands for a head has its type.
 abbrev pub KeepsTypes : (ℕ → Option ℕ) → Assignment → Assignment → Type 0

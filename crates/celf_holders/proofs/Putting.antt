@@ -19,7 +19,7 @@ use Rattle.subst_laws.proofs.Results.{agreement}
 use Rattle.pattern_laws.specs.Instantiations.{Types, closed}
 use Rattle.pattern_laws.specs.Equations.{Locals, scoped}
 use Rattle.celf_front.specs.Replaced.{replaced, replaced_type, replaced_telescope}
-use Rattle.celf_holders.specs.Placed.{meta_or, placed_head, place_from}
+use Rattle.celf_front.specs.Places.{meta_or, placed_head, place_from}
 use Rattle.celf_holders.specs.Holders.{Holder, object_at, holding}
 use Rattle.celf_holders.specs.Stored.{places}
 use Rattle.celf_holders.proofs.Through.{Through, through_under, through_object, through_type, through_telescope}
@@ -49,7 +49,7 @@ agrees_under (l ∷ ls) g s v f = subst (λ e. Agrees (extended l.1 (scoped ls g
 
 -- ---- a constant of the signature, or one past these
 
-split_get : {X : Type 0} (xs ys : List X) (c : ℕ) (x : X) → slice_get (xs ++ ys) c ≡ Some x
+pub split_get : {X : Type 0} (xs ys : List X) (c : ℕ) (x : X) → slice_get (xs ++ ys) c ≡ Some x
     → ((nat_lt c (length xs) ≡ true) × (slice_get xs c ≡ Some x)) ⊎ ((nat_lt c (length xs) ≡ false) × (slice_get ys (c - length xs) ≡ Some x))
 split_get [] ys c x e = inr (none_less, ap (slice_get ys) (all c) ∙ e)
   where

@@ -8,7 +8,7 @@ use Rattle.clf_syntax.specs.TypeTree.{PlainType, family, function, both, top, mo
 use Rattle.clf_syntax.specs.Renaming.{up}
 use Rattle.hered_subst.specs.Substitution.{Image, keep, put, Environment, ren_image, under, Substituted, through_lam, through_pair, through_unit, through_hole, through_monadic, through_kept, through_value, KeepsHead, kept_bare, kept_app, kept_fst, kept_snd, HasValue, value_bare, value_app, value_fst, value_snd, SubstitutedExpression, through_done, step_kept, step_value, step_meta, SubstitutedTuple, through_empty, through_entry, SubstitutedEach, each_none, each_next, SubstitutedType, in_family, in_function, in_both, in_top, in_monad, SubstitutedTelescope, in_end, in_binding, SubstitutedKind, in_no_argument, in_argument}
 use Rattle.celf_front.specs.Replaced.{replaced, replaced_neutral, replaced_expression, replaced_tuple, replaced_type, replaced_telescope, replaced_kind}
-use Rattle.celf_holders.specs.Placed.{meta_or, placed_head}
+use Rattle.celf_front.specs.Places.{meta_or, placed_head}
 
 -- At each head z does what s does at what stands for the head.
 abbrev pub Through : (ℕ → Option ℕ) → Environment → Environment → Type 0

@@ -1,6 +1,8 @@
 -- The call: from what is known of the scene and of the stores that are made, to what is asked and answered.
-use Rattle.std.specs.Prelude.{ℕ, ◌+◌, ◌≡◌, List, [], ◌∷◌, ◌++◌, length, map, All, Some, None, slice_get, refl}
+use Rattle.std.specs.Prelude.{ℕ, ◌+◌, ◌-◌, ◌≡◌, List, [], ◌∷◌, ◌++◌, length, map, All, Some, None, slice_get, refl}
 use Rattle.std.proofs.Common.{ap, sym, subst, ◌∙◌, arith, ⊎_elim, length-map}
+use Rattle.std.proofs.lemmas.Option.{slice_get_within, get_or_from_slice_get}
+use Rattle.std.proofs.lemmas.List.Elements.{All-get_or}
 use Rattle.clf_syntax.specs.TypeTree.{PlainType, SimpleType}
 use Rattle.clf_syntax.specs.Simple.{Assignment, Families, erase}
 use Rattle.clf_syntax.proofs.Lists.{get-front}
@@ -16,14 +18,21 @@ use Rattle.gathering.specs.Becoming.{BecomeEach}
 use Rattle.celf_elaboration.specs.Items.{SubstitutedCore}
 use Rattle.gathered_laws.specs.Formed.{CoreIsFormed}
 use Rattle.gathered_laws.proofs.Keeping.{core_stays_formed, equations_stay_typed}
+use Rattle.gathered_laws.proofs.Finals.{new_are_final}
 use Rattle.celf_solve.specs.Puts.{HasPutIn}
-use Rattle.celf_holders.specs.declared.placed.Places.{Places}
+use Rattle.celf_solve.specs.declared.scene.Scene.{Scene}
+use Rattle.celf_solve.specs.Formed.{EachIsFormed}
+use Rattle.celf_solve.specs.Scenes.{tree_of, types_of, metas_in, heads_in, MaySettle}
+use Rattle.metavars.specs.Fresh.{new_types}
+use Rattle.metavars.specs.Stored.{constants, additions}
+use Rattle.celf_front.specs.declared.heads.Places.{Places}
 use Rattle.celf_holders.specs.Holders.{Holder, holders, holder_metas, holding}
 use Rattle.celf_holders.specs.Held.{IsDirective, IsHeld, with_holders, holders_put}
 use Rattle.celf_holders.specs.Stored.{places}
 use Rattle.celf_holders.specs.Holdings.{CoreMayHold, EachMayHold, CoreHolds, EachHolds}
 use Rattle.celf_holders.proofs.Places.{AreTyped, types_of_new, new_gives_none}
 use Rattle.celf_holders.proofs.Holders.{types_of_holders, holders_are_typed}
+use Rattle.celf_holders.proofs.Putting.{split_get}
 use Rattle.celf_holders.proofs.Holdings.{stored, there, core_may, each_may, core_becomes, each_becomes, puts_typed, put_for, put_in_so, closed_so}
 
 -- What is known when holders are put: over this signature, of metavariables and types of implicit variables, the stores that are made one after the other,
@@ -133,3 +142,32 @@ module _ (sig : PlainSignature) (metas : List SimpleType) (types : List PlainTyp
 
   pub each_typed : (c x : PlainCore) (q ds : List Equation) → IsHeld sig metas types c q x ds → TypedEquations (slice_get (simple_types sig ++ simples)) (slice_get metas) q → TypedEquations (slice_get (simple_types sig)) (slice_get after) ds
   each_typed c x q ds h t = equations_stay_typed (slice_get (simple_types sig ++ simples)) (slice_get metas) (slice_get (simple_types sig)) (slice_get after) (holders_put sig metas types) put_is_typed q ds h.each t
+
+-- ---- the scene that is answered
+
+all_at : (xs : List SimpleType) → All HasFinalResult xs → (m : ℕ) (a : SimpleType) → slice_get xs m ≡ Some a → HasFinalResult a
+all_at xs all m a e = subst HasFinalResult (get_or_from_slice_get xs m a a e) (All-get_or HasFinalResult xs m a (slice_get_within xs m a e) all)
+
+holders_final : (ts : List SimpleType) (m : ℕ) (a : SimpleType) → slice_get (holder_metas ts) m ≡ Some a → HasFinalResult a
+holders_final [] m a e = absurd cc
+holders_final (t ∷ ts) m a e = ⊎_elim (λ p. all_at (new_types [] t) (new_are_final [] t) m a p.1) (λ p. holders_final ts (m - length (new_types [] t)) a p.1) (split_get (new_types [] t) (holder_metas ts) m a e)
+
+-- Of a scene over the signature's constants and the metavariables that are there then, with the tree in which holders are put.
+pub may_settle : (sig : PlainSignature) (s h : Scene) (q ds : List Equation) → constants s.store ≡ simple_types sig ++ map erase (types_of s) → MaySettle s q
+    → constants h.store ≡ simple_types sig → meta_types (additions h.store) ≡ with_holders (meta_types (additions s.store)) (types_of s) → ((m : ℕ) → given (additions h.store) m ≡ None) → types_of h ≡ []
+    → IsHeld sig (meta_types (additions s.store)) (types_of s) (tree_of s) q (tree_of h) ds → MaySettle h ds
+may_settle sig s h q ds over may constants_are metas none no_types held = record {
+  fresh = record { unsolved = none; final = λ m a e. final_after m a (subst (λ l. slice_get l m ≡ Some a) metas e) };
+  typed = subst (λ l. TypedEquations (slice_get l) (metas_in h) ds) (sym constants_are) (subst (λ l. TypedEquations (slice_get (simple_types sig)) (slice_get l) ds) (sym metas)
+      (each_typed sig before (types_of s) (tree_of s) (tree_of h) q ds held (subst (λ l. TypedEquations (slice_get l) (slice_get before) q) over may.typed)));
+  arguments = may.arguments;
+  formed = subst (λ l. CoreIsFormed may.arguments (closed (slice_get l) (metas_in h)) (tree_of h)) (sym constants_are) (subst (λ l. CoreIsFormed may.arguments (closed (slice_get (simple_types sig)) (slice_get l)) (tree_of h)) (sym metas)
+      (core_formed sig before (types_of s) may.arguments (tree_of s) (tree_of h) q ds held (subst (λ l. CoreIsFormed may.arguments (closed (slice_get l) (slice_get before)) (tree_of s)) over may.formed)));
+  types_formed = subst (EachIsFormed may.arguments (heads_in h)) (sym no_types) tt;
+}
+  where
+    abbrev before : List SimpleType
+    before = meta_types (additions s.store)
+
+    final_after : (m : ℕ) (a : SimpleType) → slice_get (with_holders before (types_of s)) m ≡ Some a → HasFinalResult a
+    final_after m a e = ⊎_elim (λ p. may.fresh.final m a p.1) (λ p. holders_final (map erase (types_of s)) (m - length before) a p.1) (split_get before (holder_metas (map erase (types_of s))) m a e)

@@ -6,8 +6,8 @@ use Rattle.clf_sig.specs.Core.{PlainCore, declares, queries, traces, equates, ch
 use Rattle.store_laws.specs.Additions.{Addition}
 use Rattle.pattern_laws.specs.Equations.{Equation}
 use Rattle.celf_solve.specs.Puts.{IsTypedIn, IsFormedIn, ObjectBecomes, TypeBecomes, TelescopeBecomes}
-use Rattle.celf_holders.specs.declared.placed.Places.{Places}
-use Rattle.celf_holders.specs.Placed.{placed_object, placed_type, placed_telescope}
+use Rattle.celf_front.specs.declared.heads.Places.{Places}
+use Rattle.celf_front.specs.Places.{placed_object, placed_type, placed_telescope}
 
 module _ (zs : List Addition) (p : Places) where
   abbrev pub ObjectMayHold : PlainObject → Type 0

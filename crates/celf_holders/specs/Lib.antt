@@ -2,6 +2,5 @@ pub mod Holders
 pub mod Held
 pub mod Scenes
 pub mod Directives
-pub mod Placed
 pub mod Stored
 pub mod Holdings

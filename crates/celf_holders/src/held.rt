@@ -14,9 +14,9 @@ ghost use Rattle.celf_holders.specs.Stored.{plain_holder, places};
 
 use crate::holder::{Holder, add_places, make_holders};
 use crate::holding::Holding;
-use crate::placed::Places;
 use crate::store::store_of;
 use celf_constraints::Equations;
+use celf_front::Places;
 use celf_solve::Scene;
 use clf_sig::Signature;
 use clf_syntax::Want;

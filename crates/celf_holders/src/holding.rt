@@ -10,8 +10,8 @@ ghost use Rattle.celf_solve.specs.Puts.{HasPutIn};
 ghost use Rattle.celf_holders.specs.Holdings.{CoreHolds, CoreMayHold, EachHolds, EachMayHold, EquationHolds,
     EquationMayHold, ObjectHolds, ObjectMayHold, TelescopeHolds, TelescopeMayHold, TypeHolds, TypeMayHold};
 
-use crate::placed::{Places, place_object, place_telescope, place_type};
 use celf_constraints::{Equation, Equations};
+use celf_front::{Places, place_object, place_telescope, place_type};
 use celf_solve::{object_in, telescope_in, type_in};
 use clf_sig::Core;
 use clf_syntax::{Obj, SimpleEntry, Tele, Ty, Want};
@@ -33,10 +33,8 @@ impl Holding<'_> {
             ObjectHolds (additions self.now.store.now) self.now.places (plain_obj obj.now) (plain_obj x)) }
         ensures wanting { IfErr result IsWant }
     {
-        match place_object(self.alloc, obj, &self.places) {
-            Ok(placed) => object_in(self.store, &placed),
-            Err(shortage) => Err(shortage.want(self.alloc)),
-        }
+        let placed = place_object(self.alloc, obj, &self.places)?;
+        object_in(self.store, &placed)
     }
 
     fn ty(&self, ty: &Ty) -> Result<Ty, Want>
@@ -45,10 +43,8 @@ impl Holding<'_> {
             TypeHolds (additions self.now.store.now) self.now.places (plain_ty ty.now) (plain_ty x)) }
         ensures wanting { IfErr result IsWant }
     {
-        match place_type(self.alloc, ty, &self.places) {
-            Ok(placed) => type_in(self.store, &placed),
-            Err(shortage) => Err(shortage.want(self.alloc)),
-        }
+        let placed = place_type(self.alloc, ty, &self.places)?;
+        type_in(self.store, &placed)
     }
 
     fn telescope(&self, tele: &Tele) -> Result<Tele, Want>
@@ -58,10 +54,7 @@ impl Holding<'_> {
             TelescopeHolds (additions self.now.store.now) self.now.places (plain_tele tele.now) (plain_tele x)) }
         ensures wanting { IfErr result IsWant }
     {
-        match place_telescope(self.alloc, tele, &self.places) {
-            Ok(placed) => telescope_in(self.store, placed),
-            Err(shortage) => Err(shortage.want(self.alloc)),
-        }
+        telescope_in(self.store, place_telescope(self.alloc, tele, &self.places)?)
     }
 
     /// The core of a directive, in which the holders are put.

@@ -4,7 +4,6 @@
 mod held;
 mod holder;
 mod holding;
-mod placed;
 mod store;
 
 pub use held::{Held, put_holders};

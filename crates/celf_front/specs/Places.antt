@@ -1,11 +1,11 @@
--- Inner: constants in whose places metavariables stand.
+-- Constants in whose places metavariables stand.
 use Rattle.std.specs.Prelude.{ℕ, ◌+◌, ◌-◌, nat_lt, if◌then◌else◌, Option, Some, None}
 use Rattle.clf_syntax.specs.declared.tree.Head.{Head}
 use Rattle.clf_syntax.specs.declared.tree.Head.TheVariants.{Const, Var, Meta}
 use Rattle.clf_syntax.specs.Tree.{PlainObject}
 use Rattle.clf_syntax.specs.TypeTree.{PlainType, PlainTelescope}
+use Rattle.celf_front.specs.declared.heads.Places.{Places}
 use Rattle.celf_front.specs.Replaced.{replaced, replaced_type, replaced_telescope}
-use Rattle.celf_holders.specs.declared.placed.Places.{Places}
 
 abbrev pub meta_or : ℕ → Option ℕ → Head
 meta_or c None = Const c
@@ -17,9 +17,12 @@ placed_head k d (Const c) = meta_or c (k c)
 placed_head k d (Var i) = Var i
 placed_head k d (Meta m) = Meta m
 
--- Metavariable `at + x` stands for constant `first + x`, for each x below a count.
+abbrev pub numbered : ℕ → ℕ → ℕ → Option ℕ
+numbered at count x = if nat_lt x count then Some (at + x) else None
+
+-- Metavariable at + x stands for constant first + x, for each x below the count.
 abbrev pub place_from : ℕ → ℕ → ℕ → ℕ → Option ℕ
-place_from first at count c = if nat_lt c first then None else (if nat_lt (c - first) count then Some (at + (c - first)) else None)
+place_from first at count c = if nat_lt c first then None else numbered at count (c - first)
 
 abbrev pub place_in : Places → ℕ → Option ℕ
 place_in p = place_from p.first p.at p.count
