@@ -6,3 +6,4 @@ pub mod Holders
 pub mod Adding
 pub mod Holdings
 pub mod Whole
+pub mod Solutions

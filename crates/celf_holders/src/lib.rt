@@ -4,6 +4,10 @@
 mod held;
 mod holder;
 mod holding;
+mod laws;
+mod monads;
 mod store;
 
 pub use held::{Held, put_holders};
+pub use laws::held_solutions;
+pub use monads::some_ends_in_monad;

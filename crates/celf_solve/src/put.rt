@@ -46,7 +46,8 @@ fn types_in(alloc: Global, store: &Store, types: &[Ty]) -> Result<Items<Ty>, Wan
     Ok(put)
 }
 
-fn type_in(store: &Store, ty: &Ty) -> Result<Ty, Want>
+/// A type that some types type with the store, with all solutions put in.
+pub fn type_in(store: &Store, ty: &Ty) -> Result<Ty, Want>
     requires formed { IsFormedIn (additions store.now) (plain_ty ty.now) }
     ensures put_in { IfOk result (λ x. TypeBecomes (additions store.now) (plain_ty ty.now) (plain_ty x)) }
     ensures wanting { IfErr result IsWant }
@@ -59,7 +60,8 @@ fn type_in(store: &Store, ty: &Ty) -> Result<Ty, Want>
     }
 }
 
-fn object_in(store: &Store, obj: &Obj) -> Result<Obj, Want>
+/// An object that some types type with the store, with all solutions put in.
+pub fn object_in(store: &Store, obj: &Obj) -> Result<Obj, Want>
     requires typed { IsTypedIn (additions store.now) (plain_obj obj.now) }
     ensures put_in { IfOk result (λ x. ObjectBecomes (additions store.now) (plain_obj obj.now) (plain_obj x)) }
     ensures wanting { IfErr result IsWant }
@@ -72,8 +74,8 @@ fn object_in(store: &Store, obj: &Obj) -> Result<Obj, Want>
     }
 }
 
-/// A telescope, as the one of a monad.
-fn telescope_in(store: &Store, tele: Tele) -> Result<Tele, Want>
+/// A telescope that some types type with the store, with all solutions put in, as the one of a monad.
+pub fn telescope_in(store: &Store, tele: Tele) -> Result<Tele, Want>
     requires solved { HasPutIn (additions store.now) }
     requires formed { IsFormedIn (additions store.now) (monad (plain_tele tele)) }
     ensures put_in { IfOk result (λ x. TelescopeBecomes (additions store.now) (plain_tele tele) (plain_tele x)) }
