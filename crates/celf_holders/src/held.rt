@@ -7,6 +7,7 @@ ghost use Rattle.clf_sig.specs.Signature.{plain_signature};
 ghost use Rattle.store_laws.specs.Additions.{meta_types, new};
 ghost use Rattle.metavars.specs.Stored.{constants, additions};
 ghost use Rattle.celf_constraints.specs.Equated.{equations_in};
+ghost use Rattle.celf_filled.specs.States.{count};
 ghost use Rattle.celf_solve.specs.Scenes.{tree_of, types_of, MaySettle};
 ghost use Rattle.celf_holders.specs.Held.{IsDirective};
 ghost use Rattle.celf_holders.specs.Scenes.{PutsHolders};
@@ -53,7 +54,7 @@ pub fn put_holders(
     let holding = Holding {
         alloc,
         store: &placed,
-        places: Places::of(alloc, sig.len(), store.metas().len(), made.len())?,
+        places: places_of(alloc, sig, &store, made.as_slice())?,
     };
     let core = holding.core(&scene.core)?;
     let equations = holding.equations(equations)?;
@@ -77,4 +78,16 @@ fn with_places(alloc: Global, sig: &Signature, store: &Store, made: &[Holder]) -
     let mut placed = store_of(alloc, sig, store)?;
     add_places(alloc, &mut placed, made)?;
     Ok(placed)
+}
+
+/// The places of the holders: in those of the constants past the signature's stand the metavariables past the store's.
+fn places_of(alloc: Global, sig: &Signature, store: &Store, made: &[Holder]) -> Result<Places, Want>
+    ensures places { IfOk result (λ p. p ≡ record {
+        first = length (plain_signature sig.now);
+        at = count store.now;
+        count = length (map plain_holder made.now);
+    }) }
+    ensures wanting { IfErr result IsWant }
+{
+    Places::of(alloc, sig.len(), store.metas().len(), made.len())
 }
