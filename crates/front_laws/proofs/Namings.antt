@@ -4,7 +4,7 @@ use Rattle.std.proofs.Common.{ap, sym, subst, ◌∙◌, arith, ltb-false}
 use Rattle.clf_syntax.specs.declared.tree.Mode.{Mode}
 use Rattle.clf_syntax.specs.declared.tree.Head.{Head}
 use Rattle.clf_syntax.specs.declared.tree.Head.TheVariants.{Const, Var, Meta}
-use Rattle.clf_syntax.specs.Tree.{PlainObject, lam, pair, unit, monadic, atomic, hole, PlainNeutral, head_alone, app, fst, snd, PlainExpression, step, done, PlainTuple, empty, entry}
+use Rattle.clf_syntax.specs.Tree.{PlainObject, atomic, PlainNeutral, head_alone, app, fst, snd, PlainExpression, step, PlainTuple}
 use Rattle.clf_syntax.specs.TypeTree.{PlainType, family, function, both, top, monad, PlainTelescope, end, binding, PlainKind, SimpleType, base, arrow, simple_with, lax, SimpleTelescope, simple_end, simple_binding}
 use Rattle.clf_syntax.specs.Simple.{Assignment, extended, extended_by, erase, Families, EachSimplyTypedWith, SimplyFormedWith, TelescopeSimplyFormedWith, KindSimplyFormedWith, no_holes}
 use Rattle.clf_syntax.specs.Renaming.{Renumbering, ren_head, ren_neutral, up}
@@ -13,14 +13,14 @@ use Rattle.eta_laws.specs.Eta.{eta}
 use Rattle.eta_laws.proofs.EtaLaws.{eta_ren, eta_kept, never}
 use Rattle.eta_laws.proofs.Expanding.{eta_expands}
 use Rattle.hered_subst.specs.Laws.{keeping}
-use Rattle.hered_subst.specs.Substitution.{Environment, Image, keep, put, ren_image, under, single, Substituted, through_lam, through_pair, through_unit, through_monadic, through_kept, through_value, KeepsHead, kept_bare, kept_app, kept_fst, kept_snd, HasValue, value_bare, value_app, SubstitutedExpression, through_done, step_kept, SubstitutedTuple, through_empty, through_entry, SubstitutedEach, each_none, each_next, SubstitutedType, in_family, in_function, in_both, in_top, in_monad, SubstitutedTelescope, in_end, in_binding, SubstitutedKind, in_no_argument, in_argument}
+use Rattle.hered_subst.specs.Substitution.{Environment, keep, put, ren_image, under, single, Substituted, through_lam, through_pair, through_unit, through_monadic, through_kept, through_value, KeepsHead, kept_bare, kept_app, kept_fst, kept_snd, HasValue, value_bare, value_app, SubstitutedExpression, through_done, step_kept, SubstitutedTuple, through_empty, through_entry, SubstitutedEach, each_none, each_next, SubstitutedType, in_family, in_function, in_both, in_top, in_monad, SubstitutedTelescope, in_end, in_binding, SubstitutedKind, in_no_argument, in_argument}
 use Rattle.hered_subst.proofs.Renamed.{single_out}
 use Rattle.hered_subst.proofs.Single.{renames_neutral}
 use Rattle.hered_subst.proofs.SimpleTyping.{Typed, typed_lam, typed_pair, typed_unit, typed_monadic, typed_metavariable, typed_atomic, TypedNeutral, typed_bare, typed_app, typed_fst, typed_snd, TypedExpression, typed_step, typed_done, TypedTuple, typed_empty, typed_entry, to_typed, of_typed}
 use Rattle.subst_laws.proofs.Before.{before_neutral}
 use Rattle.subst_laws.specs.Environments.{image_or, instant}
 use Rattle.pattern_laws.specs.Instantiations.{Types, closed}
-use Rattle.celf_front.specs.Named.{meta_at, named_meta, named_head, named_type}
+use Rattle.celf_front.specs.Named.{meta_at, named_meta, named_head}
 use Rattle.celf_front.specs.Replaced.{replaced, replaced_neutral, replaced_expression, replaced_tuple, replaced_type, replaced_telescope, replaced_kind}
 use Rattle.front_laws.specs.Naming.{EndsInFamily, named_object, naming, NamesConstants, NamingPuts, NamingIsInstantiation}
 
