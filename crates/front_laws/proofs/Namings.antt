@@ -57,7 +57,8 @@ module _ (n : ℕ) (list : List ℕ) (constants metas after : Types) (names : Na
 
   -- ---- under binders
 
-  stays : (r : Renumbering) (m : ℕ) (t : Option SimpleType) (j : Option ℕ) → ren_image r (image_or (Meta m) (named_object n t j)) ≡ image_or (Meta m) (named_object n t j)
+  stays : (r : Renumbering) (m : ℕ) (t : Option SimpleType) (j : Option ℕ)
+      → ren_image r (image_or (Meta m) (named_object n t j)) ≡ image_or (Meta m) (named_object n t j)
   stays r m None j = refl
   stays r m (Some t) None = refl
   stays r m (Some t) (Some j) = ap put (eta_ren t r (head_alone (Const (n + j))))
@@ -95,7 +96,8 @@ module _ (n : ℕ) (list : List ℕ) (constants metas after : Types) (names : Na
 
   -- ---- objects
 
-  at_head : (s : Environment) (g z : Assignment) → Renames g z → Puts s → (h : Head) (t : SimpleType) → g h ≡ Some t → Comes s (head_alone h) (head_alone (named_head n list h)) t
+  at_head : (s : Environment) (g z : Assignment) → Renames g z → Puts s → (h : Head) (t : SimpleType) → g h ≡ Some t
+      → Comes s (head_alone h) (head_alone (named_head n list h)) t
   at_head s g z y p (Const c) t e = is_kept (kept_bare (p.keeps_constant c))
   at_head s g z y p (Var i) t e = is_kept (kept_bare (p.keeps_variable i))
   at_head s g z y p (Meta m) t e = by_place (meta_at list m) refl
@@ -109,7 +111,8 @@ module _ (n : ℕ) (list : List ℕ) (constants metas after : Types) (names : Na
           let image : s (Meta m) ≡ put (eta t (head_alone (Const (n + j)))) = p.puts m ∙ rw (typed, q) refl in
           rw q (is_value (value_bare image) (names.families m j t q typed))
 
-  applied : (s : Environment) (z : Assignment) {m : Mode} {r x : PlainNeutral} {o y : PlainObject} {a c : SimpleType} → Comes s r x (arrow m a c) → Substituted s o y → Typed false z y a → Comes s (app m r o) (app m x y) c
+  applied : (s : Environment) (z : Assignment) {m : Mode} {r x : PlainNeutral} {o y : PlainObject} {a c : SimpleType} → Comes s r x (arrow m a c)
+      → Substituted s o y → Typed false z y a → Comes s (app m r o) (app m x y) c
   applied s z (is_kept k) q w = is_kept (kept_app k q)
   applied s z {m = m} {x = x} {y = y} {a = a} {c = c} (is_value v f) q w =
       let argument : Substituted (single y 0) (eta a (head_alone (Var 0))) y = eta_expands z (single y 0) (head_alone (Var 0)) y a (of_typed w) (through_value (value_bare refl)) in
@@ -127,12 +130,14 @@ module _ (n : ℕ) (list : List ℕ) (constants metas after : Types) (names : Na
   at_family s (is_kept k) = through_kept k
   at_family s (is_value v f) = through_value v
 
-  in_step : (s : Environment) {ms : List Mode} {r x : PlainNeutral} {ts : SimpleTelescope} {e f : PlainExpression} → Comes s r x (lax ts) → SubstitutedExpression (under (length ms) s) e f → SubstitutedExpression s (step ms r e) (step ms x f)
+  in_step : (s : Environment) {ms : List Mode} {r x : PlainNeutral} {ts : SimpleTelescope} {e f : PlainExpression} → Comes s r x (lax ts)
+      → SubstitutedExpression (under (length ms) s) e f → SubstitutedExpression s (step ms r e) (step ms x f)
   in_step s (is_kept k) q = step_kept k q
   in_step s (is_value v f) q = absurd f
 
   mutual
-    object_puts : (d : ℕ) (g z : Assignment) (s : Environment) → Renames g z → Puts s → {o : PlainObject} {t : SimpleType} → Typed false g o t → Substituted s o (object_named d o) × Typed false z (object_named d o) t
+    object_puts : (d : ℕ) (g z : Assignment) (s : Environment) → Renames g z → Puts s → {o : PlainObject} {t : SimpleType} → Typed false g o t
+        → Substituted s o (object_named d o) × Typed false z (object_named d o) t
     object_puts d g z s y p (typed_lam {d = a} q) = let r = object_puts (d + 1) (extended a g) (extended a z) (under 1 s) (renames_one a g z y) (puts_under 1 s p) q in (through_lam r.0, typed_lam r.1)
     object_puts d g z s y p (typed_pair q r) = let x = object_puts d g z s y p q in let w = object_puts d g z s y p r in (through_pair x.0 w.0, typed_pair x.1 w.1)
     object_puts d g z s y p typed_unit = (through_unit, typed_unit)
@@ -140,13 +145,15 @@ module _ (n : ℕ) (list : List ℕ) (constants metas after : Types) (names : Na
     object_puts d g z s y p (typed_metavariable i q e) = absurd (never i)
     object_puts d g z s y p (typed_atomic q) = let r = neutral_puts d g z s y p q in (at_family s r.0, typed_atomic r.1)
 
-    neutral_puts : (d : ℕ) (g z : Assignment) (s : Environment) → Renames g z → Puts s → {r : PlainNeutral} {t : SimpleType} → TypedNeutral false g r t → Comes s r (neutral_named d r) t × TypedNeutral false z (neutral_named d r) t
+    neutral_puts : (d : ℕ) (g z : Assignment) (s : Environment) → Renames g z → Puts s → {r : PlainNeutral} {t : SimpleType} → TypedNeutral false g r t
+        → Comes s r (neutral_named d r) t × TypedNeutral false z (neutral_named d r) t
     neutral_puts d g z s y p (typed_bare {h = h} {t = t} e) = (at_head s g z y p h t e, typed_bare (y.heads h t e))
     neutral_puts d g z s y p (typed_app q w) = let f = neutral_puts d g z s y p q in let x = object_puts d g z s y p w in (applied s z f.0 x.0 x.1, typed_app f.1 x.1)
     neutral_puts d g z s y p (typed_fst q) = let f = neutral_puts d g z s y p q in (first_of s f.0, typed_fst f.1)
     neutral_puts d g z s y p (typed_snd q) = let f = neutral_puts d g z s y p q in (second_of s f.0, typed_snd f.1)
 
-    expression_puts : (d : ℕ) (g z : Assignment) (s : Environment) → Renames g z → Puts s → {e : PlainExpression} {us : SimpleTelescope} → TypedExpression false g e us
+    expression_puts : (d : ℕ) (g z : Assignment) (s : Environment) → Renames g z → Puts s → {e : PlainExpression} {us : SimpleTelescope}
+        → TypedExpression false g e us
         → SubstitutedExpression s e (replaced_expression (λ d. named_head n list) d e) × TypedExpression false z (replaced_expression (λ d. named_head n list) d e) us
     expression_puts d g z s y p (typed_step {ms = ms} {ts = ts} q k w) =
         let f = neutral_puts d g z s y p q in
@@ -162,25 +169,29 @@ module _ (n : ℕ) (list : List ℕ) (constants metas after : Types) (names : Na
   -- ---- types
 
   module _ (arguments : Families) where
-    each : (d : ℕ) (g z : Assignment) (s : Environment) → Renames g z → Puts s → (os : List PlainObject) (ts : List SimpleType) → EachSimplyTypedWith (no_holes false) g os ts → SubstitutedEach s os (map (object_named d) os)
+    each : (d : ℕ) (g z : Assignment) (s : Environment) → Renames g z → Puts s → (os : List PlainObject) (ts : List SimpleType)
+        → EachSimplyTypedWith (no_holes false) g os ts → SubstitutedEach s os (map (object_named d) os)
     each d g z s y p [] [] e = each_none
     each d g z s y p (o ∷ os) (t ∷ ts) e = each_next (object_puts d g z s y p (to_typed false g o t e.0)).0 (each d g z s y p os ts e.1)
     each d g z s y p [] (t ∷ ts) e = absurd e
     each d g z s y p (o ∷ os) [] e = absurd e
 
     mutual
-      type_puts : (d : ℕ) (g z : Assignment) (s : Environment) → Renames g z → Puts s → (a : PlainType) → SimplyFormedWith (no_holes false) arguments g a → SubstitutedType s a (replaced_type (λ d. named_head n list) d a)
+      type_puts : (d : ℕ) (g z : Assignment) (s : Environment) → Renames g z → Puts s → (a : PlainType) → SimplyFormedWith (no_holes false) arguments g a
+          → SubstitutedType s a (replaced_type (λ d. named_head n list) d a)
       type_puts d g z s y p (family f os) (ts, e, x) = in_family (each d g z s y p os ts x)
       type_puts d g z s y p (function m a b) (x, w) = in_function (type_puts d g z s y p a x) (type_puts (d + 1) (extended (erase a) g) (extended (erase a) z) (under 1 s) (renames_one (erase a) g z y) (puts_under 1 s p) b w)
       type_puts d g z s y p (both a b) (x, w) = in_both (type_puts d g z s y p a x) (type_puts d g z s y p b w)
       type_puts d g z s y p top x = in_top
       type_puts d g z s y p (monad t) x = in_monad (telescope_puts d g z s y p t x)
 
-      telescope_puts : (d : ℕ) (g z : Assignment) (s : Environment) → Renames g z → Puts s → (t : PlainTelescope) → TelescopeSimplyFormedWith (no_holes false) arguments g t → SubstitutedTelescope s t (replaced_telescope (λ d. named_head n list) d t)
+      telescope_puts : (d : ℕ) (g z : Assignment) (s : Environment) → Renames g z → Puts s → (t : PlainTelescope)
+          → TelescopeSimplyFormedWith (no_holes false) arguments g t → SubstitutedTelescope s t (replaced_telescope (λ d. named_head n list) d t)
       telescope_puts d g z s y p end x = in_end
       telescope_puts d g z s y p (binding m a t) (x, w) = in_binding (type_puts d g z s y p a x) (telescope_puts (d + 1) (extended (erase a) g) (extended (erase a) z) (under 1 s) (renames_one (erase a) g z y) (puts_under 1 s p) t w)
 
-    kind_puts : (d : ℕ) (g z : Assignment) (s : Environment) → Renames g z → Puts s → (k : PlainKind) → KindSimplyFormedWith (no_holes false) arguments g k → SubstitutedKind s k (replaced_kind (λ d. named_head n list) d k)
+    kind_puts : (d : ℕ) (g z : Assignment) (s : Environment) → Renames g z → Puts s → (k : PlainKind) → KindSimplyFormedWith (no_holes false) arguments g k
+        → SubstitutedKind s k (replaced_kind (λ d. named_head n list) d k)
     kind_puts d g z s y p [] x = in_no_argument
     kind_puts d g z s y p (a ∷ k) (x, w) = in_argument (type_puts d g z s y p a x) (kind_puts (d + 1) (extended (erase a) g) (extended (erase a) z) (under 1 s) (renames_one (erase a) g z y) (puts_under 1 s p) k w)
 

@@ -36,9 +36,11 @@ pub record NamesConstants (n : ℕ) (list : List ℕ) (constants metas after : T
 
 -- In eta-long types and kinds to name metavariables is to put the eta-long forms of their constants for them, and then to reduce.
 pub record NamingPuts (arguments : Families) (n : ℕ) (list : List ℕ) (constants metas : Types) : Type 0 where
-  pub types : (a : PlainType) → SimplyFormedWith (no_holes false) arguments (closed constants metas) a → SubstitutedType (instant (naming n list metas)) a (named_type n list a)
+  pub types : (a : PlainType) → SimplyFormedWith (no_holes false) arguments (closed constants metas) a
+      → SubstitutedType (instant (naming n list metas)) a (named_type n list a)
   pub kinds : (k : PlainKind) → KindSimplyFormedWith (no_holes false) arguments (closed constants metas) k
       → SubstitutedKind (instant (naming n list metas)) k (replaced_kind (λ d. named_head n list) 0 k)
 
 abbrev pub NamingIsInstantiation : Type 0
-NamingIsInstantiation = (arguments : Families) (n : ℕ) (list : List ℕ) (constants metas after : Types) → NamesConstants n list constants metas after → NamingPuts arguments n list constants metas
+NamingIsInstantiation = (arguments : Families) (n : ℕ) (list : List ℕ) (constants metas after : Types) → NamesConstants n list constants metas after
+    → NamingPuts arguments n list constants metas
