@@ -1,4 +1,4 @@
--- Inner: heads replaced by others, with the number of binders on the way at hand, and the parts of that for one elimination, entry and step.
+-- Heads replaced by others, with the number of binders on the way at hand; at the end the parts of that for one elimination, entry and step.
 use Rattle.std.specs.Prelude.{ℕ, ◌+◌, List, [], ◌∷◌, map, length}
 use Rattle.clf_syntax.specs.declared.tree.Mode.{Mode}
 use Rattle.clf_syntax.specs.Tree.{PlainObject, lam, pair, unit, monadic, atomic, hole, PlainNeutral, head_alone, app, fst, snd, PlainExpression, step, done, PlainTuple, empty, entry, PlainElimination, arg, first, second}
