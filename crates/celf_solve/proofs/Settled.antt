@@ -79,6 +79,7 @@ module _ (s : Stored) (q : List Equation) (ready : IsReady s q) where
 module _ (s : Scene) (q : List Equation) (may : MaySettle s q) (now : Stored) where
   pub settled : constants now ≡ constants s.store → IsReady now q → Unified (constants_in s) (problem_of (additions s.store) q) (problem_of (additions now) q) []
       → (f : Found) → IsPutInto s.core s.types now f → IsSettled s q f
+  unfolding w
   settled same ready unified f put = let here = whole (constants now) (additions now) ready.store in let closed_in = w_closed now q ready in record {
     same_constants = ap constants put.same ∙ same;
     settles = subst (λ (st : Stored). Settles (constants_in s) (metas_in s) q (tree_of s) (types_of s) (problem_of (additions st) q) (plain_core f.core) (map plain_ty f.types)) (sym put.same) (record {
