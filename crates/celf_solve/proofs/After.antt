@@ -1,22 +1,19 @@
 -- What is simply typed stays so with all solutions put in.
 use Rattle.std.specs.Prelude.{◌≡◌, true, List, [], ◌∷◌, map, refl}
-use Rattle.std.proofs.Common.{ap, sym, subst, ◌∙◌}
+use Rattle.std.proofs.Common.{ap, ◌∙◌}
 use Rattle.clf_syntax.specs.declared.tree.Head.TheVariants.{Const, Var, Meta}
-use Rattle.clf_syntax.specs.TypeTree.{PlainType, SimpleType}
-use Rattle.clf_syntax.specs.Simple.{erase, Assignment, Families, SimplyTyped}
+use Rattle.clf_syntax.specs.TypeTree.{PlainType}
+use Rattle.clf_syntax.specs.Simple.{erase, Assignment, Families}
 use Rattle.hered_subst.specs.TypedEnvironments.{TypedEnvironment}
 use Rattle.hered_subst.specs.Laws.{ResultsAreTyped}
 use Rattle.hered_subst.proofs.TypedResults.{result_is_typed}
 use Rattle.subst_laws.specs.Environments.{Instantiation, instant}
 use Rattle.subst_laws.proofs.Environs.{instant_is_environment}
-use Rattle.clf_sig.specs.Core.{PlainCore}
-use Rattle.pattern_laws.specs.Instantiations.{Types, closed}
-use Rattle.pattern_laws.specs.Equations.{Equation}
-use Rattle.unify_laws.specs.Problems.{Problem}
+use Rattle.pattern_laws.specs.Instantiations.{closed}
 use Rattle.gathered_laws.proofs.Keeping.{core_stays_formed}
 use Rattle.celf_solve.specs.Scenes.{EachIsFormed}
-use Rattle.celf_solve.specs.Settled.{EachBecomes, Settles}
-use Rattle.celf_solve.specs.Laws.{SettledIsFormed, IsFormedAfter}
+use Rattle.celf_solve.specs.Settled.{EachBecomes}
+use Rattle.celf_solve.specs.Laws.{SettledIsFormed}
 use Rattle.celf_solve.proofs.More.{HasMore, core_more, each_more}
 
 module _ (arguments : Families) (g : Assignment) (s : Instantiation) (typed : TypedEnvironment true g g (instant s)) where

@@ -6,12 +6,11 @@ use Rattle.clf_syntax.specs.TypeTree.{SimpleType}
 use Rattle.clf_syntax.specs.PlainTypes.{plain_ty}
 use Rattle.pattern_laws.specs.Instantiations.{Types}
 use Rattle.reach_laws.specs.Unified.{Unified, Clashed}
-use Rattle.celf_solve.specs.declared.scene.Scene.{Scene}
 use Rattle.clf_sig.specs.Core.{plain_core}
 use Rattle.solver_laws.specs.Solving.{problem_of}
 use Rattle.metavars.specs.Stored.{additions}
 use Rattle.celf_solve.specs.Settled.{constants_of, Settles}
-use Rattle.celf_solve.specs.Scenes.{constants_in, metas_in, tree_of, types_of, start_of, IsScene}
+use Rattle.celf_solve.specs.Scenes.{constants_in, metas_in, tree_of, types_of, start_of}
 use Rattle.celf_solve.specs.Laws.{PosedAndSettled}
 
 pub posed_and_settled : PosedAndSettled

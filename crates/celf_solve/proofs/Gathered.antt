@@ -21,7 +21,7 @@ use Rattle.gathered_laws.proofs.CoresTyped.{gathered_core_is_typed}
 use Rattle.gathered_laws.proofs.SameTypes.{store_types_the_same}
 use Rattle.conform_laws.proofs.Whole.{gathers_nothing_misfits}
 use Rattle.celf_solve.specs.declared.scene.Scene.{Scene}
-use Rattle.celf_solve.specs.Scenes.{tree_of, types_of, metas_in, heads_in, IsScene, Gathered, GathersNone, EachIsFormed, IsPosed}
+use Rattle.celf_solve.specs.Scenes.{tree_of, types_of, metas_in, IsScene, Gathered, GathersNone, EachIsFormed, IsPosed}
 
 each_formed : (arguments : Families) (g : Assignment) (as_ : List PlainType) → ((x : ℕ) (a : PlainType) → slice_get as_ x ≡ Some a → SimplyFormed arguments g a) → EachIsFormed arguments g as_
 each_formed arguments g [] f = tt

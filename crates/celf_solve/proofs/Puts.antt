@@ -9,7 +9,7 @@ use Rattle.clf_syntax.specs.PlainTypes.{plain_ty, plain-Fam, plain-Fun, plain-Wi
 use Rattle.clf_syntax.specs.TypeTree.{PlainType, family, function, both, top, monad, PlainTelescope, PlainKind}
 use Rattle.clf_syntax.specs.Simple.{Assignment, Families, erase, extended, SimplyFormedKind}
 use Rattle.hered_subst.specs.Substitution.{Environment, SubstitutedType, in_monad, SubstitutedTelescope, SubstitutedKind, in_no_argument, in_argument}
-use Rattle.subst_laws.specs.Environments.{Instantiation, instant}
+use Rattle.subst_laws.specs.Environments.{Instantiation}
 use Rattle.store_laws.specs.Additions.{Addition, given}
 use Rattle.store_laws.specs.PutIn.{PutIn, IsClosed}
 use Rattle.clf_sig.specs.Entry.{PlainClass, family_of, constant_of}

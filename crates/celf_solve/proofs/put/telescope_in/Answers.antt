@@ -1,6 +1,6 @@
 use Rattle.std.proofs.Common.{sym, subst, ⊎_elim}
 use Rattle.clf_syntax.specs.TypeTree.{PlainType, monad}
-use Rattle.clf_syntax.specs.declared.tree.Ty.{Ty, Monad}
+use Rattle.clf_syntax.specs.declared.tree.Ty.{Ty}
 use Rattle.clf_syntax.specs.PlainTypes.{plain_ty, plain_tele, plain-Monad}
 use Rattle.metavars.specs.Stored.{additions}
 use Rattle.celf_solve.specs.Puts.{IsFormedIn, TypeBecomes}
