@@ -24,14 +24,19 @@ module _ (arguments : Families) (g : Assignment) (s : Instantiation) (typed : Ty
   each_after [] [] h p = (tt, refl)
   each_after [] (b ∷ bs) h p = absurd h
   each_after (a ∷ as_) [] h p = absurd h
-  each_after (a ∷ as_) (b ∷ bs) h p = let (q, e) = results.type a b p.0 h.0 in let (r, f) = each_after as_ bs h.1 p.1 in ((q, r), ap (λ t. t ∷ map erase bs) e ∙ ap (λ l. erase a ∷ l) f)
+  each_after (a ∷ as_) (b ∷ bs) h p =
+      let (q, e) = results.type a b p.0 h.0 in
+      let (r, f) = each_after as_ bs h.1 p.1 in
+      ((q, r), ap (λ t. t ∷ map erase bs) e ∙ ap (λ l. erase a ∷ l) f)
 
 pub settled_is_formed : SettledIsFormed
-settled_is_formed arguments constants metas q tree types now core after h formed each = let g = closed constants now.metas in let later = each_after arguments g h.solutions typed types after h.types_become (each_more arguments (closed constants metas) g more types each) in record {
-  tree = core_stays_formed arguments g g (instant h.solutions) typed tree core h.core_becomes (core_more arguments (closed constants metas) g more tree formed);
-  each = later.0;
-  erased = later.1;
-}
+settled_is_formed arguments constants metas q tree types now core after h formed each =
+    let g = closed constants now.metas in
+    let later = each_after arguments g h.solutions typed types after h.types_become (each_more arguments (closed constants metas) g more types each) in record {
+      tree = core_stays_formed arguments g g (instant h.solutions) typed tree core h.core_becomes (core_more arguments (closed constants metas) g more tree formed);
+      each = later.0;
+      erased = later.1;
+    }
   where
     typed : TypedEnvironment true (closed constants now.metas) (closed constants now.metas) (instant h.solutions)
     typed = (instant_is_environment (closed constants now.metas)).0 (closed constants now.metas) h.solutions h.put_in.assigns

@@ -18,10 +18,20 @@ posed_and_settled sig s q scene gathers = record {
   found = λ f h. record {
     equations = q;
     gathers = gathers;
-    settles = subst (λ (cs : Types). Settles cs (metas_in s) q (tree_of s) (types_of s) (problem_of (additions f.store) q) (plain_core f.core) (map plain_ty f.types)) same h.settles;
+    settles = subst (λ (cs : Types). Settles cs (metas_in s) q (tree_of s) (types_of s) (problem_of (additions f.store) q) (plain_core f.core) (map plain_ty f.types))
+        same h.settles;
   };
-  stuck = λ left h. record { equations = q; gathers = gathers; unified = subst (λ (cs : Types). Unified cs (start_of s q) h.now left) same h.unified; some_left = h.some_left };
-  clash = λ now under left right h. record { equations = q; gathers = gathers; clashed = subst (λ (cs : Types). Clashed cs (start_of s q) now under left right) same h };
+  stuck = λ left h. record {
+    equations = q;
+    gathers = gathers;
+    unified = subst (λ (cs : Types). Unified cs (start_of s q) h.now left) same h.unified;
+    some_left = h.some_left;
+  };
+  clash = λ now under left right h. record {
+    equations = q;
+    gathers = gathers;
+    clashed = subst (λ (cs : Types). Clashed cs (start_of s q) now under left right) same h;
+  };
 }
   where
     same : constants_in s ≡ constants_of sig (types_of s)

@@ -23,7 +23,8 @@ use Rattle.conform_laws.proofs.Whole.{gathers_nothing_misfits}
 use Rattle.celf_solve.specs.declared.scene.Scene.{Scene}
 use Rattle.celf_solve.specs.Scenes.{tree_of, types_of, metas_in, IsScene, Gathered, GathersNone, EachIsFormed, IsPosed}
 
-each_formed : (arguments : Families) (g : Assignment) (as_ : List PlainType) → ((x : ℕ) (a : PlainType) → slice_get as_ x ≡ Some a → SimplyFormed arguments g a) → EachIsFormed arguments g as_
+each_formed : (arguments : Families) (g : Assignment) (as_ : List PlainType)
+    → ((x : ℕ) (a : PlainType) → slice_get as_ x ≡ Some a → SimplyFormed arguments g a) → EachIsFormed arguments g as_
 each_formed arguments g [] f = tt
 each_formed arguments g (a ∷ as_) f = (f zero a refl, each_formed arguments g as_ (λ x b e. f (suc x) b e))
 
@@ -38,7 +39,8 @@ module _ (sig : PlainSignature) (s : Scene) (formed : WellFormedSignature sig) (
       fresh = scene.fresh;
       typed = subst (λ (cs : List SimpleType). TypedEquations (slice_get cs) (metas_in s) q) (sym scene.constants_are) ((same.equations q).0 typed);
       arguments = families_of sig;
-      formed = subst (λ (cs : List SimpleType). CoreIsFormed (families_of sig) (closed (slice_get cs) (metas_in s)) (tree_of s)) (sym scene.constants_are) ((same.cores (families_of sig) (tree_of s)).0 core);
+      formed = subst (λ (cs : List SimpleType). CoreIsFormed (families_of sig) (closed (slice_get cs) (metas_in s)) (tree_of s)) (sym scene.constants_are)
+          ((same.cores (families_of sig) (tree_of s)).0 core);
       types_formed = subst (λ (cs : List SimpleType). EachIsFormed (families_of sig) (closed (slice_get cs) (metas_in s)) (types_of s)) (sym scene.constants_are)
           (each_formed (families_of sig) _ (types_of s) (λ x a e. (same.types (families_of sig) a).0 (scene.read x a e).formed));
     };

@@ -47,7 +47,8 @@ module _ (s : Scene) (q : List Equation) (may : MaySettle s q) (now : Stored) (s
   g = closed (slice_get (constants now)) (types_in (additions now))
 
   types : TypesStore g (additions now)
-  types = subst (λ (z : Assignment). TypesStore z (additions now)) (heads_closed (constants now) (additions now)) (store_is_typed (constants now) (additions now) ready.store [])
+  types = subst (λ (z : Assignment). TypesStore z (additions now)) (heads_closed (constants now) (additions now))
+      (store_is_typed (constants now) (additions now) ready.store [])
 
   more : HasMore (heads_in s) g
   more = subst (λ (cs : List SimpleType). HasMore (heads_in s) (closed (slice_get cs) (types_in (additions now)))) (sym same) (λ h t e. at h t e)
@@ -82,16 +83,18 @@ module _ (s : Scene) (q : List Equation) (may : MaySettle s q) (now : Stored) wh
   unfolding w
   settled same ready unified f put = let here = whole (constants now) (additions now) ready.store in let closed_in = w_closed now q ready in record {
     same_constants = ap constants put.same ∙ same;
-    settles = subst (λ (st : Stored). Settles (constants_in s) (metas_in s) q (tree_of s) (types_of s) (problem_of (additions st) q) (plain_core f.core) (map plain_ty f.types)) (sym put.same) (record {
-      unified = subst (λ (start : Problem). Unified (constants_in s) start (problem_of (additions now) q) []) (starts s q may.fresh) unified;
-      solutions = here.all_in;
-      put_in = subst (λ (cs : List SimpleType). IsPutIn (slice_get cs) (types_in (additions now)) (given (additions now)) here.all_in) same here.put_in;
-      core_becomes = put.tree here.all_in here.put_in.put_in closed_in;
-      types_become = each_becomes (additions now) here.all_in here.put_in.put_in closed_in put.each;
-    });
+    settles = subst (λ (st : Stored). Settles (constants_in s) (metas_in s) q (tree_of s) (types_of s) (problem_of (additions st) q) (plain_core f.core) (map plain_ty f.types))
+        (sym put.same) (record {
+          unified = subst (λ (start : Problem). Unified (constants_in s) start (problem_of (additions now) q) []) (starts s q may.fresh) unified;
+          solutions = here.all_in;
+          put_in = subst (λ (cs : List SimpleType). IsPutIn (slice_get cs) (types_in (additions now)) (given (additions now)) here.all_in) same here.put_in;
+          core_becomes = put.tree here.all_in here.put_in.put_in closed_in;
+          types_become = each_becomes (additions now) here.all_in here.put_in.put_in closed_in put.each;
+        });
   }
 
-  pub are_left : (left : List Equation) → Unified (constants_in s) (problem_of (additions s.store) q) (problem_of (additions now) q) left → (left ≡ [] → ⊥) → AreLeft s q left
+  pub are_left : (left : List Equation) → Unified (constants_in s) (problem_of (additions s.store) q) (problem_of (additions now) q) left
+      → (left ≡ [] → ⊥) → AreLeft s q left
   are_left left unified some = record {
     now = problem_of (additions now) q;
     unified = subst (λ (start : Problem). Unified (constants_in s) start (problem_of (additions now) q) left) (starts s q may.fresh) unified;
@@ -100,14 +103,18 @@ module _ (s : Scene) (q : List Equation) (may : MaySettle s q) (now : Stored) wh
 
   pub has_clash : (under : ℕ) (left right : PlainObject) → Clashed (constants_in s) (problem_of (additions s.store) q) (problem_of (additions now) q) under left right
       → (end : Problem) × Clashed (constants_in s) (start_of s q) end under left right
-  has_clash under left right clashed = (problem_of (additions now) q, subst (λ (start : Problem). Clashed (constants_in s) start (problem_of (additions now) q) under left right) (starts s q may.fresh) clashed)
+  has_clash under left right clashed = (
+    problem_of (additions now) q,
+    subst (λ (start : Problem). Clashed (constants_in s) start (problem_of (additions now) q) under left right) (starts s q may.fresh) clashed,
+  )
 
 grown : (s : Stored) (q : List Equation) (now : Stored) (u : Answer) → Answers s q now u → Grows (types_in (additions s)) (types_in (additions now))
 grown s q now unified.Solved h = h.adds.grows
 grown s q now (unified.Stuck left) h = h.0.adds.grows
 grown s q now (unified.Clash c) h = h.adds.grows
 
-module _ (s : Scene) (q : List Equation) (may : MaySettle s q) (now : Stored) (ready : IsReady now q) (part : IsPart s.store now) (u : Answer) (answers : Answers s.store q now u) where
+module _ (s : Scene) (q : List Equation) (may : MaySettle s q) (now : Stored) (ready : IsReady now q) (part : IsPart s.store now)
+    (u : Answer) (answers : Answers s.store q now u) where
   same : constants now ≡ constants s.store
   same = ap (map plain_simple) part.0
 
@@ -124,8 +131,10 @@ ends s q may now ready part unified.Solved h (solved.Found f) e = settled s q ma
 ends s q may now ready part unified.Solved h (solved.Stuck ls) e = absurd e
 ends s q may now ready part unified.Solved h (solved.Clash d) e = absurd e
 ends s q may now ready part (unified.Stuck left) h (solved.Found f) e = absurd e
-ends s q may now ready part (unified.Stuck left) h (solved.Stuck ls) e = subst (λ (l : Equations). AreLeft s q (equations_in l)) (sym e) (are_left s q may now (equations_in left) h.0 h.1)
+ends s q may now ready part (unified.Stuck left) h (solved.Stuck ls) e =
+    subst (λ (l : Equations). AreLeft s q (equations_in l)) (sym e) (are_left s q may now (equations_in left) h.0 h.1)
 ends s q may now ready part (unified.Stuck left) h (solved.Clash d) e = absurd e
 ends s q may now ready part (unified.Clash c) h (solved.Found f) e = absurd e
 ends s q may now ready part (unified.Clash c) h (solved.Stuck ls) e = absurd e
-ends s q may now ready part (unified.Clash c) h (solved.Clash d) e = subst (λ (x : Clash). Ends s q (solved.Clash x)) (sym e) (has_clash s q may now c.under (plain_obj c.left) (plain_obj c.right) h)
+ends s q may now ready part (unified.Clash c) h (solved.Clash d) e =
+    subst (λ (x : Clash). Ends s q (solved.Clash x)) (sym e) (has_clash s q may now c.under (plain_obj c.left) (plain_obj c.right) h)

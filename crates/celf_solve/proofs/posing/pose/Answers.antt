@@ -26,5 +26,6 @@ returns-in-Some-clause-posed c =
     let q = equations_in c.in-Some.equations in
     posed sig s c.requires.formed c.requires.scene q
     (subst (λ (ts : List Ty). CoreGathers sig (item_setting sig (map plain_ty ts) (metas_in s)) (tree_of s) q) c.as_slice.ensures
-    (subst (λ (o : Option Equations). IfSome o (λ (r : Equations). CoreGathers sig (item_setting sig (map plain_ty c.as_slice.result.now) (metas_in s)) (tree_of s) (equations_in r)))
+    (subst (λ (o : Option Equations). IfSome o (λ (r : Equations).
+    CoreGathers sig (item_setting sig (map plain_ty c.as_slice.result.now) (metas_in s)) (tree_of s) (equations_in r)))
     c.in-Some.is c.in_ok-equations.ensures.gathered))
