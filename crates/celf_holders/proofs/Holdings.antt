@@ -21,7 +21,7 @@ use Rattle.metavars.specs.Typed.{TypesStore, without_variables}
 use Rattle.metavars.proofs.Gets.{get-behind}
 use Rattle.metavars.proofs.TypesStores.{types-extended}
 use Rattle.celf_elaboration.specs.Items.{SubstitutedCore, in_query, in_trace, in_equation, in_check}
-use Rattle.celf_solve.specs.Formed.{CoreIsFormed}
+use Rattle.gathered_laws.specs.Formed.{CoreIsFormed}
 use Rattle.celf_holders.specs.Holders.{Holder, holding}
 use Rattle.celf_holders.specs.Held.{IsDirective}
 use Rattle.gathering.specs.Becoming.{Becomes, BecomeEach}

@@ -7,3 +7,4 @@ pub mod Adding
 pub mod Holdings
 pub mod Whole
 pub mod Solutions
+pub mod Answers

@@ -21,8 +21,7 @@ use Rattle.gathered_laws.proofs.Keeping.{core_stays_formed, equations_stay_typed
 use Rattle.gathered_laws.proofs.Finals.{new_are_final}
 use Rattle.celf_solve.specs.Puts.{HasPutIn}
 use Rattle.celf_solve.specs.declared.scene.Scene.{Scene}
-use Rattle.celf_solve.specs.Formed.{EachIsFormed}
-use Rattle.celf_solve.specs.Scenes.{tree_of, types_of, metas_in, heads_in, MaySettle}
+use Rattle.celf_solve.specs.Scenes.{tree_of, types_of, metas_in, heads_in, EachIsFormed, MaySettle}
 use Rattle.metavars.specs.Fresh.{new_types}
 use Rattle.metavars.specs.Stored.{constants, additions}
 use Rattle.celf_front.specs.declared.heads.Places.{Places}

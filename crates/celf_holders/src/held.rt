@@ -1,13 +1,12 @@
 //! The call.
 ghost use Rattle.std.specs.Prelude.{◌≡◌, ◌++◌, map, length, IfOk, IfErr};
-ghost use Rattle.clf_syntax.specs.Simple.{erase};
 ghost use Rattle.clf_syntax.specs.Wide.{IsWant};
-ghost use Rattle.clf_sig.specs.Entry.{simple_types};
 ghost use Rattle.clf_sig.specs.Signature.{plain_signature};
 ghost use Rattle.store_laws.specs.Additions.{meta_types, new};
 ghost use Rattle.metavars.specs.Stored.{constants, additions};
 ghost use Rattle.celf_constraints.specs.Equated.{equations_in};
 ghost use Rattle.celf_filled.specs.States.{count};
+ghost use Rattle.gathered_laws.specs.Formed.{store_constants};
 ghost use Rattle.celf_solve.specs.Scenes.{tree_of, types_of, MaySettle};
 ghost use Rattle.celf_holders.specs.Held.{IsDirective};
 ghost use Rattle.celf_holders.specs.Scenes.{PutsHolders};
@@ -42,7 +41,7 @@ pub fn put_holders(
 ) -> Result<Held, Want>
     requires directive { IsDirective (tree_of scene.now) }
     requires constants { constants scene.now.store
-        ≡ simple_types (plain_signature sig.now) ++ map erase (types_of scene.now) }
+        ≡ store_constants (plain_signature sig.now) (types_of scene.now) }
     requires may_settle { MaySettle scene.now (equations_in equations.now) }
     ensures held { IfOk result (PutsHolders (plain_signature sig.now) scene.now (equations_in equations.now)) }
     ensures may_settle { IfOk result (λ h. MaySettle h.scene (equations_in h.equations)) }

@@ -9,5 +9,5 @@ mod monads;
 mod store;
 
 pub use held::{Held, put_holders};
-pub use laws::held_solutions;
+pub use laws::{held_and_settled, held_solutions};
 pub use monads::some_ends_in_monad;
