@@ -36,6 +36,9 @@ holders_next old now t ts done more whole h v e g n =
 pub open_new : (ts : List SimpleType) → IsOpenPast (map new ts)
 open_new ts m l = new_gives_none ts m
 
+pub open_made : (zs : List Addition) (ts : List SimpleType) → zs ≡ map new ts → IsOpenPast zs
+open_made zs ts e = subst IsOpenPast (sym e) (open_new ts)
+
 count_next : (zs : List Addition) (k : ℕ) (t : SimpleType) (o : PlainObject) → length (meta_types (zs ++ new t ∷ solved k o ∷ [])) ≡ length (meta_types zs) + 1
 count_next zs k t o = ap length (types-append zs (new t ∷ solved k o ∷ [])) ∙ length-append (meta_types zs) (t ∷ [])
 
