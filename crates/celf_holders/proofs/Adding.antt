@@ -14,7 +14,7 @@ use Rattle.celf_filled.specs.States.{count, IsGrownBy}
 use Rattle.celf_filled.proofs.Grown.{grown_count}
 use Rattle.celf_holders.specs.Holders.{Holder, holders}
 use Rattle.celf_holders.specs.Stored.{places, IsOpenPast}
-use Rattle.celf_holders.proofs.Places.{new_gives_none}
+use Rattle.celf_holders.proofs.Places.{types_of_new, new_gives_none}
 
 -- ---- one addition
 
@@ -38,6 +38,9 @@ open_new ts m l = new_gives_none ts m
 
 pub open_made : (zs : List Addition) (ts : List SimpleType) → zs ≡ map new ts → IsOpenPast zs
 open_made zs ts e = subst IsOpenPast (sym e) (open_new ts)
+
+pub places_made : (zs ys : List Addition) (ts : List SimpleType) (hs : List Holder) → zs ≡ map new ts → ys ≡ zs ++ places (length (meta_types zs)) hs → ys ≡ map new ts ++ places (length ts) hs
+places_made zs ys ts hs e f = f ∙ ap (λ l. l ++ places (length (meta_types l)) hs) e ∙ ap (λ l. map new ts ++ places (length l) hs) (types_of_new ts)
 
 count_next : (zs : List Addition) (k : ℕ) (t : SimpleType) (o : PlainObject) → length (meta_types (zs ++ new t ∷ solved k o ∷ [])) ≡ length (meta_types zs) + 1
 count_next zs k t o = ap length (types-append zs (new t ∷ solved k o ∷ [])) ∙ length-append (meta_types zs) (t ∷ [])

@@ -68,7 +68,7 @@ pub fn put_holders(
 }
 
 /// The store, with a metavariable more for each holder, which is put for it.
-#[tactic(auto, using(crate::proofs::Adding::open_made))]
+#[tactic(auto, using(crate::proofs::Adding::open_made, crate::proofs::Adding::places_made))]
 fn with_places(alloc: Global, sig: &Signature, store: &Store, made: &[Holder]) -> Result<Store, Want>
     ensures placed { IfOk result (λ placed. additions placed
         ≡ map new (meta_types (additions store.now))
