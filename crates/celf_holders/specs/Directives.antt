@@ -31,7 +31,8 @@ pub record ComesHeld (sig : PlainSignature) (metas : List SimpleType) (types : L
   pub settles : Settles (constants_of sig []) (metas_of metas types) equations held [] now core []
 
 -- They come down to these, each of which is stuck.
-pub record SticksHeld (sig : PlainSignature) (metas : List SimpleType) (types : List PlainType) (tree : PlainCore) (now : Problem) (left : List Equation) : Type 0 where
+pub record SticksHeld (sig : PlainSignature) (metas : List SimpleType) (types : List PlainType)
+    (tree : PlainCore) (now : Problem) (left : List Equation) : Type 0 where
   pub held : PlainCore
   pub equations : List Equation
   pub holds : Holds sig metas types tree held equations
@@ -39,7 +40,8 @@ pub record SticksHeld (sig : PlainSignature) (metas : List SimpleType) (types : 
   pub some_left : left ≡ [] → ⊥
 
 -- They have no solution: these two sides, under so many variables, can never be joined.
-pub record ClashesHeld (sig : PlainSignature) (metas : List SimpleType) (types : List PlainType) (tree : PlainCore) (now : Problem) (under : ℕ) (left right : PlainObject) : Type 0 where
+pub record ClashesHeld (sig : PlainSignature) (metas : List SimpleType) (types : List PlainType)
+    (tree : PlainCore) (now : Problem) (under : ℕ) (left right : PlainObject) : Type 0 where
   pub held : PlainCore
   pub equations : List Equation
   pub holds : Holds sig metas types tree held equations

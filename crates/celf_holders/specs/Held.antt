@@ -19,7 +19,8 @@ abbrev pub holders_put : PlainSignature → List SimpleType → List PlainType �
 holders_put sig metas types = holding (length sig) (holders (length metas) (map erase types))
 
 -- The tree and its equations become these.
-pub record IsHeld (sig : PlainSignature) (metas : List SimpleType) (types : List PlainType) (tree : PlainCore) (gathered : List Equation) (held : PlainCore) (equations : List Equation) : Type 0 where
+pub record IsHeld (sig : PlainSignature) (metas : List SimpleType) (types : List PlainType)
+    (tree : PlainCore) (gathered : List Equation) (held : PlainCore) (equations : List Equation) : Type 0 where
   pub core : SubstitutedCore (holders_put sig metas types) tree held
   pub each : BecomeEach (holders_put sig metas types) gathered equations
 

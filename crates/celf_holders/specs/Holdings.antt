@@ -46,7 +46,8 @@ module _ (zs : List Addition) (p : Places) where
   pub data CoreHolds : PlainCore → PlainCore → Type 0 where
     holds_query : {a b : PlainType} → TypeHolds a b → CoreHolds (queries a) (queries b)
     holds_trace : {s t : PlainTelescope} → TelescopeHolds s t → CoreHolds (traces s) (traces t)
-    holds_equation : {m n x y : PlainObject} {a b : PlainType} → ObjectHolds m x → ObjectHolds n y → TypeHolds a b → CoreHolds (equates m n a) (equates x y b)
+    holds_equation : {m n x y : PlainObject} {a b : PlainType}
+        → ObjectHolds m x → ObjectHolds n y → TypeHolds a b → CoreHolds (equates m n a) (equates x y b)
     holds_check : {n x : PlainObject} {a b : PlainType} → ObjectHolds n x → TypeHolds a b → CoreHolds (checks n a) (checks x b)
 
   pub record EquationHolds (e d : Equation) : Type 0 where

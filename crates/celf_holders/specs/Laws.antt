@@ -36,8 +36,10 @@ SolutionsAreKept = (sig : PlainSignature) (metas : List SimpleType) (types : Lis
 pub record AnswersHeld (sig : PlainSignature) (s : Scene) (h : Held) : Type 0 where
   pub found : (f : Found) → IsSettled h.scene (equations_in h.equations) f
       → ComesHeld sig (meta_types (additions s.store)) (types_of s) (tree_of s) (problem_of (additions f.store) (equations_in h.equations)) (plain_core f.core)
-  pub stuck : (left : List Equation) (a : AreLeft h.scene (equations_in h.equations) left) → SticksHeld sig (meta_types (additions s.store)) (types_of s) (tree_of s) a.now left
-  pub clash : (now : Problem) (under : ℕ) (left right : PlainObject) → Clashed (constants_in h.scene) (start_of h.scene (equations_in h.equations)) now under left right
+  pub stuck : (left : List Equation) (a : AreLeft h.scene (equations_in h.equations) left)
+      → SticksHeld sig (meta_types (additions s.store)) (types_of s) (tree_of s) a.now left
+  pub clash : (now : Problem) (under : ℕ) (left right : PlainObject)
+      → Clashed (constants_in h.scene) (start_of h.scene (equations_in h.equations)) now under left right
       → ClashesHeld sig (meta_types (additions s.store)) (types_of s) (tree_of s) now under left right
 
 -- Where these equations are gathered of a directive and the holders are put, the answers of settling are such of the directive.

@@ -1,4 +1,5 @@
-//! The implicit variables of directives: objects of new metavariables are put for them, once the equations are gathered.
+//! The implicit variables of directives: objects of new metavariables are put for them, once the equations are
+//! gathered.
 #![tactic(auto)]
 
 mod held;
