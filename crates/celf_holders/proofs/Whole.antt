@@ -1,6 +1,7 @@
 -- The call: from what is known of the scene and of the stores that are made, to what is asked and answered.
-use Rattle.std.specs.Prelude.{ℕ, ◌+◌, ◌-◌, ◌≡◌, List, [], ◌∷◌, ◌++◌, length, map, All, Some, None, slice_get, refl}
-use Rattle.std.proofs.Common.{ap, sym, subst, ◌∙◌, arith, ⊎_elim, length-map}
+use Rattle.std.specs.Prelude.{ℕ, ◌+◌, ◌-◌, ◌≡◌, List, [], ◌∷◌, ◌++◌, length, map, All, Some, None, slice_get, refl, true}
+use Rattle.std.proofs.Common.{ap, sym, subst, ◌∙◌, arith, ⊎_elim}
+use Rattle.std.proofs.lemmas.List.{length-map}
 use Rattle.std.proofs.lemmas.Option.{slice_get_within, get_or_from_slice_get}
 use Rattle.std.proofs.lemmas.List.Elements.{All-get_or}
 use Rattle.clf_syntax.specs.TypeTree.{PlainType, SimpleType}
@@ -43,6 +44,9 @@ pub record Known (sig : PlainSignature) (metas : List SimpleType) (types : List 
   pub are_placed : placed ≡ map new (meta_types grown) ++ places (length (meta_types grown)) made
   pub places_are : p ≡ record { first = length sig; at = length (meta_types grown); count = length made }
 
+abbrev places_at : ℕ → ℕ → ℕ → Places
+places_at n a c = record { first = n; at = a; count = c }
+
 module _ (sig : PlainSignature) (metas : List SimpleType) (types : List PlainType) where
   abbrev simples : List SimpleType
   simples = map erase types
@@ -54,7 +58,7 @@ module _ (sig : PlainSignature) (metas : List SimpleType) (types : List PlainTyp
   hs = holders (length metas) simples
 
   size : length (simple_types sig) ≡ length sig
-  size = length-map
+  size = rw length-map refl
 
   more : (m : ℕ) (t : SimpleType) → slice_get metas m ≡ Some t → slice_get after m ≡ Some t
   more m t e = get-front metas (holder_metas simples) m t e
@@ -102,10 +106,7 @@ module _ (sig : PlainSignature) (metas : List SimpleType) (types : List PlainTyp
     placed_here = k.are_placed ∙ ap (λ l. map new l ++ places (length l) made) grown_types ∙ ap (λ l. map new after ++ places (length after) l) made_here
 
     places_here : p ≡ there_here
-    places_here = k.places_are ∙ places_of (length sig) (ap length grown_types) (ap length made_here)
-      where
-        places_of : (n : ℕ) {a b c d : ℕ} → a ≡ b → c ≡ d → record { first = n; at = a; count = c } ≡ record { first = n; at = b; count = d }
-        places_of n e f = cc
+    places_here = k.places_are ∙ ap (λ x. places_at (length sig) x (length made)) (ap length grown_types) ∙ ap (λ x. places_at (length sig) (length after) x) (ap length made_here)
 
     pub grown_unsolved : (m : ℕ) → given grown m ≡ None
     grown_unsolved m = ap (λ zs. given zs m) (k.grows ∙ ap (λ zs. zs ++ map new (holder_metas simples)) k.starts) ∙ none_twice metas (holder_metas simples)
@@ -158,15 +159,12 @@ pub may_settle : (sig : PlainSignature) (s h : Scene) (q ds : List Equation) →
 may_settle sig s h q ds over may constants_are metas none no_types held = record {
   fresh = record { unsolved = none; final = λ m a e. final_after m a (subst (λ l. slice_get l m ≡ Some a) metas e) };
   typed = subst (λ l. TypedEquations (slice_get l) (metas_in h) ds) (sym constants_are) (subst (λ l. TypedEquations (slice_get (simple_types sig)) (slice_get l) ds) (sym metas)
-      (each_typed sig before (types_of s) (tree_of s) (tree_of h) q ds held (subst (λ l. TypedEquations (slice_get l) (slice_get before) q) over may.typed)));
+      (each_typed sig (meta_types (additions s.store)) (types_of s) (tree_of s) (tree_of h) q ds held (subst (λ l. TypedEquations (slice_get l) (slice_get (meta_types (additions s.store))) q) over may.typed)));
   arguments = may.arguments;
   formed = subst (λ l. CoreIsFormed may.arguments (closed (slice_get l) (metas_in h)) (tree_of h)) (sym constants_are) (subst (λ l. CoreIsFormed may.arguments (closed (slice_get (simple_types sig)) (slice_get l)) (tree_of h)) (sym metas)
-      (core_formed sig before (types_of s) may.arguments (tree_of s) (tree_of h) q ds held (subst (λ l. CoreIsFormed may.arguments (closed (slice_get l) (slice_get before)) (tree_of s)) over may.formed)));
+      (core_formed sig (meta_types (additions s.store)) (types_of s) may.arguments (tree_of s) (tree_of h) q ds held (subst (λ l. CoreIsFormed may.arguments (closed (slice_get l) (slice_get (meta_types (additions s.store)))) (tree_of s)) over may.formed)));
   types_formed = subst (EachIsFormed may.arguments (heads_in h)) (sym no_types) tt;
 }
   where
-    abbrev before : List SimpleType
-    before = meta_types (additions s.store)
-
-    final_after : (m : ℕ) (a : SimpleType) → slice_get (with_holders before (types_of s)) m ≡ Some a → HasFinalResult a
-    final_after m a e = ⊎_elim (λ p. may.fresh.final m a p.1) (λ p. holders_final (map erase (types_of s)) (m - length before) a p.1) (split_get before (holder_metas (map erase (types_of s))) m a e)
+    final_after : (m : ℕ) (a : SimpleType) → slice_get (with_holders (meta_types (additions s.store)) (types_of s)) m ≡ Some a → HasFinalResult a
+    final_after m a e = ⊎_elim (λ p. may.fresh.final m a p.1) (λ p. holders_final (map erase (types_of s)) (m - length (meta_types (additions s.store))) a p.1) (split_get (meta_types (additions s.store)) (holder_metas (map erase (types_of s))) m a e)
