@@ -19,16 +19,14 @@ use Rattle.celf_conform.specs.Decision.{first_of, and_then, unless, found_or, he
 use Rattle.celf_conform.specs.Fits.{HeadFits, IsFilled, Fits, NeutralFits, ExpressionFits, TupleFits}
 use Rattle.celf_conform.proofs.Heads.{next_scope, behind_scope}
 use Rattle.celf_conform.proofs.Families.{kept}
-use Rattle.celf_conform.proofs.Judging.{FamiliesAtTop, with_families, mode_itself}
+use Rattle.clf_simple.proofs.Same.{mode_itself, number_itself}
+use Rattle.celf_conform.proofs.Judging.{FamiliesAtTop, with_families}
 
 pub both_none : {x y : Option Misfit} → x ≡ None → y ≡ None → first_of x y ≡ None
 both_none {x} {y} e q = ap (λ z. first_of z y) e ∙ q
 
 in_mode : (m : Mode) {x : Option Misfit} → x ≡ None → at_mode m m x ≡ None
 in_mode m {x} e = ap (λ v. if v then x else Some (ModeDiffers m m)) (mode_itself m) ∙ e
-
-pub number_itself : (f : ℕ) → (f == f) ≡ true
-number_itself f = grind arith
 
 modes_none : (ms : List Mode) → first_other_mode ms ms ≡ None
 modes_none [] = refl

@@ -11,7 +11,8 @@ use Rattle.clf_syntax.specs.PlainSimple.{plain_simple, plain_simple_entry, simpl
 use Rattle.clf_syntax.specs.Simple.{assigned, extended_by, SimplyTyped}
 use Rattle.clf_simple.specs.Decision.{HeadTypes, heads_in, behind, typed}
 use Rattle.clf_simple.proofs.Decided.{sound, complete}
-use Rattle.celf_conform.specs.Seen.{scope, persistent_entry}
+use Rattle.clf_simple.specs.Scope.{scope}
+use Rattle.celf_conform.specs.Seen.{persistent_entry}
 use Rattle.celf_conform.proofs.Heads.{behind_assigned}
 
 behind_more : (ls : List (Bor Simple)) (g : List SimpleType) → behind (simple_telescope_of (map persistent_entry ls)) g ≡ scope ls ++ g

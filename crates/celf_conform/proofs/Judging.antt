@@ -13,6 +13,7 @@ use Rattle.hered_subst.specs.TypedEnvironments.{is_metavariable}
 use Rattle.hered_subst.proofs.Total.{meta_of}
 use Rattle.clf_simple.specs.Decision.{typed, behind}
 use Rattle.clf_simple.proofs.Decided.{sound, complete}
+use Rattle.clf_simple.proofs.Same.{modes_same, mode_itself, numbers_same}
 use Rattle.celf_conform.specs.declared.misfit.Misfit.{Misfit}
 use Rattle.celf_conform.specs.declared.misfit.Misfit.TheVariants.{NotAtomic, NotClosed, ModeDiffers, Width, FamilyDiffers, UnknownHead}
 use Rattle.celf_conform.specs.Known.{PlainKnown, constant_type, heads_in}
@@ -40,22 +41,6 @@ one_after (Some w) y f g h p q = g w p
 one_after None None f g h p q = f p q
 one_after None (Some w) f g h p q = h w p q
 
-modes_same : (m n : Mode) → same_mode m n ≡ true → m ≡ n
-modes_same Persistent Persistent e = refl
-modes_same Affine Affine e = refl
-modes_same Linear Linear e = refl
-modes_same Persistent Affine e = absurd (cc)
-modes_same Persistent Linear e = absurd (cc)
-modes_same Affine Persistent e = absurd (cc)
-modes_same Affine Linear e = absurd (cc)
-modes_same Linear Persistent e = absurd (cc)
-modes_same Linear Affine e = absurd (cc)
-
-pub mode_itself : (m : Mode) → same_mode m m ≡ true
-mode_itself Persistent = refl
-mode_itself Affine = refl
-mode_itself Linear = refl
-
 false_true : {X : Type 0} {v : Bool} → v ≡ false → v ≡ true → X
 false_true e q = absurd (cc)
 
@@ -73,10 +58,7 @@ unless_found : {A : Type 0} (x : Option Misfit) (c : A) (F : Type 0) (M : Misfit
 unless_found None c F M G N f g p = f p
 unless_found (Some w) c F M G N f g p = g w p
 
-numbers_same : (f g : ℕ) → (f == g) ≡ true → f ≡ g
-numbers_same f g e = grind arith
-
-numbers_differ : (f g : ℕ) → (f == g) ≡ false → f ≡ g → ⊥
+pub numbers_differ : (f g : ℕ) → (f == g) ≡ false → f ≡ g → ⊥
 numbers_differ f g e q = grind arith
 
 -- ---- a pattern

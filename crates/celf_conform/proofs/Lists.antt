@@ -68,10 +68,7 @@ expr_misfit k g e es =
     ap (λ x. expression_misfit k g x s) (plain-expr e) ∙ steps_misfit k g (map plain_step (out-Expr e).steps) t s
     ∙ in_same (steps_scope k g (map plain_step (out-Expr e).steps)) (λ l. ap (λ w. tuple_misfit k l w t s) (both_widths (out-Expr e).result es))
 
--- the rest of a list from a place on
-pub from_place : {X Y : Type 0} (f : X → Y) (xs : List X) (i : ℕ) (x : X) → i < length xs → x ≡ get_or xs i x → map f (drop i xs) ≡ f x ∷ map f (drop (i + 1) xs)
-from_place f xs i x l e = rw add-one (ap (map f) (drop-cons xs i x l ∙ ap (λ y. y ∷ drop (suc i) xs) (sym e)))
-
+-- the rest of a list past its end
 pub rest_none : {X Y : Type 0} (f : X → Y) (xs : List X) (i : ℕ) → length xs ≤ i → map f (drop i xs) ≡ []
 rest_none f xs i l = ap (map f) (drop_all i xs l)
 

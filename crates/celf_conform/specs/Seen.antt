@@ -10,14 +10,11 @@ use Rattle.clf_syntax.specs.PlainSimple.{plain_simple}
 use Rattle.clf_sig.specs.Signature.{plain_signature}
 use Rattle.celf_conform.specs.declared.known.Known.{Known}
 use Rattle.celf_conform.specs.declared.misfit.Misfit.{Misfit}
+use Rattle.clf_simple.specs.Scope.{scope}
 use Rattle.celf_conform.specs.Known.{PlainKnown, known_over}
 
 abbrev pub known_of : Known → PlainKnown
 known_of k = known_over (plain_signature k.sig.now) (map plain_simple k.consts.now) (map plain_simple k.metas.now)
-
--- the simple types of the variables, the newest first
-abbrev pub scope : List (Bor Simple) → List SimpleType
-scope ls = reverse (map (λ t. plain_simple t.now) ls)
 
 abbrev pub plain_found : Result (Bor Simple) Misfit → Result SimpleType Misfit
 plain_found (Ok t) = Ok (plain_simple t.now)

@@ -45,7 +45,7 @@ pub fn type_misfit(known: &Known, scope: &Binders, ty: &Ty) -> Result<Option<Mis
 
 /// The first misfit of a telescope, whose entries each add a variable.
 #[cycle(form)]
-#[tactic(auto, using(clf_syntax::specs::PlainTypes::plain_type_laws, crate::proofs::Scopes::scope_laws, crate::proofs::Lists::from_place))]
+#[tactic(auto, using(clf_syntax::specs::PlainTypes::plain_type_laws, crate::proofs::Scopes::scope_laws, clf_simple::proofs::Lists::from_place))]
 pub fn telescope_misfit(
     known: &Known,
     scope: &Binders,
@@ -65,7 +65,7 @@ pub fn telescope_misfit(
 }
 
 /// The first misfit of a kind, whose arguments each add a variable.
-#[tactic(auto, using(crate::proofs::Scopes::scope_laws, crate::proofs::Lists::from_place))]
+#[tactic(auto, using(crate::proofs::Scopes::scope_laws, clf_simple::proofs::Lists::from_place))]
 pub fn kind_misfit(known: &Known, args: &[Ty]) -> Result<Option<Misfit>, AllocError>
     ensures { IfOk result (λ w. w ≡ spec.kind_misfit (known_of known.now) [] (map plain_ty args.now)) }
 {
@@ -112,7 +112,7 @@ fn arity_misfit(wanted: usize, found: usize) -> Option<Misfit>
 }
 
 /// The first misfit of the indices that have an argument of the kind.
-#[tactic(auto, using(crate::proofs::Lists::from_place, crate::proofs::Lists::rest_none))]
+#[tactic(auto, using(clf_simple::proofs::Lists::from_place, crate::proofs::Lists::rest_none))]
 fn indices_misfit(
     known: &Known,
     scope: &Binders,

@@ -4,11 +4,13 @@ ghost use Rattle.std.specs.Option.{option_map};
 ghost use Rattle.clf_syntax.specs.PlainSimple.{plain_simple};
 ghost use Rattle.clf_sig.specs.Signature.{plain_signature};
 ghost use Rattle.celf_conform.specs.Known.{is_family as is_family_of};
-ghost use Rattle.celf_conform.specs.Seen.{known_of, plain_found, scope};
+ghost use Rattle.clf_simple.specs.Scope.{scope};
+ghost use Rattle.celf_conform.specs.Seen.{known_of, plain_found};
 ghost use Rattle.celf_conform.specs.Decision as spec;
 
 use crate::misfit::Misfit;
 use clf_sig::{Class, Signature};
+use clf_simple::local_type;
 use clf_syntax::{Head, Simple};
 use std::alloc::Global;
 
@@ -42,18 +44,6 @@ fn constant_type<'a>(known: &Known<'a>, number: u32) -> Option<&'a Simple>
         return None;
     }
     known.consts.get(number as usize)
-}
-
-/// The simple type of a variable: the newest one is the last in the list.
-fn local_type<'a>(locals: &[&'a Simple], index: u32) -> Option<&'a Simple>
-    ensures { option_map (λ t. plain_simple t.now) result ≡ slice_get (scope locals.now) index }
-{
-    let index = index as usize;
-    if index < locals.len() {
-        Some(locals[locals.len() - 1 - index])
-    } else {
-        None
-    }
 }
 
 /// The simple type of a head that is no metavariable.

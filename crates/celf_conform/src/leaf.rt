@@ -5,7 +5,8 @@ ghost use Rattle.clf_syntax.specs.Plain.{plain_obj};
 ghost use Rattle.clf_syntax.specs.TypeTree.{base};
 ghost use Rattle.clf_syntax.specs.Simple.{simple_modes};
 ghost use Rattle.clf_simple.specs.Decision.{typed};
-ghost use Rattle.celf_conform.specs.Seen.{known_of, plain_found, scope};
+ghost use Rattle.clf_simple.specs.Scope.{scope};
+ghost use Rattle.celf_conform.specs.Seen.{known_of, plain_found};
 ghost use Rattle.celf_conform.specs.Decision as spec;
 
 use crate::known::Known;

@@ -1,49 +1,18 @@
 //! Scopes that grow under binders. The newest variable is the last one.
 ghost use Rattle.std.specs.Prelude.{◌≡◌, [], ◌∷◌, IfOk, map, reverse};
 ghost use Rattle.clf_syntax.specs.declared.tree.Mode.TheVariants.{Persistent};
-ghost use Rattle.clf_syntax.specs.PlainSimple.{plain_simple, plain_simple_entry, simple_telescope_of};
+ghost use Rattle.clf_syntax.specs.PlainSimple.{plain_simple, plain_simple_entry};
 ghost use Rattle.clf_syntax.specs.PlainTypes.{plain_ty};
 ghost use Rattle.clf_syntax.specs.Simple.{erase as erased};
-ghost use Rattle.clf_simple.specs.Decision.{behind};
-ghost use Rattle.celf_conform.specs.Seen.{scope, owned, persistent_entry};
+ghost use Rattle.clf_simple.specs.Scope.{scope};
+ghost use Rattle.celf_conform.specs.Seen.{owned, persistent_entry};
 
 use clf_syntax::{Mode, Simple, SimpleEntry, Ty, copy_simples, erase};
 use sqlite_items::Items;
 use std::alloc::{AllocError, Global};
 
-/// The scope under one variable more.
-#[tactic(auto, using(crate::proofs::Scopes::scope_laws))]
-pub fn with_local<'a>(
-    alloc: Global,
-    locals: &[&'a Simple],
-    ty: &'a Simple,
-) -> Result<Vec<&'a Simple>, AllocError>
-    ensures { IfOk result (λ inner. scope inner.items ≡ plain_simple ty.now ∷ scope locals.now) }
-{
-    let mut inner = Vec::from_slice(alloc, locals)?;
-    inner.push(ty)?;
-    Ok(inner)
-}
-
-/// The scope after the entries of a monad.
-#[tactic(auto, using(clf_syntax::specs::PlainSimple::plain_simple_laws, crate::proofs::Scopes::scope_laws, crate::proofs::Lists::from_place))]
-pub fn with_entries<'a>(
-    locals: Vec<&'a Simple>,
-    entries: &'a [SimpleEntry],
-) -> Result<Vec<&'a Simple>, AllocError>
-    ensures { IfOk result (λ inner.
-        scope inner.items
-        ≡ behind (simple_telescope_of (map plain_simple_entry entries.now)) (scope locals.entry.items)) }
-{
-    let mut inner = locals;
-    for entry in entries {
-        inner.push(&entry.ty)?;
-    }
-    Ok(inner)
-}
-
 /// The scope of a type's binders as the locals of an object.
-#[tactic(auto, using(crate::proofs::Scopes::scope_laws, crate::proofs::Lists::from_place))]
+#[tactic(auto, using(crate::proofs::Scopes::scope_laws, clf_simple::proofs::Lists::from_place))]
 pub fn locals_of<'a>(alloc: Global, types: &'a [Simple]) -> Result<Vec<&'a Simple>, AllocError>
     ensures { IfOk result (λ locals. scope locals.items ≡ owned types.now) }
 {
@@ -91,7 +60,7 @@ pub fn under(alloc: Global, scope: &Binders, ty: &Ty) -> Result<Binders, AllocEr
 }
 
 /// The scope as a list of entries, whose modes do not count.
-#[tactic(auto, using(clf_syntax::specs::PlainSimple::plain_simple_laws, crate::proofs::Scopes::scope_laws, crate::proofs::Lists::from_place))]
+#[tactic(auto, using(clf_syntax::specs::PlainSimple::plain_simple_laws, crate::proofs::Scopes::scope_laws, clf_simple::proofs::Lists::from_place))]
 pub fn entries_of<'a>(
     alloc: Global,
     locals: &[&'a Simple],

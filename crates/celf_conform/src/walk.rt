@@ -4,7 +4,8 @@ ghost use Rattle.clf_syntax.specs.Plain.{plain_obj, plain_neutral, plain_elim, p
 ghost use Rattle.clf_syntax.specs.Tree.{tuple_of};
 ghost use Rattle.clf_syntax.specs.PlainSimple.{plain_simple, plain_simple_entry, simple_telescope_of};
 ghost use Rattle.hered_subst.specs.TypedEnvironments.{is_metavariable};
-ghost use Rattle.celf_conform.specs.Seen.{known_of, plain_found, plain_scope, scope};
+ghost use Rattle.clf_simple.specs.Scope.{scope};
+ghost use Rattle.celf_conform.specs.Seen.{known_of, plain_found, plain_scope};
 ghost use Rattle.celf_conform.specs.Decision as spec;
 
 use crate::known::{Known, head_type};
@@ -12,7 +13,7 @@ use crate::leaf::{
     atomic_misfit, filled_misfit, first_type, pattern_misfit, second_type, unit_misfit,
 };
 use crate::misfit::Misfit;
-use crate::scope::{with_entries, with_local};
+use clf_simple::{with_entries, with_local};
 use clf_syntax::{
     Elim, Expr, Head, Mode, Neutral, Obj, Simple, SimpleEntry, Step, TupleEntry, is_same_mode,
 };
@@ -134,7 +135,7 @@ pub fn infer<'a>(
 }
 
 #[cycle(check)]
-#[tactic(auto, using(crate::proofs::Lists::from_place))]
+#[tactic(auto, using(clf_simple::proofs::Lists::from_place))]
 fn infer_spine<'a>(
     known: &Known<'a>,
     locals: &[&'a Simple],
@@ -263,7 +264,7 @@ fn check_expression<'a>(
 
 /// The scope after the steps, or their first misfit.
 #[cycle(check)]
-#[tactic(auto, using(crate::proofs::Lists::from_place))]
+#[tactic(auto, using(clf_simple::proofs::Lists::from_place))]
 fn steps_scope<'a>(
     known: &Known<'a>,
     locals: &[&'a Simple],
@@ -321,7 +322,7 @@ fn open<'a>(
 
 /// The first misfit of a tuple: the entries that both have in order, and then their numbers.
 #[cycle(check)]
-#[tactic(auto, using(crate::proofs::Lists::from_place, crate::proofs::Lists::rest_none))]
+#[tactic(auto, using(clf_simple::proofs::Lists::from_place, crate::proofs::Lists::rest_none))]
 fn check_tuple<'a>(
     known: &Known<'a>,
     locals: &[&'a Simple],

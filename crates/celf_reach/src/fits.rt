@@ -7,8 +7,8 @@ ghost use Rattle.celf_constraints.specs.Reading.{plain_place, own_place};
 ghost use Rattle.celf_reach.specs.Misfits.{fits as fits_of, misfits};
 
 use crate::marks::occurs;
-use crate::types::same_type;
 use celf_constraints::{Place, Places, is_blank};
+use clf_simple::same_type;
 use clf_syntax::Obj;
 use std::alloc::{AllocError, Global};
 

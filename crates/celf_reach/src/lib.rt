@@ -12,7 +12,6 @@ mod scan;
 mod search;
 mod stuckness;
 mod tables;
-mod types;
 
 pub use answer::Reach;
 pub use search::reach;

@@ -17,8 +17,9 @@ use crate::fits::has_misfit;
 use crate::found::{Found, both, nothing};
 use crate::marks::{is_marked, marked_in};
 use crate::masks::prune_of;
-use crate::tables::{Sought, depth, function_parts, head_type, pair_parts, with_type};
+use crate::tables::{Sought, depth, function_parts, head_type, pair_parts};
 use celf_constraints::{Places, mentions, read_in_scope};
+use clf_simple::with_local;
 use clf_syntax::{Elim, Head, Mode, Neutral, Obj, Or, Simple, TooFar};
 use std::alloc::{AllocError, Global};
 
@@ -78,7 +79,7 @@ fn scan_lambda<'a>(
     match function_parts(ty) {
         None => Ok(nothing()),
         Some(parts) => {
-            let inner = with_type(alloc, types, parts.first)?;
+            let inner = with_local(alloc, types, parts.first)?;
             scan(alloc, sought, inner.as_slice(), body, parts.second)
         }
     }

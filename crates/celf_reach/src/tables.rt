@@ -1,13 +1,13 @@
 //! The simple types of what is in scope.
-ghost use Rattle.std.specs.Prelude.{◌≡◌, ◌∷◌, ◌-◌, IfOk, length, slice_get};
+ghost use Rattle.std.specs.Prelude.{◌≡◌, ◌-◌, length};
 ghost use Rattle.std.specs.Option.{option_map};
 ghost use Rattle.clf_syntax.specs.PlainSimple.{plain_simple};
 ghost use Rattle.clf_simple.specs.Scope.{scope};
 ghost use Rattle.celf_constraints.specs.Equated.{plain_locals};
 ghost use Rattle.celf_reach.specs.Sought.{head_type_in, function_parts as function_parts_of, pair_parts as pair_parts_of, plain_parts};
 
+use clf_simple::local_type;
 use clf_syntax::{Head, Simple, SimpleEntry};
-use std::alloc::{AllocError, Global};
 
 /// The simple types of constants, of metavariables, and of the locals around the equation, the oldest first.
 #[derive(Clone, Copy)]
@@ -27,18 +27,6 @@ pub struct Sought<'a> {
     pub marks: &'a [bool],
 }
 
-/// The type of a variable: the newest one is the last in the list.
-fn local_type<'a>(types: &[&'a Simple], index: u32) -> Option<&'a Simple>
-    ensures { option_map (λ t. plain_simple t.now) result ≡ slice_get (scope types.now) index }
-{
-    let index = index as usize;
-    if index < types.len() {
-        Some(types[types.len() - 1 - index])
-    } else {
-        None
-    }
-}
-
 /// The type of a constant or a variable.
 pub fn head_type<'a>(sought: &Sought<'a>, types: &[&'a Simple], head: Head) -> Option<&'a Simple>
     ensures { option_map (λ t. plain_simple t.now) result ≡ head_type_in sought.now.consts.now (scope types.now) head }
@@ -48,20 +36,6 @@ pub fn head_type<'a>(sought: &Sought<'a>, types: &[&'a Simple], head: Head) -> O
         Head::Var(index) => local_type(types, index),
         Head::Meta(_) => None,
     }
-}
-
-/// The scope under one variable more.
-#[tactic(auto, using(clf_simple::proofs::Scopes::scope_laws))]
-pub fn with_type<'a>(
-    alloc: Global,
-    types: &[&'a Simple],
-    ty: &'a Simple,
-) -> Result<Vec<&'a Simple>, AllocError>
-    ensures { IfOk result (λ inner. scope inner.items ≡ plain_simple ty.now ∷ scope types.now) }
-{
-    let mut inner = Vec::from_slice(alloc, types)?;
-    inner.push(ty)?;
-    Ok(inner)
 }
 
 /// How many binders are on the way.

@@ -20,6 +20,7 @@ use crate::places::numbered;
 use crate::spines::argument_parts;
 use crate::verdict::Verdict;
 use celf_constraints::{Equation, mentions, scope_of};
+use clf_simple::local_type;
 use clf_syntax::{Head, Obj, Simple, Want};
 use metavars::Store;
 
@@ -149,16 +150,4 @@ fn type_at<'a>(types: &'a [Simple], place: u32) -> Option<&'a Simple>
     ensures { option_map (λ t. plain_simple t.now) result ≡ slice_get (map plain_simple types.now) place }
 {
     types.get(place as usize)
-}
-
-/// The simple type of a local: the newest one is the last.
-fn local_type<'a>(types: &[&'a Simple], index: u32) -> Option<&'a Simple>
-    ensures { option_map (λ t. plain_simple t.now) result ≡ slice_get (scope types.now) index }
-{
-    let index = index as usize;
-    if index < types.len() {
-        Some(types[types.len() - 1 - index])
-    } else {
-        None
-    }
 }

@@ -1,3 +1,4 @@
+pub mod Same
 pub mod Decided
 pub mod Scopes
 pub mod Lists

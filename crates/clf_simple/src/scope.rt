@@ -16,7 +16,7 @@ pub struct Heads<'a> {
 }
 
 /// The type of a variable: the newest one is the last in the list.
-fn local_type<'a>(locals: &[&'a Simple], index: u32) -> Option<&'a Simple>
+pub fn local_type<'a>(locals: &[&'a Simple], index: u32) -> Option<&'a Simple>
     ensures { option_map (λ t. plain_simple t.now) result ≡ slice_get (scope locals.now) index }
 {
     let index = index as usize;

@@ -1,5 +1,6 @@
 use Rattle.std.proofs.Common.{arith, sym, ◌∙◌}
-use Rattle.celf_conform.specs.Seen.{known_of, scope}
+use Rattle.clf_simple.specs.Scope.{scope}
+use Rattle.celf_conform.specs.Seen.{known_of}
 use Rattle.celf_conform.proofs.Lists.{tuple_long, tuple_short}
 use Rattle.celf_conform.proofs.walk.+check.Goals as goal
 

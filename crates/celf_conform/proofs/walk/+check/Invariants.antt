@@ -3,7 +3,8 @@ use Rattle.clf_syntax.specs.Tree.{tuple_of}
 use Rattle.clf_syntax.specs.Plain.{plain_elim, plain_step, plain_entry}
 use Rattle.clf_syntax.specs.PlainSimple.{plain_simple, plain_simple_entry, simple_telescope_of}
 use Rattle.celf_conform.specs.Decision as spec
-use Rattle.celf_conform.specs.Seen.{known_of, scope}
+use Rattle.clf_simple.specs.Scope.{scope}
+use Rattle.celf_conform.specs.Seen.{known_of}
 use Rattle.celf_conform.proofs.walk.+check.Given as goal
 
 abbrev pub invariant-infer_spine-loop-act : goal.invariant-infer_spine-loop-act
