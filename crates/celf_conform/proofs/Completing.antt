@@ -19,7 +19,7 @@ use Rattle.celf_conform.specs.Decision.{first_of, and_then, unless, found_or, he
 use Rattle.celf_conform.specs.Fits.{HeadFits, IsFilled, Fits, NeutralFits, ExpressionFits, TupleFits}
 use Rattle.celf_conform.proofs.Heads.{next_scope, behind_scope}
 use Rattle.celf_conform.proofs.Families.{kept}
-use Rattle.clf_simple.proofs.Same.{mode_itself, number_itself}
+use Rattle.clf_simple.proofs.Sameness.{mode_itself, number_itself}
 use Rattle.celf_conform.proofs.Judging.{FamiliesAtTop, with_families}
 
 pub both_none : {x y : Option Misfit} → x ≡ None → y ≡ None → first_of x y ≡ None

@@ -13,7 +13,7 @@ use Rattle.hered_subst.specs.TypedEnvironments.{is_metavariable}
 use Rattle.hered_subst.proofs.Total.{meta_of}
 use Rattle.clf_simple.specs.Decision.{typed, behind}
 use Rattle.clf_simple.proofs.Decided.{sound, complete}
-use Rattle.clf_simple.proofs.Same.{modes_same, mode_itself, numbers_same}
+use Rattle.clf_simple.proofs.Sameness.{modes_same, mode_itself, numbers_same}
 use Rattle.celf_conform.specs.declared.misfit.Misfit.{Misfit}
 use Rattle.celf_conform.specs.declared.misfit.Misfit.TheVariants.{NotAtomic, NotClosed, ModeDiffers, Width, FamilyDiffers, UnknownHead}
 use Rattle.celf_conform.specs.Known.{PlainKnown, constant_type, heads_in}

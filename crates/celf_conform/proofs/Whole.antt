@@ -15,7 +15,7 @@ use Rattle.celf_conform.specs.Fits.{Fits, EachFits, TypeFits, TelescopeFits, Kin
 use Rattle.celf_conform.specs.Misses.{Misses, SharedFit, IndicesMisses, index_here, index_later, TypeMisses, unknown_family, in_indices, family_arity, in_domain, in_range, in_left_type, in_right_type, in_entries, TelescopeMisses, in_entry_type, in_later_types, KindMisses, in_argument_type, in_later_arguments, ClassMisses, CheckMisses, CoreMisses}
 use Rattle.celf_conform.specs.Conforms.{IsOver, JudgesCore}
 use Rattle.celf_conform.proofs.Heads.{next_scope}
-use Rattle.clf_simple.proofs.Same.{numbers_same, number_itself}
+use Rattle.clf_simple.proofs.Sameness.{numbers_same, number_itself}
 use Rattle.celf_conform.proofs.Completing.{both_none, complete}
 use Rattle.celf_conform.proofs.Judging.{numbers_differ, Judged, judged_as, one_after, FamiliesAtTop, object}
 

@@ -12,7 +12,7 @@ use Rattle.clf_syntax.specs.TypeTree.{SimpleType, base, arrow, simple_with, simp
 use Rattle.clf_syntax.specs.Occurs.{occurs}
 use Rattle.clf_syntax.proofs.OccursLaws.{either, not_both, or_first, or_second}
 use Rattle.clf_simple.specs.Decision.{same_type}
-use Rattle.clf_simple.proofs.Same.{and_out, types_same, type_itself}
+use Rattle.clf_simple.proofs.Sameness.{and_out, types_same, type_itself}
 use Rattle.hered_subst.specs.TypedEnvironments.{is_metavariable}
 use Rattle.store_laws.specs.Mentions.{mentions}
 use Rattle.pattern_laws.specs.Patterns.{LacksMisfits, blank}

@@ -12,7 +12,7 @@ use Rattle.clf_syntax.proofs.RenamingLaws.{ext}
 use Rattle.hered_subst.specs.TypedEnvironments.{is_metavariable}
 use Rattle.hered_subst.proofs.Total.{meta_of}
 use Rattle.clf_syntax.specs.Modes.{same_mode}
-use Rattle.clf_simple.proofs.Same.{and_out, and_in, modes_same, mode_itself, numbers_same, number_itself, types_same, type_itself}
+use Rattle.clf_simple.proofs.Sameness.{and_out, and_in, modes_same, mode_itself, numbers_same, number_itself, types_same, type_itself}
 use Rattle.clf_simple.specs.Decision.{HeadTypes, heads_in, same_type, same_telescope, has_modes, behind, at_function, at_with, at_top, at_lax, at_end, at_entry, stands, stands_as, argued, first_type, second_type, then_type, opened_by, in_scope, typed, type_of, expression_typed, tuple_typed}
 
 -- the scope with one variable more, or with those of a telescope

@@ -1,4 +1,4 @@
-pub mod Same
+pub mod Sameness
 pub mod Decided
 pub mod Scopes
 pub mod Lists
