@@ -1,5 +1,5 @@
 -- What is flat over some metavariables is flat over more.
-use Rattle.std.specs.Prelude.{zero, suc, ◌≡◌, List, [], ◌∷◌, Some}
+use Rattle.std.specs.Prelude.{zero, suc, List, [], ◌∷◌}
 use Rattle.std.proofs.Common.{inl, inr, ⊎_elim, true}
 use Rattle.clf_syntax.specs.declared.tree.Head.TheVariants.{Const, Var, Meta}
 use Rattle.clf_syntax.specs.Tree.{PlainObject, lam, pair, unit, monadic, atomic, hole, PlainNeutral, head_alone, app, fst, snd}

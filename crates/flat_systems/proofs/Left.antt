@@ -1,21 +1,18 @@
 -- Nothing is left of flat equations.
-use Rattle.std.specs.Prelude.{ℕ, true, ◌≡◌, ◌⊎◌, List, [], ◌∷◌, refl}
+use Rattle.std.specs.Prelude.{ℕ, true, ◌≡◌, List, [], ◌∷◌, refl}
 use Rattle.std.proofs.Common.{sym, subst, ◌∙◌, ⊎_elim}
 use Rattle.std.specs.List.{slice_get}
 use Rattle.clf_syntax.specs.declared.tree.Mode.{Mode}
-use Rattle.clf_syntax.specs.declared.tree.Head.TheVariants.{Meta}
 use Rattle.clf_syntax.specs.Tree.{PlainObject, lam, pair, unit, monadic, atomic, hole, PlainNeutral, PlainExpression, head_of}
 use Rattle.clf_syntax.specs.TypeTree.{SimpleType, base, arrow, simple_with, simple_top, lax, SimpleTelescope}
 use Rattle.clf_syntax.specs.Simple.{Assignment, SimplyTyped}
 use Rattle.hered_subst.specs.TypedEnvironments.{is_metavariable}
 use Rattle.store_laws.specs.Additions.{meta_types}
 use Rattle.pattern_laws.specs.Instantiations.{Types, closed}
-use Rattle.pattern_laws.specs.Equations.{scoped, Locals, Equation, TypedEquation, TypedEquations, Listed, listed_here}
-use Rattle.pattern_laws.specs.Patterns.{Place, arrows, OnDistinct, Ordered, IsFinal}
+use Rattle.pattern_laws.specs.Equations.{scoped, Locals, Equation, TypedEquation, listed_here}
+use Rattle.pattern_laws.specs.Patterns.{Place, OnDistinct, Ordered, IsFinal}
 use Rattle.pattern_laws.proofs.Owning.{on_locals, lacks_same}
-use Rattle.pattern_laws.proofs.Instances.{scoped_meta}
 use Rattle.reach_laws.specs.Reach.{InReach, Reaches, Stuck}
-use Rattle.reach_laws.specs.Rest.{Rest}
 use Rattle.reach_laws.proofs.PartsUnder.{part_typed}
 use Rattle.reach_laws.proofs.Rests.{typed_listed}
 use Rattle.reach_walk.proofs.OneReading.{stands_final}

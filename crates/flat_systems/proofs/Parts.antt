@@ -1,35 +1,29 @@
 -- Parts of flat equations are flat; and nothing of flat equations is left.
-use Rattle.std.specs.Prelude.{ℕ, true, false, ◌≡◌, ◌⊎◌, List, [], ◌∷◌, Some, refl}
-use Rattle.std.proofs.Common.{ap, sym, subst, ◌∙◌, inl, inr, ⊎_elim}
+use Rattle.std.specs.Prelude.{ℕ, true, false, ◌≡◌, List}
+use Rattle.std.proofs.Common.{ap, subst, ◌∙◌, ⊎_elim}
 use Rattle.std.specs.List.{slice_get}
 use Rattle.clf_syntax.specs.declared.tree.Mode.{Mode}
 use Rattle.clf_syntax.specs.declared.tree.Head.TheVariants.{Meta}
-use Rattle.clf_syntax.specs.Tree.{PlainObject, lam, pair, unit, monadic, atomic, hole, PlainNeutral, head_alone, app, fst, snd, head_of}
+use Rattle.clf_syntax.specs.Tree.{PlainObject, lam, pair, atomic, PlainNeutral, head_alone, app, fst, snd, head_of}
 use Rattle.clf_syntax.specs.TypeTree.{SimpleType, base, arrow, simple_with}
-use Rattle.clf_syntax.specs.Simple.{Assignment, extended, no_holes, SimplyTyped}
+use Rattle.clf_syntax.specs.Simple.{Assignment, extended, no_holes}
 use Rattle.clf_syntax.proofs.OccursLaws.{not_both}
 use Rattle.hered_subst.specs.TypedEnvironments.{is_metavariable}
 use Rattle.subst_laws.proofs.Variables.{neutral_has_one_type}
-use Rattle.store_laws.specs.Additions.{Addition, meta_types}
+use Rattle.store_laws.specs.Additions.{meta_types}
 use Rattle.pattern_laws.specs.Instantiations.{Types, closed}
-use Rattle.pattern_laws.specs.Equations.{scoped, Locals, Equation, TypedEquation, TypedEquations, Listed, listed_here}
-use Rattle.pattern_laws.specs.Patterns.{Place, on, arrows, OnDistinct, Ordered, IsFinal}
+use Rattle.pattern_laws.specs.Equations.{scoped, Equation}
+use Rattle.pattern_laws.specs.Patterns.{Place, OnDistinct, Ordered}
 use Rattle.pattern_laws.proofs.TypeParts.{from_type, to_type, first_type, second_type}
-use Rattle.pattern_laws.proofs.Owning.{on_locals, lacks_same}
 use Rattle.pattern_laws.proofs.Spines.{head_on}
-use Rattle.pattern_laws.proofs.Instances.{scoped_meta}
 use Rattle.unify_laws.specs.Parts.{SameShape, shape_app, shape_fst, shape_snd, PartAt, part_here, part_function, part_fst, part_snd}
 use Rattle.unify_laws.proofs.Steps.{shape_heads}
-use Rattle.reach_laws.specs.Reach.{Reaches, Stuck, StuckFlexible, StuckMonadic}
-use Rattle.reach_laws.specs.Rest.{PartOf, part_itself, part_body, part_left, part_right, part_argument, Rest}
-use Rattle.reach_laws.proofs.PartsUnder.{one_shape, part_typed}
-use Rattle.reach_laws.proofs.Rests.{typed_listed}
-use Rattle.reach_walk.proofs.OneReading.{stands_final}
+use Rattle.reach_laws.specs.Rest.{PartOf, part_itself, part_body, part_left, part_right, part_argument}
+use Rattle.reach_laws.proofs.PartsUnder.{one_shape}
 use Rattle.flat_laws.specs.Flat.{Flat, FlatBelow}
-use Rattle.flat_laws.proofs.FlatReach.{flat_reach}
 use Rattle.solver_laws.proofs.Grown.{more_scoped}
 use Rattle.flat_systems.specs.Systems.{FlatEquation}
-use Rattle.flat_systems.specs.Laws.{FlatParts, FlatGrows, NothingFlatIsLeft}
+use Rattle.flat_systems.specs.Laws.{FlatParts, FlatGrows}
 use Rattle.flat_systems.proofs.Grown.{flat_more}
 
 function_shape : {m k : Mode} {r s : PlainNeutral} {o u : PlainObject} → SameShape (app m r o) (app k s u) → SameShape r s

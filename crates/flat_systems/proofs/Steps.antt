@@ -1,20 +1,19 @@
 -- Steps keep a flat system flat.
-use Rattle.std.specs.Prelude.{ℕ, Bool, true, false, zero, suc, ◌≡◌, ◌⊎◌, ◌&&◌, nat_eq, if◌then◌else◌, List, [], ◌∷◌, ◌++◌, length, Some, None, refl}
+use Rattle.std.specs.Prelude.{ℕ, Bool, true, false, suc, ◌≡◌, ◌&&◌, nat_eq, if◌then◌else◌, List, [], ◌∷◌, ◌++◌, length, Some, None, refl}
 use Rattle.std.proofs.Common.{ap, sym, subst, ◌∙◌, ⊎_elim}
 use Rattle.std.specs.List.{slice_get}
 use Rattle.clf_syntax.specs.declared.tree.Head.TheVariants.{Meta}
-use Rattle.clf_syntax.specs.Tree.{PlainObject, lam, atomic, PlainNeutral, head_alone, head_of}
+use Rattle.clf_syntax.specs.Tree.{PlainObject, lam, atomic, head_alone, head_of}
 use Rattle.clf_syntax.specs.TypeTree.{SimpleType, arrow}
 use Rattle.clf_syntax.specs.Simple.{SimplyTyped}
 use Rattle.clf_syntax.specs.Renaming.{ren}
-use Rattle.clf_syntax.specs.Occurs.{occurs}
 use Rattle.clf_syntax.proofs.RenamingLaws.{ext}
 use Rattle.hered_subst.specs.TypedEnvironments.{is_metavariable}
 use Rattle.store_laws.specs.Additions.{Addition, new, meta_types, given, set}
 use Rattle.store_laws.proofs.Numbers.{number_cases, set_there, set_else}
 use Rattle.pattern_laws.specs.Instantiations.{closed}
-use Rattle.pattern_laws.specs.Equations.{scoped, Equation, Listed, TypedEquation}
-use Rattle.pattern_laws.specs.Patterns.{blank, Place, on, lams, arrows, local_at, OnDistinct, Ordered, SameTypes, Covers, inverse, inverted, masked, IsFinal}
+use Rattle.pattern_laws.specs.Equations.{scoped, Equation, TypedEquation}
+use Rattle.pattern_laws.specs.Patterns.{blank, Place, on, lams, arrows, OnDistinct, Ordered, SameTypes, inverse, inverted, masked, IsFinal}
 use Rattle.pattern_laws.proofs.Owning.{on_locals}
 use Rattle.pattern_laws.proofs.Spines.{head_on}
 use Rattle.pattern_laws.proofs.Instances.{scoped_meta}
@@ -25,8 +24,8 @@ use Rattle.reach_walk.proofs.OneReading.{Alike, alike_none, alike_more, alike_lo
 use Rattle.flat_laws.specs.Flat.{flat_type, Flat}
 use Rattle.flat_laws.proofs.FlatSteps.{flat_inverted, flat_narrowed}
 use Rattle.solver_laws.specs.Solving.{unsolved_types}
-use Rattle.solver_laws.specs.Steps.{flipped, Assigns, Narrows, assigned_more, narrowed_more}
-use Rattle.solver_laws.specs.Laws.{MayAssign, MayNarrow}
+use Rattle.solver_laws.specs.Steps.{flipped, Assigns, assigned_more, narrowed_more}
+use Rattle.solver_laws.specs.Laws.{MayNarrow}
 use Rattle.solver_laws.proofs.Grown.{more_scoped}
 use Rattle.solver_laws.proofs.Stores.{types_in, types_new, types_solved, given_new, given_solved, no_type_yet, whole}
 use Rattle.solver_laws.proofs.Allowed.{assign_is_allowed, narrow_is_allowed}
@@ -49,17 +48,20 @@ lams_same [] (q ∷ qs) b s = absurd s
 lams_same (p ∷ ps) [] b s = absurd s
 lams_same (p ∷ ps) (q ∷ qs) b (m, t, s) = ap (λ k. lams ps (lam k b)) m ∙ lams_same ps qs (lam q.0 b) s
 
+-- at places that are blank, no local is looked for
+inverse_blank : (n j : ℕ) (ps zs : List Place) (v w : ℕ) (b c : Bool) → b ≡ true → c ≡ true → inverse n ps j ≡ inverse n zs j
+    → (if (if b then false else nat_eq v j) then 0 else suc (inverse n ps j)) ≡ (if (if c then false else nat_eq w j) then 0 else suc (inverse n zs j))
+inverse_blank n j ps zs v w true true e f h = ap suc h
+inverse_blank n j ps zs v w true false e f h = absurd (cc)
+inverse_blank n j ps zs v w false c e f h = absurd (cc)
+
 inverse_alike : (n : ℕ) {ps qs zs ws : List Place} → Alike ps qs zs ws → (j : ℕ) → inverse n ps j ≡ inverse n zs j
 inverse_alike n alike_none j = refl
-inverse_alike n (alike_more {p = p} {p' = z} a h) j = ⊎_elim
-    (λ b. hidden (blank p.1) (blank z.1) b (ap blank (sym a.type) ∙ b))
-    (λ k. ap (λ v. if (if blank p.1 then false else nat_eq v j) then 0 else suc (inverse n _ j)) k.0 ∙ ap (λ u. if (if blank u then false else nat_eq z.2 j) then 0 else suc (inverse n _ j)) a.type ∙ ap (λ i. if (if blank z.1 then false else nat_eq z.2 j) then 0 else suc i) (inverse_alike n h j))
+inverse_alike n (alike_more {p = p} {p' = z} {ps = ps} {ps' = zs} a h) j = ⊎_elim
+    (λ b. inverse_blank n j ps zs p.2 z.2 (blank p.1) (blank z.1) b (ap blank (sym a.type) ∙ b) (inverse_alike n h j))
+    (λ k. ap (λ v. if (if blank p.1 then false else nat_eq v j) then 0 else suc (inverse n ps j)) k.0
+    ∙ ap (λ u. if (if blank u then false else nat_eq z.2 j) then 0 else suc (inverse n ps j)) a.type ∙ ap (λ i. if (if blank z.1 then false else nat_eq z.2 j) then 0 else suc i) (inverse_alike n h j))
     a.local
-  where
-    hidden : (b c : Bool) → b ≡ true → c ≡ true → (if (if b then false else nat_eq p.2 j) then 0 else suc (inverse n _ j)) ≡ (if (if c then false else nat_eq z.2 j) then 0 else suc (inverse n _ j))
-    hidden true true e f = ap suc (inverse_alike n h j)
-    hidden true false e f = absurd (cc)
-    hidden false c e f = absurd (cc)
 
 inverted_alike : (n : ℕ) (ps qs zs ws : List Place) (x : PlainObject) → SameTypes ps zs → Alike ps qs zs ws → inverted n ps x ≡ inverted n zs x
 inverted_alike n ps qs zs ws x s a = ap (λ r. lams ps (ren r x)) (ext (inverse_alike n a)) ∙ lams_same ps zs (ren (inverse n zs) x) s
@@ -93,7 +95,7 @@ store_assigned constants zs m o unsolved flat f = record {
         (λ h. flat.solutions k u a (sym (set_else m k o (given zs) h) ∙ e) t) (number_cases k m)
 
 pub flat_assigns : FlatAssigns
-flat_assigns constants zs es ready open flat e l m o c = flat_grows constants zs (assigned_more zs m o) es flat
+flat_assigns constants zs es ready all_open flat e l m o c = flat_grows constants zs (assigned_more zs m o) es flat
     (λ k a t. ap (λ h. h k) (types_solved zs m o) ∙ t)
     (store_assigned constants zs m o unsolved flat.store (λ a t. ⊎_elim
     (λ h. assigned_flat constants zs e typed (flat.equations e l) m o h a t)
@@ -103,7 +105,7 @@ flat_assigns constants zs es ready open flat e l m o c = flat_grows constants zs
     typed = typed_listed (slice_get constants) (types_in zs) e es l ready.typed
 
     unsolved : given zs m ≡ None
-    unsolved = (assign_is_allowed constants zs es ready e (typed_listed (slice_get constants) (unsolved_types (types_in zs) (given zs)) e es l open) m o c).unsolved
+    unsolved = (assign_is_allowed constants zs es ready e (typed_listed (slice_get constants) (unsolved_types (types_in zs) (given zs)) e es l all_open) m o c).unsolved
 
 -- ---- a new metavariable on fewer arguments
 
@@ -182,9 +184,9 @@ module _ (constants : List SimpleType) (zs : List Addition) (es : List Equation)
   system_narrowed f = flat_grows constants zs (narrowed_more zs k mask ps c) es f narrowed_grows store_narrowed
 
 pub flat_narrows : FlatNarrows
-flat_narrows constants zs es ready open flat e l k mask ps c h = system_narrowed constants zs es k mask ps c flat.store
+flat_narrows constants zs es ready all_open flat e l k mask ps c h = system_narrowed constants zs es k mask ps c flat.store
     (⊎_elim (λ n. n.type) (λ n. n.type) h) may.still
     (λ j o g. let (a, i, p) = (whole constants zs ready.store).given_types j o g in (a, i)) flat
   where
     may : MayNarrow constants zs k mask ps c es
-    may = narrow_is_allowed constants zs es ready e (typed_listed (slice_get constants) (unsolved_types (types_in zs) (given zs)) e es l open) k mask ps c h
+    may = narrow_is_allowed constants zs es ready e (typed_listed (slice_get constants) (unsolved_types (types_in zs) (given zs)) e es l all_open) k mask ps c h

@@ -3,7 +3,6 @@ use Rattle.std.specs.Prelude.{ℕ, Bool, true, false, zero, suc, ◌≡◌, nat_
 use Rattle.std.proofs.Common.{ap, sym, subst, ◌∙◌, ⊎_elim, append_assoc}
 use Rattle.std.proofs.lemmas.List.{append-nil}
 use Rattle.std.specs.List.{slice_get}
-use Rattle.clf_syntax.specs.declared.tree.Head.TheVariants.{Meta}
 use Rattle.clf_syntax.specs.Tree.{PlainObject}
 use Rattle.clf_syntax.specs.TypeTree.{SimpleType}
 use Rattle.clf_syntax.specs.Simple.{SimplyTyped}
@@ -19,7 +18,7 @@ use Rattle.store_laws.proofs.Lists.{by_end, types-append}
 use Rattle.store_laws.proofs.Closing.{Gives, gives_typed, next, composed_next, closed_again, next_gives}
 use Rattle.store_laws.proofs.Stores.{store_is_cut}
 use Rattle.pattern_laws.specs.Instantiations.{Types, closed, Instantiated}
-use Rattle.pattern_laws.specs.Equations.{scoped, Equation, Listed, TypedEquation}
+use Rattle.pattern_laws.specs.Equations.{scoped, Equation, Listed}
 use Rattle.unify_laws.specs.Problems.{Grows}
 use Rattle.reach_laws.specs.Rest.{EquationUnder, EachUnder}
 use Rattle.reach_laws.proofs.PartsUnder.{some_result}
@@ -102,11 +101,14 @@ module _ (constants metas : Types) (solutions : Instantiation) (types : FlatType
           (subst (λ z. SimplyTyped (closed constants metas) z a) f p, subst (λ z. Flat (closed constants metas) z a) f flat_x)
 
       flat_next : FlatGives constants metas (next (closed constants metas) solutions w.all_in w.put_in w.gives m o x a unsolved type_of put typed p free silent gives)
-      flat_next k y b e t = (there, ⊎_elim
-          (λ h. (only_flat k y b (sym h.1 ∙ e) t).1)
-          (λ h. let (q, f) = w.flat k h.0 b h.2 t in subst (λ z. Flat (closed constants metas) z b) (one_object (sym h.3 ∙ e))
-          (flat_put constants metas (set m x (λ i. None)) (gives_typed (closed constants metas) (set m x (λ i. None)) only_gives) types only_flat h.0 [] b h.1 f q (at_none (set m x (λ i. None)) h.4)))
-          (composed_next (closed constants metas) solutions w.all_in w.put_in w.gives m o x a unsolved type_of put typed p free silent gives k b t))
+      flat_next k y b e t = (
+        there,
+        ⊎_elim
+            (λ h. (only_flat k y b (sym h.1 ∙ e) t).1)
+            (λ h. let (q, f) = w.flat k h.0 b h.2 t in subst (λ z. Flat (closed constants metas) z b) (one_object (sym h.3 ∙ e))
+            (flat_put constants metas (set m x (λ i. None)) (gives_typed (closed constants metas) (set m x (λ i. None)) only_gives) types only_flat h.0 [] b h.1 f q (at_none (set m x (λ i. None)) h.4)))
+            (composed_next (closed constants metas) solutions w.all_in w.put_in w.gives m o x a unsolved type_of put typed p free silent gives k b t),
+      )
         where
           there : SimplyTyped (closed constants metas) y b
           there = let (c, u, q) = next_gives (closed constants metas) solutions w.all_in w.put_in w.gives m o x a unsolved type_of put typed p free silent gives k y e in
@@ -125,14 +127,14 @@ first_get (y ∷ xs) ys (suc i) x e = first_get xs ys i x e
 types_grow : (xs more : List Addition) → Grows (types_in xs) (types_in (xs ++ more))
 types_grow xs more m a e = ap (λ l. slice_get l m) (types-append xs more) ∙ first_get (meta_types xs) (meta_types more) m a e
 
-stays_if : (b : Bool) {u o : PlainObject} {p q : Option PlainObject} → (if b then Some u else p) ≡ Some o → (p ≡ Some o → q ≡ Some o) → (if b then Some u else q) ≡ Some o
-stays_if true e f = e
-stays_if false e f = f e
+stays_if : (b : Bool) (u : PlainObject) {o : PlainObject} {p q : Option PlainObject} → (if b then Some u else p) ≡ Some o → (p ≡ Some o → q ≡ Some o) → (if b then Some u else q) ≡ Some o
+stays_if true u e f = e
+stays_if false u e f = f e
 
 given_stays : (xs more : List Addition) (m : ℕ) (o : PlainObject) → given xs m ≡ Some o → given (xs ++ more) m ≡ Some o
 given_stays [] more m o e = absurd (cc)
 given_stays (new t ∷ xs) more m o e = given_stays xs more m o e
-given_stays (solved k u ∷ xs) more m o e = stays_if (nat_eq m k) e (given_stays xs more m o)
+given_stays (solved k u ∷ xs) more m o e = stays_if (nat_eq m k) u e (given_stays xs more m o)
 
 module _ (constants : List SimpleType) (zs : List Addition) (store : IsStore constants zs) (flat : FlatStore constants zs) where
   abbrev Prefix : List Addition → Type 0
@@ -164,7 +166,7 @@ module _ (constants : List SimpleType) (zs : List Addition) (store : IsStore con
     where
       step : (xs : List Addition) (x : Addition) → Prefix xs → Prefix (xs ++ x ∷ [])
       step xs (new t) f more e = subst (FlatWhole (slice_get constants) (types_in zs)) (sym (given_new xs t)) (f (new t ∷ more) (e ∙ append_assoc xs (new t ∷ []) more))
-      step xs (solved m o) f = prefix_solved xs m o f
+      step xs (solved m o) f more e = prefix_solved xs m o f more e
 
   flat_whole : FlatWhole (slice_get constants) (types_in zs) (given zs)
   flat_whole = prefix zs [] (sym (append-nil zs))

@@ -101,20 +101,19 @@ module _ (constants metas : Types) where
         only_gives : Gives (closed constants metas) (set m x (λ i. None))
         only_gives k y e = let (h, f) = only_is k y e in (a, ap metas h ∙ type_of, subst (λ z. SimplyTyped (closed constants metas) z a) f p)
 
-        module _ (t : Instantiation) (gives_t : Gives (closed constants metas) t) (follows : Follows (set m o solutions) t) where
-          before : Follows solutions t
-          before k u e = follows k u (set_else m k o solutions (⊎_elim (λ h. absurd (some_none (ap solutions h ∙ unsolved) e)) (λ h. h) (number_cases k m)) ∙ e)
+        before : (t : Instantiation) → Follows (set m o solutions) t → Follows solutions t
+        before t follows k u e = follows k u (set_else m k o solutions (⊎_elim (λ h. absurd (some_none (ap solutions h ∙ unsolved) e)) (λ h. h) (number_cases k m)) ∙ e)
 
-          first : ComposedInstantiation (closed constants metas) w.all_in t t
-          first = w.absorbs t gives_t before
+        first : (t : Instantiation) → Gives (closed constants metas) t → Follows (set m o solutions) t → ComposedInstantiation (closed constants metas) w.all_in t t
+        first t g f = w.absorbs t g (before t f)
 
-          -- t does what the new solution alone does, and then itself
-          only_first : ComposedInstantiation (closed constants metas) (set m x (λ i. None)) t t
-          only_first k b e = ⊎_elim (λ h. let (y, f, j) = follows m o (set_there m o solutions) in
-              inr (x, y, ap (set m x (λ i. None)) h ∙ set_there m x (λ i. None), ap t h ∙ f, turned w.all_in t w.gives gives_t first o x y a a typed p put j))
-              (λ h. inl (set_else m k x (λ i. None) h, refl)) (number_cases k m)
+        -- t does what the new solution alone does, and then itself
+        only_first : (t : Instantiation) → Gives (closed constants metas) t → Follows (set m o solutions) t → ComposedInstantiation (closed constants metas) (set m x (λ i. None)) t t
+        only_first t g follows k b e = ⊎_elim (λ h. let (y, f, j) = follows m o (set_there m o solutions) in
+            inr (x, y, ap (set m x (λ i. None)) h ∙ set_there m x (λ i. None), ap t h ∙ f, turned w.all_in t w.gives g (first t g follows) o x y a a typed p put j))
+            (λ h. inl (set_else m k x (λ i. None) h, refl)) (number_cases k m)
 
-        abbrev after : Instantiation
+        after : Instantiation
         after = next (closed constants metas) solutions w.all_in w.put_in w.gives m o x a unsolved type_of put typed p free silent given_types
 
         absorbs : (t : Instantiation) → Gives (closed constants metas) t → Follows (set m o solutions) t → ComposedInstantiation (closed constants metas) after t t
@@ -189,16 +188,16 @@ module _ (constants : List SimpleType) (zs : List Addition) (store : IsStore con
     where
       step : (xs : List Addition) (x : Addition) → Prefix xs → Prefix (xs ++ x ∷ [])
       step xs (new t) f more e = subst (Absorbed (slice_get constants) (types_in zs)) (sym (given_new xs t)) (f (new t ∷ more) (e ∙ append_assoc xs (new t ∷ []) more))
-      step xs (solved m o) f = prefix_solved xs m o f
+      step xs (solved m o) f more e = prefix_solved xs m o f more e
 
-stays_if : (b : Bool) {u o : PlainObject} {p q : Option PlainObject} → (if b then Some u else p) ≡ Some o → (p ≡ Some o → q ≡ Some o) → (if b then Some u else q) ≡ Some o
-stays_if true e f = e
-stays_if false e f = f e
+stays_if : (b : Bool) (u : PlainObject) {o : PlainObject} {p q : Option PlainObject} → (if b then Some u else p) ≡ Some o → (p ≡ Some o → q ≡ Some o) → (if b then Some u else q) ≡ Some o
+stays_if true u e f = e
+stays_if false u e f = f e
 
 pub given_stays : (xs more : List Addition) (m : ℕ) (o : PlainObject) → given xs m ≡ Some o → given (xs ++ more) m ≡ Some o
 given_stays [] more m o e = absurd (cc)
 given_stays (new t ∷ xs) more m o e = given_stays xs more m o e
-given_stays (solved k u ∷ xs) more m o e = stays_if (nat_eq m k) e (given_stays xs more m o)
+given_stays (solved k u ∷ xs) more m o e = stays_if (nat_eq m k) u e (given_stays xs more m o)
 
 pub later_absorbs : LaterAbsorbs
 later_absorbs constants before after es ready s t first second m a e = ⊎_elim (λ u. inl (same ∙ u.0, refl)) (λ u. inr (u.0, u.1, same ∙ u.2, u.3, u.4)) (w.absorbs t gives_t (λ k o h. second.put_in.solved k o (given_stays before after k o h)) m a e)

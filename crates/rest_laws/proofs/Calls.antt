@@ -1,6 +1,6 @@
 -- Two calls of unification in turn are as one.
 use Rattle.std.specs.Prelude.{◌≡◌, List, [], ◌∷◌, ◌++◌, length, refl}
-use Rattle.std.proofs.Common.{sym, subst, ◌∙◌}
+use Rattle.std.proofs.Common.{ap, subst}
 use Rattle.std.specs.List.{slice_get}
 use Rattle.clf_syntax.specs.Tree.{PlainObject}
 use Rattle.clf_syntax.specs.TypeTree.{SimpleType}
@@ -36,10 +36,7 @@ use Rattle.rest_laws.proofs.Absorbing.{types_grow, later_absorbs}
 each_split : (s : Instantiation) (es ds us : List Equation) → EachUnder s (es ++ ds) us → (vs ws : List Equation) × (us ≡ vs ++ ws) × EachUnder s es vs × EachUnder s ds ws
 each_split s [] ds us u = ([], us, refl, tt, u)
 each_split s (e ∷ es) ds [] u = absurd u
-each_split s (e ∷ es) ds (d ∷ us) u = let (vs, ws, h, v, w) = each_split s es ds us u.1 in (d ∷ vs, ws, more d h, (u.0, v), w)
-  where
-    more : (d : Equation) {us vs ws : List Equation} → us ≡ vs ++ ws → d ∷ us ≡ (d ∷ vs) ++ ws
-    more d h = rw h refl
+each_split s (e ∷ es) ds (d ∷ us) u = let (vs, ws, h, v, w) = each_split s es ds us u.1 in (d ∷ vs, ws, ap (λ l. d ∷ l) h, (u.0, v), w)
 
 each_both : (s : Instantiation) (es ds vs ws : List Equation) → EachUnder s es vs → EachUnder s ds ws → EachUnder s (es ++ ds) (vs ++ ws)
 each_both s [] ds [] ws v w = w
@@ -77,10 +74,10 @@ module _ (constants metas : Types) (s t : Instantiation) (first : IsAssignment c
 pub calls_in_turn : CallsInTurn
 calls_in_turn constants zs first second es left others final ready later one two = together one.ends two.ends
   where
-    abbrev middle : List Addition
+    middle : List Addition
     middle = zs ++ first
 
-    abbrev now : List Addition
+    now : List Addition
     now = middle ++ second
 
     grows : Grows (types_in middle) (types_in now)
@@ -91,6 +88,9 @@ calls_in_turn constants zs first second es left others final ready later one two
 
     typed_middle : TypedEquations (slice_get constants) (types_in middle) es
     typed_middle = equations_more (slice_get constants) (types_in zs) (types_in middle) (types_grow zs first) es ready.typed
+
+    stays : Stays (given zs) (given now)
+    stays m o e = two.adds.stays m o (one.adds.stays m o e)
 
     together : (s : Instantiation) × (ds : List Equation) × EndsWith (slice_get constants) (problem_of zs es) (problem_of middle es) left s ds
         → (t : Instantiation) × (ls : List Equation) × EndsWith (slice_get constants) (problem_of middle (left ++ others)) (problem_of now (left ++ others)) final t ls
@@ -117,6 +117,3 @@ calls_in_turn constants zs first second es left others final ready later one two
               (traced_in_turn (types_in zs) (types_in middle) (types_in now) (given middle) (given now) grows two.adds.stays one.traced two.traced)
               t b.put_in.put_in b.put_in.assigns two.adds.typed list holds);
         })
-
-        stays : Stays (given zs) (given now)
-        stays m o e = two.adds.stays m o (one.adds.stays m o e)

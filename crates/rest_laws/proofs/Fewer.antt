@@ -1,15 +1,16 @@
 -- What mentions only some metavariables is typed, in reach and on distinct locals with the types of these alone.
 use Rattle.std.specs.Prelude.{ℕ, Bool, true, false, zero, suc, ◌≡◌, ◌||◌, List, [], ◌∷◌, ◌++◌, Some, refl}
 use Rattle.std.proofs.Common.{ap, sym, subst, ◌∙◌, inl, inr, ⊎_elim}
+use Rattle.clf_syntax.specs.declared.tree.Mode.{Mode}
 use Rattle.clf_syntax.specs.declared.tree.Head.TheVariants.{Const, Var, Meta}
 use Rattle.clf_syntax.specs.Tree.{PlainObject, lam, pair, unit, monadic, atomic, hole, PlainNeutral, head_alone, app, fst, snd}
-use Rattle.clf_syntax.specs.TypeTree.{SimpleType, arrow}
+use Rattle.clf_syntax.specs.TypeTree.{SimpleType, arrow, simple_with}
 use Rattle.clf_syntax.specs.Simple.{Assignment, extended, SimplyTyped, SimplyTypedNeutral}
-use Rattle.clf_syntax.proofs.OccursLaws.{or_first, or_second}
-use Rattle.hered_subst.proofs.SimpleTyping.{to_typed, of_typed, to_neutral, of_neutral}
+use Rattle.clf_syntax.proofs.OccursLaws.{or_first, or_second, own_number}
+use Rattle.hered_subst.proofs.SimpleTyping.{to_typed, of_typed}
 use Rattle.eta_laws.specs.Eta.{eta}
 use Rattle.store_laws.specs.Mentions.{mentions, mentions_neutral}
-use Rattle.store_laws.proofs.Mentioned.{typed_where, typed_where_neutral, Ordinary, Where}
+use Rattle.store_laws.proofs.Mentioned.{typed_where, Ordinary, Where}
 use Rattle.pattern_laws.specs.Equations.{scoped, Locals}
 use Rattle.pattern_laws.specs.Patterns.{Place, on, arrows, Fitting, OnDistinct, OwnPlaces, OnLocals}
 use Rattle.pattern_laws.proofs.Instances.{scoped_meta}
@@ -61,14 +62,19 @@ where_within g z f h w m u e i = let (b, t) = w m e in subst (λ c. z (Meta m) �
 object_back : (g z : Assignment) → Fewer g z → (x : PlainObject) (t : SimpleType) → Within z x → SimplyTyped g x t → SimplyTyped z x t
 object_back g z f x t w p = of_typed (typed_where z (to_typed true g x t p) f.ordinary (where_within g z f (λ m. mentions m x) w))
 
+function_within : (z : Assignment) (m : Mode) (r : PlainNeutral) (o : PlainObject) → WithinNeutral z (app m r o) → WithinNeutral z r
+function_within z m r o w k e = w k (or_first (mentions_neutral k r) (mentions k o) e)
+
+argument_within : (z : Assignment) (m : Mode) (r : PlainNeutral) (o : PlainObject) → WithinNeutral z (app m r o) → Within z o
+argument_within z m r o w k e = w k (or_second (mentions_neutral k r) (mentions k o) e)
+
 neutral_back : (g z : Assignment) → Fewer g z → (n : PlainNeutral) (t : SimpleType) → WithinNeutral z n → SimplyTypedNeutral g n t → SimplyTypedNeutral z n t
-neutral_back g z f n t w p = of_neutral (typed_where_neutral z (to_neutral true g n t p) f.ordinary (where_within g z f (λ m. mentions_neutral m n) w))
-
-function_within : (z : Assignment) {m : _} (r : PlainNeutral) (o : PlainObject) → WithinNeutral z (app m r o) → WithinNeutral z r
-function_within z r o w k e = w k (or_first (mentions_neutral k r) (mentions k o) e)
-
-argument_within : (z : Assignment) {m : _} (r : PlainNeutral) (o : PlainObject) → WithinNeutral z (app m r o) → Within z o
-argument_within z r o w k e = w k (or_second (mentions_neutral k r) (mentions k o) e)
+neutral_back g z f (head_alone (Const c)) t w p = f.ordinary (Const c) t refl p
+neutral_back g z f (head_alone (Var i)) t w p = f.ordinary (Var i) t refl p
+neutral_back g z f (head_alone (Meta m)) t w p = where_within g z f (λ k. mentions_neutral k (head_alone (Meta m))) w m t (own_number m) p
+neutral_back g z f (app m r o) t w (d, p, q) = (d, neutral_back g z f r (arrow m d t) (function_within z m r o w) p, object_back g z f o d (argument_within z m r o w) q)
+neutral_back g z f (fst r) t w (d, p) = (d, neutral_back g z f r (simple_with t d) w p)
+neutral_back g z f (snd r) t w (d, p) = (d, neutral_back g z f r (simple_with d t) w p)
 
 left_within : (z : Assignment) (l r : PlainObject) → Within z (pair l r) → Within z l
 left_within z l r w k e = w k (or_first (mentions k l) (mentions k r) e)
@@ -102,10 +108,10 @@ own_back g z f (p ∷ ps) (q ∷ qs) r w (o, os) = (
   record {
     mode = o.mode;
     local = o.local;
-    typed = object_back g z f (eta q.1 (head_alone (Var q.2))) p.1 (argument_within z (on qs r) (eta q.1 (head_alone (Var q.2))) w) o.typed;
+    typed = object_back g z f (eta q.1 (head_alone (Var q.2))) p.1 (argument_within z q.0 (on qs r) (eta q.1 (head_alone (Var q.2))) w) o.typed;
     own = ⊎_elim (λ e. inl (sym (f.variables q.2) ∙ e)) (λ e. inr e) o.own;
   },
-  own_back g z f ps qs r (function_within z (on qs r) (eta q.1 (head_alone (Var q.2))) w) os,
+  own_back g z f ps qs r (function_within z q.0 (on qs r) (eta q.1 (head_alone (Var q.2))) w) os,
 )
 
 locals_back : (g z : Assignment) → Fewer g z → (n : PlainNeutral) (k : ℕ) (ps qs : List Place) (t : SimpleType) → WithinNeutral z n → OnLocals g n k ps qs t → OnLocals z n k ps qs t
@@ -127,8 +133,8 @@ mutual
   standing_back (standing_below e s) z f w = standing_below e (below_back s z f w)
 
   below_back : {g : Assignment} {ds : Locals} {q n : PlainNeutral} {c : SimpleType} → StandingBelow g ds q c n → (z : Assignment) → Fewer g z → WithinNeutral z n → StandingBelow z ds q c n
-  below_back (in_this {g = g} {r = r} {d = d} {m = m} {o = o} e p s) z f w = in_this e (neutral_back g z f r (arrow m d e) (function_within z r o w) p) (standing_back s z f (argument_within z r o w))
-  below_back (in_earlier {r = r} {o = o} s) z f w = in_earlier (below_back s z f (function_within z r o w))
+  below_back (in_this {g = g} {r = r} {d = d} {m = m} {o = o} e p s) z f w = in_this e (neutral_back g z f r (arrow m d e) (function_within z m r o w) p) (standing_back s z f (argument_within z m r o w))
+  below_back (in_earlier {r = r} {m = m} {o = o} s) z f w = in_earlier (below_back s z f (function_within z m r o w))
   below_back (under_fst s) z f w = under_fst (below_back s z f w)
   below_back (under_snd s) z f w = under_snd (below_back s z f w)
 
@@ -146,12 +152,12 @@ mutual
   prunable_below_back : (g z : Assignment) → Fewer g z → (ls : Locals) (ps : List Place) (ds : Locals) (n : PlainNeutral) → WithinNeutral z n → PrunableBelow g ls ps ds n → PrunableBelow z ls ps ds n
   prunable_below_back g z f ls ps ds (head_alone h) w p = p
   prunable_below_back g z f ls ps ds (app m r o) w (p, (d, e, q, h)) = (
-    prunable_below_back g z f ls ps ds r (function_within z r o w) p,
+    prunable_below_back g z f ls ps ds r (function_within z m r o w) p,
     (
       d,
       e,
-      neutral_back (scoped (ds ++ ls) g) (scoped (ds ++ ls) z) (fewer_scoped (ds ++ ls) g z f) r (arrow m d e) (within_scoped_neutral (ds ++ ls) z r (function_within z r o w)) q,
-      prunable_back g z f ls ps ds o d (argument_within z r o w) h,
+      neutral_back (scoped (ds ++ ls) g) (scoped (ds ++ ls) z) (fewer_scoped (ds ++ ls) g z f) r (arrow m d e) (within_scoped_neutral (ds ++ ls) z r (function_within z m r o w)) q,
+      prunable_back g z f ls ps ds o d (argument_within z m r o w) h,
     ),
   )
   prunable_below_back g z f ls ps ds (fst r) w p = prunable_below_back g z f ls ps ds r w p
@@ -181,7 +187,7 @@ reaches_back g z f ls a side other w v h = record {
 -- ---- parts
 
 pub part_at_back : {g : Assignment} {o u : PlainObject} {c : SimpleType} {r n : PlainNeutral} → PartAt g o u c r n → (z : Assignment) → Fewer g z → WithinNeutral z r → PartAt z o u c r n
-part_at_back {g = g} {c = c} (part_here {m = m} {r = r} e t) z f w = part_here e (neutral_back g z f r (arrow m c e) (function_within z r _ w) t)
-part_at_back (part_function {r = r} {x = x} p) z f w = part_function (part_at_back p z f (function_within z r x w))
+part_at_back {g = g} {o = o} {c = c} (part_here {m = m} {r = r} e t) z f w = part_here e (neutral_back g z f r (arrow m c e) (function_within z m r o w) t)
+part_at_back (part_function {m = m} {r = r} {x = x} p) z f w = part_function (part_at_back p z f (function_within z m r x w))
 part_at_back (part_fst p) z f w = part_fst (part_at_back p z f w)
 part_at_back (part_snd p) z f w = part_snd (part_at_back p z f w)

@@ -2,16 +2,15 @@
 use Rattle.std.specs.Prelude.{ℕ, true, zero, suc, ◌≡◌, List, [], ◌∷◌, Some, refl}
 use Rattle.std.proofs.Common.{sym, ◌∙◌, inl, inr, ⊎_elim}
 use Rattle.clf_syntax.specs.declared.tree.Head.TheVariants.{Const, Var, Meta}
-use Rattle.clf_syntax.specs.Tree.{PlainObject}
-use Rattle.clf_syntax.specs.TypeTree.{SimpleType}
+use Rattle.clf_syntax.specs.Tree.{PlainObject, atomic}
+use Rattle.clf_syntax.specs.TypeTree.{SimpleType, base}
 use Rattle.clf_syntax.specs.Simple.{SimplyTyped}
-use Rattle.hered_subst.proofs.SimpleTyping.{to_typed, to_neutral}
+use Rattle.hered_subst.proofs.SimpleTyping.{to_typed}
 use Rattle.store_laws.specs.Mentions.{mentions}
-use Rattle.store_laws.proofs.Mentioned.{Ordinary, mentioned, mentioned_neutral}
+use Rattle.store_laws.proofs.Mentioned.{Ordinary, mentioned}
 use Rattle.pattern_laws.specs.Instantiations.{Types, closed}
 use Rattle.pattern_laws.specs.Equations.{Locals, scoped, Equation, TypedEquation, Listed}
 use Rattle.pattern_laws.proofs.Instances.{scoped_meta}
-use Rattle.unify_laws.specs.Parts.{PartAt}
 use Rattle.unify_laws.specs.Problems.{Grows}
 use Rattle.reach_laws.specs.Reach.{Reaches, Stuck}
 use Rattle.reach_laws.specs.Rest.{ComesDown, down_joined, down_listed, down_lam, down_pair, down_neutral, part_itself, part_body, part_left, part_right, part_argument}
@@ -21,7 +20,7 @@ use Rattle.answer_laws.proofs.InTurn.{rests_in_turn}
 use Rattle.unify_laws.proofs.Preserved.{equations_more}
 use Rattle.solver_laws.proofs.Grown.{part_grown}
 use Rattle.rest_laws.specs.Laws.{RestGrows, RestOfRest}
-use Rattle.rest_laws.proofs.Fewer.{Fewer, Within, WithinNeutral, fewer_scoped, reaches_back, part_at_back}
+use Rattle.rest_laws.proofs.Fewer.{Fewer, Within, fewer_scoped, reaches_back, part_at_back}
 
 one_type : {a b : SimpleType} → Some a ≡ Some b → a ≡ b
 one_type e = cc
@@ -58,13 +57,9 @@ module _ (constants metas more : Types) (grows : Grows metas more) where
   down_grows left (down_pair {ls = ls} {l = l} {k = k} {r = r} {s = s} {c = c} {d = d} h g) t = down_pair
       (down_grows left h (part_typed constants metas (part_left {ls = ls} {l = l} {k = k} {c = c} r s d part_itself) t))
       (down_grows left g (part_typed constants metas (part_right {ls = ls} {r = r} {s = s} {d = d} l k c part_itself) t))
-  down_grows left (down_neutral {ls = ls} {r = r} {n = n} {f = f} h g) t = down_neutral h (λ o u c q. at o u c (part_at_back q (scoped ls (closed constants metas)) (fewer_scoped ls (closed constants more) (closed constants metas) fewer) known))
-    where
-      known : WithinNeutral (scoped ls (closed constants metas)) r
-      known k e = mentioned_neutral (to_neutral true (scoped ls (closed constants metas)) r _ t.0.1) k e
-
-      at : (o u : PlainObject) (c : SimpleType) → PartAt (scoped ls (closed constants metas)) o u c r n → ComesDown constants more left (record { locals = ls; left = o; right = u; type = c })
-      at o u c q = down_grows left (g o u c q) (part_typed constants metas (part_argument {ls = ls} {o = o} {u = u} {c = c} r n f part_itself h q) t)
+  down_grows left (down_neutral {ls = ls} {r = r} {n = n} {f = f} h g) t = down_neutral h (λ o u c q.
+      let p = part_at_back q (scoped ls (closed constants metas)) (fewer_scoped ls (closed constants more) (closed constants metas) fewer) (λ k e. mentioned (to_typed true (scoped ls (closed constants metas)) (atomic r) (base f) t.0) k e) in
+      down_grows left (g o u c p) (part_typed constants metas (part_argument {ls = ls} {o = o} {u = u} {c = c} r n f part_itself h p) t))
 
 pub rest_grows : RestGrows
 rest_grows constants metas more grows es left typed rest = record {
