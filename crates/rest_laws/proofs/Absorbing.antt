@@ -1,16 +1,13 @@
 -- All solutions of a store put in does what those that were there before do, and then itself.
-use Rattle.std.specs.Prelude.{ℕ, true, false, zero, suc, ◌≡◌, ◌⊎◌, nat_eq, if◌then◌else◌, Bool, List, [], ◌∷◌, ◌++◌, length, Option, Some, None, refl}
+use Rattle.std.specs.Prelude.{ℕ, true, false, zero, suc, ◌≡◌, nat_eq, if◌then◌else◌, Bool, List, [], ◌∷◌, ◌++◌, Option, Some, None, refl}
 use Rattle.std.proofs.Common.{ap, sym, subst, ◌∙◌, inl, inr, ⊎_elim, append_assoc}
-use Rattle.std.proofs.lemmas.List.{append-nil}
 use Rattle.std.specs.List.{slice_get}
-use Rattle.clf_syntax.specs.declared.tree.Head.TheVariants.{Meta}
 use Rattle.clf_syntax.specs.Tree.{PlainObject}
 use Rattle.clf_syntax.specs.TypeTree.{SimpleType}
 use Rattle.clf_syntax.specs.Simple.{SimplyTyped}
 use Rattle.hered_subst.specs.Substitution.{Substituted}
 use Rattle.hered_subst.proofs.Determined.{determined}
 use Rattle.hered_subst.proofs.SimpleTyping.{under_zero}
-use Rattle.hered_subst.proofs.TypedResults.{typed_has_result}
 use Rattle.subst_laws.specs.Environments.{Instantiation, instant, ComposedInstantiation}
 use Rattle.subst_laws.proofs.Environs.{instant_is_environment}
 use Rattle.subst_laws.proofs.Results.{composition}
@@ -24,7 +21,6 @@ use Rattle.store_laws.proofs.Closing.{no_families, Gives, gives_typed, next, com
 use Rattle.store_laws.proofs.Stores.{store_is_cut}
 use Rattle.pattern_laws.specs.Instantiations.{Types, closed, Instantiated}
 use Rattle.unify_laws.specs.Problems.{Grows}
-use Rattle.reach_laws.specs.Unified.{IsPutIn}
 use Rattle.reach_laws.proofs.PartsUnder.{some_result}
 use Rattle.reach_laws.proofs.Rests.{put_in_types}
 use Rattle.solver_laws.proofs.Grown.{some_none, cases_of, simply_more, more_scoped, gives_grown}

@@ -9,23 +9,23 @@ use Rattle.hered_subst.specs.Substitution.{under}
 use Rattle.subst_laws.specs.Environments.{Instantiation, instant, ComposedInstantiation}
 use Rattle.subst_laws.proofs.Environs.{instant_is_environment}
 use Rattle.subst_laws.proofs.Results.{composition}
-use Rattle.store_laws.specs.Additions.{Addition, meta_types, given}
+use Rattle.store_laws.specs.Additions.{Addition, given}
 use Rattle.store_laws.proofs.Closing.{no_families}
 use Rattle.pattern_laws.specs.Instantiations.{Types, closed, Instantiated}
 use Rattle.pattern_laws.specs.Equations.{Locals, scoped, Equation, TypedEquations}
 use Rattle.pattern_laws.proofs.Instances.{typed_scoped, composed_scoped}
 use Rattle.unify_laws.specs.Problems.{Grows, Stays, WellTyped}
 use Rattle.unify_laws.proofs.Preserved.{equations_more}
-use Rattle.reach_laws.specs.Rest.{IsAssignment, EquationUnder, EachUnder, Rest}
-use Rattle.reach_laws.specs.Unified.{IsPutIn, Unified, EndsWith}
+use Rattle.reach_laws.specs.Rest.{IsAssignment, EachUnder, Rest}
+use Rattle.reach_laws.specs.Unified.{EndsWith}
 use Rattle.reach_laws.proofs.PartsUnder.{some_result}
 use Rattle.reach_laws.proofs.Rests.{typed_under, put_in_types}
 use Rattle.reach_laws.proofs.Tight.{tight}
 use Rattle.answer_laws.proofs.InTurn.{traced_in_turn}
-use Rattle.solver_laws.specs.Solving.{problem_of, Ready}
+use Rattle.solver_laws.specs.Solving.{problem_of}
 use Rattle.solver_laws.proofs.Grown.{gives_grown}
 use Rattle.solver_laws.proofs.Stores.{types_in, whole}
-use Rattle.store_laws.proofs.Closing.{Gives, gives_typed}
+use Rattle.store_laws.proofs.Closing.{gives_typed}
 use Rattle.store_laws.proofs.Stores.{store_is_cut}
 use Rattle.rest_laws.specs.Together.{EndsTogether}
 use Rattle.rest_laws.specs.Laws.{CallsInTurn}
@@ -109,11 +109,15 @@ calls_in_turn constants zs first second es left others final ready later one two
 
         of : (us : List Equation) × EachUnder t ds us × EachUnder t es us → (vs ws : List Equation) × (ls ≡ vs ++ ws) × EachUnder t left vs × EachUnder t others ws
             → (t : Instantiation) × (us : List Equation) × EndsTogether (slice_get constants) (problem_of zs es) (problem_of now (left ++ others)) (es ++ others) final t us
-        of (us, u, h) (vs, ws, e, v, w) = (t, us ++ ws, record {
-          put_in = b.put_in;
-          under = each_both t es others us ws h w;
-          rest = rest_of_rest (slice_get constants) (types_in middle) (types_in now) grows t b.put_in.assigns ds us left vs others ws final typed_ds a.rest u v w (subst (λ l. Rest (slice_get constants) (types_in now) l final) e b.rest);
-          tight = (λ list holds. tight (slice_get constants) (problem_of zs es) (problem_of now (left ++ others)) well_typed stays
-              (traced_in_turn (types_in zs) (types_in middle) (types_in now) (given middle) (given now) grows two.adds.stays one.traced two.traced)
-              t b.put_in.put_in b.put_in.assigns two.adds.typed list holds);
-        })
+        of (us, u, h) (vs, ws, e, v, w) = (
+          t,
+          us ++ ws,
+          record {
+            put_in = b.put_in;
+            under = each_both t es others us ws h w;
+            rest = rest_of_rest (slice_get constants) (types_in middle) (types_in now) grows t b.put_in.assigns ds us left vs others ws final typed_ds a.rest u v w (subst (λ l. Rest (slice_get constants) (types_in now) l final) e b.rest);
+            tight = (λ list holds. tight (slice_get constants) (problem_of zs es) (problem_of now (left ++ others)) well_typed stays
+                (traced_in_turn (types_in zs) (types_in middle) (types_in now) (given middle) (given now) grows two.adds.stays one.traced two.traced)
+                t b.put_in.put_in b.put_in.assigns two.adds.typed list holds);
+          },
+        )

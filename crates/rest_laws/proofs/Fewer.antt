@@ -1,6 +1,6 @@
 -- What mentions only some metavariables is typed, in reach and on distinct locals with the types of these alone.
-use Rattle.std.specs.Prelude.{ℕ, Bool, true, false, zero, suc, ◌≡◌, ◌||◌, List, [], ◌∷◌, ◌++◌, Some, refl}
-use Rattle.std.proofs.Common.{ap, sym, subst, ◌∙◌, inl, inr, ⊎_elim}
+use Rattle.std.specs.Prelude.{ℕ, Bool, true, zero, suc, ◌≡◌, List, [], ◌∷◌, ◌++◌, Some, refl}
+use Rattle.std.proofs.Common.{sym, subst, ◌∙◌, inl, inr, ⊎_elim}
 use Rattle.clf_syntax.specs.declared.tree.Mode.{Mode}
 use Rattle.clf_syntax.specs.declared.tree.Head.TheVariants.{Const, Var, Meta}
 use Rattle.clf_syntax.specs.Tree.{PlainObject, lam, pair, unit, monadic, atomic, hole, PlainNeutral, head_alone, app, fst, snd}

@@ -1,15 +1,14 @@
 -- The rest of typed equations is their rest where there are more metavariables.
-use Rattle.std.specs.Prelude.{ℕ, true, zero, suc, ◌≡◌, List, [], ◌∷◌, Some, refl}
+use Rattle.std.specs.Prelude.{true, ◌≡◌, List, Some, refl}
 use Rattle.std.proofs.Common.{sym, ◌∙◌, inl, inr, ⊎_elim}
 use Rattle.clf_syntax.specs.declared.tree.Head.TheVariants.{Const, Var, Meta}
 use Rattle.clf_syntax.specs.Tree.{PlainObject, atomic}
 use Rattle.clf_syntax.specs.TypeTree.{SimpleType, base}
 use Rattle.clf_syntax.specs.Simple.{SimplyTyped}
 use Rattle.hered_subst.proofs.SimpleTyping.{to_typed}
-use Rattle.store_laws.specs.Mentions.{mentions}
 use Rattle.store_laws.proofs.Mentioned.{Ordinary, mentioned}
 use Rattle.pattern_laws.specs.Instantiations.{Types, closed}
-use Rattle.pattern_laws.specs.Equations.{Locals, scoped, Equation, TypedEquation, Listed}
+use Rattle.pattern_laws.specs.Equations.{Locals, scoped, Equation, TypedEquation}
 use Rattle.pattern_laws.proofs.Instances.{scoped_meta}
 use Rattle.unify_laws.specs.Problems.{Grows}
 use Rattle.reach_laws.specs.Reach.{Reaches, Stuck}

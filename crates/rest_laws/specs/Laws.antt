@@ -1,5 +1,5 @@
 -- Laws of rests while the store grows, as statements; the functions of the crate's `laws` state them.
-use Rattle.std.specs.Prelude.{◌≡◌, List, ◌++◌}
+use Rattle.std.specs.Prelude.{List, ◌++◌}
 use Rattle.std.specs.List.{slice_get}
 use Rattle.clf_syntax.specs.TypeTree.{SimpleType}
 use Rattle.subst_laws.specs.Environments.{Instantiation, ComposedInstantiation}
