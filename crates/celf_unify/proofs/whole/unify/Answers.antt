@@ -43,5 +43,8 @@ returns-in-Left-clause-flat c f = let (h, e) = subst (λ p. FlatEnds (constants 
     (h, left_decided (equations_in c.in-Left.left) c.with_left.result c.with_left.ensures e)
 
 pub returns-in-Clash-clause-flat : goal.returns-in-Clash-clause-flat
-returns-in-Clash-clause-flat c f = (subst (λ p. FlatEnds (constants c.args.store.now) (additions c.one_pass.new.store) p) c.in-Clash.is
-    (pass_flat c.args.store.now c.loop-left.store c.one_pass.new.store (equations_in c.args.equations.now) c.in_ok-one_pass.field-0 c.loop-left.invariant.same c.loop-left.invariant.solving c.in_ok-one_pass.ensures.ends f (c.loop-left.invariant.flat f)), tt)
+returns-in-Clash-clause-flat c f = (
+  subst (λ p. FlatEnds (constants c.args.store.now) (additions c.one_pass.new.store) p) c.in-Clash.is
+      (pass_flat c.args.store.now c.loop-left.store c.one_pass.new.store (equations_in c.args.equations.now) c.in_ok-one_pass.field-0 c.loop-left.invariant.same c.loop-left.invariant.solving c.in_ok-one_pass.ensures.ends f (c.loop-left.invariant.flat f)),
+  tt,
+)
