@@ -4,7 +4,8 @@ pub mod Placing
 pub mod PlacingSteps
 pub mod Replaced
 pub mod InFront
-pub mod FrontHeads
+pub mod Named
+pub mod Heads
 pub mod BinderTypes
 pub mod UnderFront
 pub mod Occurring
