@@ -1,14 +1,22 @@
 -- Laws of what conforms to simple types, as statements; the functions of the crate's `laws` state them.
-use Rattle.std.specs.Prelude.{◌≡◌, ◌++◌, List, [], map, Option, None, slice_get}
-use Rattle.clf_syntax.specs.TypeTree.{PlainType, SimpleType}
+use Rattle.std.specs.Prelude.{ℕ, ◌≡◌, ◌++◌, List, [], map, Some, None, slice_get}
+use Rattle.clf_syntax.specs.TypeTree.{PlainType, PlainKind, SimpleType}
 use Rattle.clf_syntax.specs.Simple.{erase}
-use Rattle.clf_sig.specs.Entry.{PlainSignature, simple_types}
-use Rattle.clf_sig.specs.Core.{PlainCore}
-use Rattle.clf_rules.specs.WellFormed.{WellFormedSignature}
+use Rattle.clf_sig.specs.Entry.{PlainSignature, PlainEntry, constant_of, family_of, simple_types}
+use Rattle.clf_sig.specs.Core.{PlainCore, declares}
+use Rattle.clf_rules.specs.WellFormed.{WellFormedSignature, WellFormedEntry}
 use Rattle.typing_laws.specs.SimpleTyping.{families_of}
 use Rattle.pattern_laws.specs.Equations.{Equation}
+use Rattle.pattern_laws.specs.Instantiations.{Types}
 use Rattle.elaboration_laws.specs.ItemSetting.{item_setting, ReadTypes}
+use Rattle.celf_sugar.specs.PlainTree.{DesugaredType, DesugaredTelescope}
+use Rattle.celf_explicit.specs.Explicit.{entry_of}
+use Rattle.celf_elaboration.specs.Fillings.{Fillings}
+use Rattle.celf_elaboration.specs.Names.{TypedVariable, types_read}
 use Rattle.celf_elaboration.specs.Items.{CoreGathers}
+use Rattle.celf_elaboration.specs.Declarations.{IsTreeOf, ElaboratesDeclaration}
+use Rattle.reconstruction_laws.specs.Trees.{HasNewTypes, IsKindTreeOf, ElaboratesFamily}
+use Rattle.celf_conform.specs.declared.misfit.Misfit.{Misfit}
 use Rattle.celf_conform.specs.Known.{PlainKnown, known_over, heads_in}
 use Rattle.celf_conform.specs.Fits.{CoreFits}
 use Rattle.celf_conform.specs.Conforms.{JudgesCore}
@@ -28,3 +36,24 @@ abbrev pub GathersNothingMisfits : Type 0
 GathersNothingMisfits = (sig : PlainSignature) (xs : List PlainType) (metas : List SimpleType) → WellFormedSignature sig → ReadTypes sig xs (slice_get metas)
     → (core : PlainCore) → ((q : List Equation) → CoreGathers sig (item_setting sig xs (slice_get metas)) core q → ⊥)
     → JudgesCore (item_known sig xs metas) core None → ⊥
+
+-- No elaboration of the declaration of a constant is well formed, of whose written type this is the tree.
+abbrev pub HasNoElaboration : PlainSignature → List TypedVariable → Types → PlainType → Type 0
+HasNoElaboration sig vs metas tree = (n : ℕ) (e : PlainEntry) → ElaboratesDeclaration sig vs n metas tree e → WellFormedEntry sig e → ⊥
+
+-- the same of a family, of whose arguments this is the tree
+abbrev pub FamilyHasNoElaboration : PlainSignature → List TypedVariable → Types → PlainKind → Type 0
+FamilyHasNoElaboration sig vs metas tree = (n : ℕ) (e : PlainEntry) → ElaboratesFamily sig vs n metas tree e → WellFormedEntry sig e → ⊥
+
+-- Where one elaboration of a declaration is well formed, its tree conforms. So what has a misfit has no well-formed elaboration.
+abbrev pub MisfitHasNoElaboration : Type 0
+MisfitHasNoElaboration = (sig : PlainSignature) (vs : List TypedVariable) (metas : List SimpleType) (written : DesugaredType) (fillings : Fillings) (tree : PlainType)
+    → IsTreeOf sig vs written fillings tree → HasNewTypes (slice_get metas) fillings → ReadTypes sig (types_read vs) (slice_get metas)
+    → (name : List ℕ) (n : ℕ) (w : Misfit) → JudgesCore (item_known sig (types_read vs) metas) (declares name (entry_of n (constant_of tree))) (Some w)
+    → HasNoElaboration sig vs (slice_get metas) tree
+
+abbrev pub MisfitHasNoFamilyElaboration : Type 0
+MisfitHasNoFamilyElaboration = (sig : PlainSignature) (vs : List TypedVariable) (metas : List SimpleType) (written : DesugaredTelescope) (fillings : Fillings) (tree : PlainKind)
+    → IsKindTreeOf sig vs written fillings tree → HasNewTypes (slice_get metas) fillings → ReadTypes sig (types_read vs) (slice_get metas)
+    → (name : List ℕ) (n : ℕ) (w : Misfit) → JudgesCore (item_known sig (types_read vs) metas) (declares name (entry_of n (family_of tree))) (Some w)
+    → FamilyHasNoElaboration sig vs (slice_get metas) tree

@@ -3,4 +3,4 @@
 
 mod laws;
 
-pub use laws::fitting;
+pub use laws::{fitting, misfits};
