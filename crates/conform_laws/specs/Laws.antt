@@ -37,23 +37,34 @@ GathersNothingMisfits = (sig : PlainSignature) (xs : List PlainType) (metas : Li
     → (core : PlainCore) → ((q : List Equation) → CoreGathers sig (item_setting sig xs (slice_get metas)) core q → ⊥)
     → JudgesCore (item_known sig xs metas) core None → ⊥
 
--- No elaboration of the declaration of a constant is well formed, of whose written type this is the tree.
+-- The tree of the declaration of a constant, with the simple types of its metavariables and types that are read for its implicit variables.
+pub record ConstantTree (sig : PlainSignature) (vs : List TypedVariable) (metas : List SimpleType) (written : DesugaredType) (tree : PlainType) : Type 0 where
+  pub fillings : Fillings
+  pub is_tree : IsTreeOf sig vs written fillings tree
+  pub have_types : HasNewTypes (slice_get metas) fillings
+  pub read : ReadTypes sig (types_read vs) (slice_get metas)
+
+-- the same of a family, where the tree is that of its arguments
+pub record FamilyTree (sig : PlainSignature) (vs : List TypedVariable) (metas : List SimpleType) (written : DesugaredTelescope) (tree : PlainKind) : Type 0 where
+  pub fillings : Fillings
+  pub is_tree : IsKindTreeOf sig vs written fillings tree
+  pub have_types : HasNewTypes (slice_get metas) fillings
+  pub read : ReadTypes sig (types_read vs) (slice_get metas)
+
+-- No elaboration of the declaration is well formed.
 abbrev pub HasNoElaboration : PlainSignature → List TypedVariable → Types → PlainType → Type 0
 HasNoElaboration sig vs metas tree = (n : ℕ) (e : PlainEntry) → ElaboratesDeclaration sig vs n metas tree e → WellFormedEntry sig e → ⊥
 
--- the same of a family, of whose arguments this is the tree
 abbrev pub FamilyHasNoElaboration : PlainSignature → List TypedVariable → Types → PlainKind → Type 0
 FamilyHasNoElaboration sig vs metas tree = (n : ℕ) (e : PlainEntry) → ElaboratesFamily sig vs n metas tree e → WellFormedEntry sig e → ⊥
 
 -- Where one elaboration of a declaration is well formed, its tree conforms. So what has a misfit has no well-formed elaboration.
 abbrev pub MisfitHasNoElaboration : Type 0
-MisfitHasNoElaboration = (sig : PlainSignature) (vs : List TypedVariable) (metas : List SimpleType) (written : DesugaredType) (fillings : Fillings) (tree : PlainType)
-    → IsTreeOf sig vs written fillings tree → HasNewTypes (slice_get metas) fillings → ReadTypes sig (types_read vs) (slice_get metas)
+MisfitHasNoElaboration = (sig : PlainSignature) (vs : List TypedVariable) (metas : List SimpleType) (written : DesugaredType) (tree : PlainType) → ConstantTree sig vs metas written tree
     → (name : List ℕ) (n : ℕ) (w : Misfit) → JudgesCore (item_known sig (types_read vs) metas) (declares name (entry_of n (constant_of tree))) (Some w)
     → HasNoElaboration sig vs (slice_get metas) tree
 
 abbrev pub MisfitHasNoFamilyElaboration : Type 0
-MisfitHasNoFamilyElaboration = (sig : PlainSignature) (vs : List TypedVariable) (metas : List SimpleType) (written : DesugaredTelescope) (fillings : Fillings) (tree : PlainKind)
-    → IsKindTreeOf sig vs written fillings tree → HasNewTypes (slice_get metas) fillings → ReadTypes sig (types_read vs) (slice_get metas)
+MisfitHasNoFamilyElaboration = (sig : PlainSignature) (vs : List TypedVariable) (metas : List SimpleType) (written : DesugaredTelescope) (tree : PlainKind) → FamilyTree sig vs metas written tree
     → (name : List ℕ) (n : ℕ) (w : Misfit) → JudgesCore (item_known sig (types_read vs) metas) (declares name (entry_of n (family_of tree))) (Some w)
     → FamilyHasNoElaboration sig vs (slice_get metas) tree
