@@ -31,7 +31,7 @@ beyond [] ys c x e = ap (λ i. slice_get ys i) e
 beyond (d ∷ sig) ys zero x e = absurd (omega (arith, e))
 beyond (d ∷ sig) ys (suc c) x e = beyond sig ys c x (omega (arith, e))
 
-constants_same : (sig : PlainSignature) (xs : List PlainType) (c : ℕ) → (if is_family sig c then None else slice_get (simple_types sig ++ map erase xs) c) ≡ item_constants sig xs c
+pub constants_same : (sig : PlainSignature) (xs : List PlainType) (c : ℕ) → (if is_family sig c then None else slice_get (simple_types sig ++ map erase xs) c) ≡ item_constants sig xs c
 constants_same sig xs c = at (nat_lt c (length sig)) refl
   where
     below : nat_lt c (length sig) ≡ true → c < length sig
