@@ -35,7 +35,7 @@ known_after z (simple_binding m d s) w b k = known_after z s (simple_shape d ∷
 
 module _ (z : Setting) (fills : z.fills ≡ true) (none : NoImplicit z) (unmarked : (a : PlainType) → z.shape a ≡ unmarked_shape a) where
   head_conforms : (h : Head) (w : List Shape) (b : Assignment) (t : SimpleType) → IsKnown z w b → HeadFits b h t → (b h ≡ Some t) × HeadConforms z w h (simple_shape t)
-  head_conforms (Const c) w b t k e = let (a, g, i) = k.constants c t e in (e, a, g, sym (unmarked a ∙ unmarked_is_simple a ∙ ap simple_shape i))
+  head_conforms (Const c) w b t k e = let (a, g, i) = k.constants c t e in (e, (a, g, sym (unmarked a ∙ unmarked_is_simple a ∙ ap simple_shape i)))
   head_conforms (Var i) w b t k e = (e, k.variables i t e)
   head_conforms (Meta m) w b t k e = absurd e
 

@@ -1,5 +1,5 @@
 -- Of types, telescopes, kinds and cores that conform to simple types something is gathered.
-use Rattle.std.proofs.Common.{ap, subst, sym, ◌∙◌}
+use Rattle.std.proofs.Common.{subst, sym}
 use Rattle.std.specs.Option.{option_map}
 use Rattle.std.specs.Prelude.{List, None, Option, Some, [], map, refl, true, ℕ, ◌++◌, ◌∷◌, ◌≡◌}
 use Rattle.clf_syntax.specs.Simple.{Assignment, SimplyFormed, SimplyFormedContext, SimplyFormedKind, SimplyFormedTelescope, SimplyTyped, SimplyTypedEach, erase, extended, extended_over}

@@ -11,7 +11,7 @@ use Rattle.clf_syntax.specs.declared.tree.Head.{Head}
 use Rattle.clf_syntax.specs.declared.tree.Head.TheVariants.{Const, Meta, Var}
 use Rattle.clf_sig.specs.Entry.{PlainClass, PlainSignature, constant_of, constant_type, family_of, simple_class, simple_types, type_in}
 use Rattle.pattern_laws.specs.Instantiations.{closed}
-use Rattle.elaboration_laws.specs.ItemSetting.{given_type, item_constants}
+use Rattle.elaboration_laws.specs.ItemSetting.{item_constants}
 use Rattle.celf_conform.specs.Known.{heads_in, is_family, is_family_class}
 use Rattle.conform_laws.specs.Laws.{item_known}
 
@@ -27,7 +27,7 @@ within (d ∷ sig) ys (suc c) h = within sig ys c (omega (arith, h))
 
 -- a place past it
 beyond : (sig : PlainSignature) (ys : List SimpleType) (c x : ℕ) → c ≡ length sig + x → (if is_family sig c then None else slice_get (simple_types sig ++ ys) c) ≡ slice_get ys x
-beyond [] ys c x e = ap (λ i. slice_get ys i) e
+beyond [] ys c x e = ap (λ i. slice_get ys i) (let n : c ≡ x = omega (arith, e) in n)
 beyond (d ∷ sig) ys zero x e = absurd (omega (arith, e))
 beyond (d ∷ sig) ys (suc c) x e = beyond sig ys c x (omega (arith, e))
 

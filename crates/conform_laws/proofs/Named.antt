@@ -1,8 +1,8 @@
 -- No step of a written text has a metavariable as its head: new metavariables stand as objects alone. Where it is so, what is simply typed conforms.
-use Rattle.std.proofs.Common.{ap, inl, inr, subst, sym, ⊎_elim, ◌∙◌}
-use Rattle.std.specs.Prelude.{Bool, List, [], false, if◌then◌else◌, refl, true, ℕ, ◌+◌, ◌∷◌, ◌≡◌, ◌⊎◌, length}
+use Rattle.std.proofs.Common.{inl, inr, subst, sym, ⊎_elim, ◌∙◌}
+use Rattle.std.specs.Prelude.{Bool, List, Some, [], false, if◌then◌else◌, refl, true, ℕ, ◌+◌, ◌∷◌, ◌≡◌, ◌⊎◌, length}
 use Rattle.clf_syntax.specs.Renaming.{Renumbering, lifted, ren, ren_expression, ren_neutral, ren_tuple, up}
-use Rattle.clf_syntax.specs.Simple.{Assignment, Families, MayStand, SimplyFormed, SimplyFormedKind, SimplyFormedTelescope, SimplyTyped, SimplyTypedEach, SimplyTypedExpression, SimplyTypedNeutral, SimplyTypedTuple, erase, extended, extended_by, no_holes, simple_modes}
+use Rattle.clf_syntax.specs.Simple.{Assignment, Families, SimplyFormed, SimplyFormedKind, SimplyFormedTelescope, SimplyTyped, SimplyTypedEach, SimplyTypedExpression, SimplyTypedNeutral, SimplyTypedTuple, erase, extended, extended_by, simple_modes}
 use Rattle.clf_syntax.specs.Tree.{PlainExpression, PlainNeutral, PlainObject, PlainTuple, app, atomic, done, empty, entry, fst, head_alone, head_of, hole, lam, monadic, pair, snd, step, unit}
 use Rattle.clf_syntax.specs.TypeTree.{PlainKind, PlainTelescope, PlainType, SimpleTelescope, SimpleType, arrow, base, binding, both, end, family, function, lax, monad, simple_binding, simple_end, simple_top, simple_with, top}
 use Rattle.clf_syntax.specs.declared.tree.Head.{Head}
@@ -10,7 +10,7 @@ use Rattle.clf_syntax.specs.declared.tree.Head.TheVariants.{Const, Meta, Var}
 use Rattle.hered_subst.specs.TypedEnvironments.{is_metavariable}
 use Rattle.eta_laws.proofs.Expansions.{expansion_laws, meta_renamed}
 use Rattle.eta_laws.specs.Eta.{eta, expansion, variables}
-use Rattle.metavars.specs.Fresh.{Scope, applied_from, binder, fresh_object, new_types, on_scope}
+use Rattle.metavars.specs.Fresh.{Scope, applied_from, binder, fresh_object, new_types}
 use Rattle.celf_conform.specs.Fits.{EachFits, ExpressionFits, Fits, HeadFits, KindFits, NeutralFits, TelescopeFits, TupleFits, TypeFits}
 
 abbrev mutual

@@ -1,5 +1,5 @@
 -- The shapes of simple types by which nothing is passed over: of a type as it is written they have what its erasure has.
-use Rattle.std.specs.Prelude.{Bool, false, refl, ◌≡◌}
+use Rattle.std.specs.Prelude.{false, refl, ◌≡◌}
 use Rattle.clf_syntax.specs.Simple.{erase, erase_telescope}
 use Rattle.clf_syntax.specs.TypeTree.{PlainTelescope, PlainType, SimpleTelescope, SimpleType, arrow, base, binding, both, end, family, function, lax, monad, simple_binding, simple_end, simple_top, simple_with, top}
 use Rattle.std.proofs.Common.{ap}

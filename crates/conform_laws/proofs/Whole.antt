@@ -1,11 +1,10 @@
 -- What fits gathers; and so where nothing is gathered there is a misfit.
-use Rattle.std.proofs.Common.{subst, ◌∙◌}
+use Rattle.std.proofs.Common.{subst}
 use Rattle.std.specs.List.{slice_get}
 use Rattle.std.specs.Option.{option_map}
-use Rattle.std.specs.Prelude.{List, None, Option, Some, [], refl, ℕ, ◌≡◌}
+use Rattle.std.specs.Prelude.{List, None, Option, Some, [], refl, ◌≡◌}
 use Rattle.clf_syntax.specs.Simple.{Assignment, erase}
 use Rattle.clf_syntax.specs.TypeTree.{PlainType, SimpleType}
-use Rattle.clf_syntax.specs.declared.tree.Head.TheVariants.{Var}
 use Rattle.clf_sig.specs.Entry.{PlainSignature}
 use Rattle.pattern_laws.specs.Instantiations.{Types}
 use Rattle.typing_laws.specs.SimpleTyping.{families_of}
