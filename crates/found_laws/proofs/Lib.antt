@@ -1,3 +1,0 @@
-pub mod StoreTypes
-pub mod Gathered
-pub mod Declarations
