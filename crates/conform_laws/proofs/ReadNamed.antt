@@ -1,9 +1,9 @@
 -- In what is read no step has a metavariable as its head, where no name means one and new metavariables are filled in.
-use Rattle.std.proofs.Common.{subst, sym}
-use Rattle.std.specs.Prelude.{List, Some, [], false, length, map, refl, ℕ, ◌++◌, ◌+◌, ◌∷◌, ◌×◌, ◌≡◌}
+use Rattle.std.proofs.Common.{inr, subst, sym}
+use Rattle.std.specs.Prelude.{List, None, Some, [], false, length, refl, ℕ, ◌++◌, ◌+◌, ◌∷◌, ◌≡◌}
 use Rattle.clf_syntax.specs.Tree as core
 use Rattle.clf_syntax.specs.Tree.{PlainExpression, PlainNeutral, PlainObject, head_alone, steps_on, tuple_of}
-use Rattle.clf_syntax.specs.TypeTree.{PlainKind, PlainTelescope, PlainType, SimpleType, binding, end}
+use Rattle.clf_syntax.specs.TypeTree.{PlainTelescope, PlainType, SimpleType, binding, end}
 use Rattle.clf_syntax.specs.declared.tree.Head.{Head}
 use Rattle.clf_syntax.specs.declared.tree.Head.TheVariants.{Const, Var}
 use Rattle.clf_syntax.specs.declared.tree.Mode.{Mode}

@@ -1,5 +1,5 @@
 -- Laws of what conforms to simple types, as statements; the functions of the crate's `laws` state them.
-use Rattle.std.specs.Prelude.{ℕ, ◌≡◌, ◌++◌, List, [], map, Some, None, slice_get}
+use Rattle.std.specs.Prelude.{ℕ, ◌++◌, List, [], map, Some, None, slice_get}
 use Rattle.clf_syntax.specs.TypeTree.{PlainType, PlainKind, SimpleType}
 use Rattle.clf_syntax.specs.Simple.{erase}
 use Rattle.clf_sig.specs.Entry.{PlainSignature, PlainEntry, constant_of, family_of, simple_types}
