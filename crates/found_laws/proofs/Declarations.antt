@@ -14,7 +14,7 @@ use Rattle.celf_sugar.specs.PlainTree.{declare, of_constant, of_family}
 use Rattle.celf_elaboration.specs.Declarations.{declared_heads}
 use Rattle.celf_elaboration.specs.Items.{reads_constant_declaration, reads_family_declaration}
 use Rattle.celf_elaboration.specs.Names.{TypedVariable, types_read, with_simple_type}
-use Rattle.celf_gather.specs.Holes.{KindHasNoHole, TypeHasNoHole}
+use Rattle.celf_gather.specs.Holes.{KindHasNoHole}
 use Rattle.reconstruction_laws.proofs.KindsAsTypes.{joined_kind, stays_kind, type_formed, type_gathers, type_substituted, type_well_formed}
 use Rattle.reconstruction_laws.specs.Trees.{as_type}
 use Rattle.gathered_laws.proofs.CoresTyped.{gathered_core_is_typed}
