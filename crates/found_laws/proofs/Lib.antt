@@ -1,0 +1,3 @@
+pub mod StoreTypes
+pub mod Gathered
+pub mod Declarations

@@ -1,0 +1,6 @@
+//! Laws of what is found of a declaration, and of what clashes.
+#![tactic(auto)]
+
+mod laws;
+
+pub use laws::{clashes, general};
