@@ -67,6 +67,9 @@ pub record IsScene (sig : PlainSignature) (s : Scene) : Type 0 where
 abbrev pub Gathered : PlainSignature → Scene → List Equation → Type 0
 Gathered sig s q = CoreGathers sig (item_setting sig (types_of s) (metas_in s)) (tree_of s) q
 
+abbrev pub GathersNone : PlainSignature → Scene → Type 0
+GathersNone sig s = (q : List Equation) → Gathered sig s q → ⊥
+
 -- The tree, the types and the equations are simply typed in a store in which nothing is solved.
 pub record MaySettle (s : Scene) (q : List Equation) : Type 0 where
   pub fresh : IsFresh s
@@ -82,7 +85,7 @@ pub record IsPosed (sig : PlainSignature) (s : Scene) (q : List Equation) : Type
 
 -- Nothing is gathered of the tree, and this is wrong with it at the first place where it does not conform to simple types.
 pub record IsMisfit (sig : PlainSignature) (s : Scene) (w : Misfit) : Type 0 where
-  pub nothing : (q : List Equation) → Gathered sig s q → ⊥
+  pub nothing : GathersNone sig s
   pub first : IsFirstMisfit (known_over sig (constants s.store) (meta_types (additions s.store))) (tree_of s) w
 
 abbrev pub Poses : PlainSignature → Scene → Posed → Type 0
