@@ -1,5 +1,5 @@
 -- Inner: what the calls on the way have at hand.
-use Rattle.std.specs.Prelude.{ℕ, ◌≡◌, ◌<◌, ◌++◌, List, Some, Err, map, slice_get, Contains}
+use Rattle.std.specs.Prelude.{ℕ, ◌≡◌, ◌<◌, ◌++◌, List, [], Option, Some, Err, length, map, option_map, slice_get, Contains}
 use Rattle.clf_syntax.specs.PlainTypes.{plain_ty}
 use Rattle.clf_syntax.specs.Simple.{Assignment, erase}
 use Rattle.clf_syntax.specs.TypeTree.{PlainType, SimpleType}
@@ -16,6 +16,7 @@ use Rattle.pattern_laws.specs.Patterns.{HasFinalResult}
 use Rattle.typing_laws.specs.SimpleTyping.{families_of}
 use Rattle.celf_sugar.specs.PlainTree.{DesugaredBody, DesugaredItem}
 use Rattle.celf_implicit.specs.declared.variable.Implicit.{Implicit}
+use Rattle.celf_implicit.specs.Rounds.{determined}
 use Rattle.celf_elaboration.specs.Names.{TypedVariable}
 use Rattle.celf_filled.specs.Scopes.{plain_named}
 use Rattle.celf_front.specs.Fronted.{IsInCircle}
@@ -27,7 +28,7 @@ use Rattle.celf_solve.specs.Formed.{EachIsFormed, CoreIsFormed}
 use Rattle.celf_solve.specs.Scenes.{tree_of, types_of, metas_in, IsScene, IsSettled, IsPosed as IsPosedScene}
 use Rattle.celf_reconstruct.specs.Trees.{read_name}
 use Rattle.celf_reconstruct.specs.Posed.{IsPosed, Unsettled}
-use Rattle.celf_reconstruct.specs.Reconstructed.{IsFound, IsReconstruction}
+use Rattle.celf_reconstruct.specs.Reconstructed.{IsFound, IsSearch, IsTest, IsReconstruction}
 
 -- The item is declined for this, or memory or a number is wanting.
 abbrev pub Declined : PlainSignature → DesugaredItem → OrWide Why → Type 0
@@ -85,3 +86,19 @@ pub record HasFound (sig : PlainSignature) (body : DesugaredBody) (xs : List Imp
 -- The numbers of binders are those of types.
 abbrev pub AreWithin : ℕ → List ℕ → Type 0
 AreWithin count numbers = (k : ℕ) → Contains numbers k → k < count
+
+abbrev pub variable_of : Implicit → List ℕ
+variable_of x = x.name
+
+-- the name of a binder; unnamed ones have none
+abbrev pub name_in : List Implicit → ℕ → Option (List ℕ)
+name_in xs i = option_map variable_of (slice_get xs i)
+
+-- The item is declined as these binders have no order, for a circle of them.
+abbrev pub IsCircular : PlainSignature → List Implicit → List PlainType → List ℕ → PlainWhy → Type 0
+IsCircular sig xs types binders why = (circle : List ℕ) × IsInCircle (length sig) types binders circle × (why ≡ circular (map (name_in xs) circle))
+
+-- It is no query and no trace, and a check or an equation has no implicit variable.
+pub record IsWithinReach (sig : PlainSignature) (body : DesugaredBody) : Type 0 where
+  pub no_search : IsSearch body → ⊥
+  pub no_variables : IsTest body → determined sig body ≡ []

@@ -47,7 +47,12 @@ pub fn read(
         return Err(why);
     }
     let mut types = Items::new(alloc);
-    add_types(sig, &mut store, &simples.as_slice()[sig.len()..], &mut types)?;
+    add_types(
+        sig,
+        &mut store,
+        &simples.as_slice()[sig.len()..],
+        &mut types,
+    )?;
     Ok(Scene { core, types, store })
 }
 

@@ -1,10 +1,12 @@
 //! The equations of a tree, solved.
-ghost use Rattle.std.specs.Prelude.{IfErr, IfOk};
+ghost use Rattle.std.specs.Prelude.{ℕ, List, IfErr, IfOk};
 ghost use Rattle.clf_sig.specs.Signature.{plain_signature};
 ghost use Rattle.clf_rules.specs.WellFormed.{WellFormedSignature};
+ghost use Rattle.celf_sugar.specs.PlainTree.{DesugaredBody, DesugaredItem};
+ghost use Rattle.celf_implicit.specs.declared.variable.Implicit.{Implicit};
 ghost use Rattle.celf_constraints.specs.Equated.{equations_in};
 ghost use Rattle.celf_solve.specs.Scenes.{IsScene, IsPosed};
-ghost use Rattle.celf_reconstruct.specs.Steps.{ComesOf, UnsettledScene};
+ghost use Rattle.celf_reconstruct.specs.Steps.{ComesOf, Declined, HasFound, HasScene, UnsettledScene};
 
 use crate::sides::{mismatch, sides_of_clash, sides_of_each};
 use celf_constraints::Equations;
@@ -18,11 +20,24 @@ use std::alloc::Global;
 pub fn settled(alloc: Global, sig: &Signature, scene: Scene) -> Result<Found, OrWide<Why>>
     requires formed { WellFormedSignature (plain_signature sig.now) }
     requires scene { IsScene (plain_signature sig.now) scene }
+    ensures found { IfOk result (λ f. (body : DesugaredBody) (xs : List Implicit) (unnamed : ℕ) →
+        HasScene (plain_signature sig.now) body xs unnamed scene →
+        HasFound (plain_signature sig.now) body xs unnamed f) }
+    ensures declined { IfErr result (λ fault. (item : DesugaredItem) (xs : List Implicit) (unnamed : ℕ) →
+        HasScene (plain_signature sig.now) item.body xs unnamed scene → Declined (plain_signature sig.now) item fault) }
+{
+    solved(alloc, sig, scene)
+}
+
+/// The same of the scene alone.
+fn solved(alloc: Global, sig: &Signature, scene: Scene) -> Result<Found, OrWide<Why>>
+    requires formed { WellFormedSignature (plain_signature sig.now) }
+    requires scene { IsScene (plain_signature sig.now) scene }
     ensures found { IfOk result (ComesOf (plain_signature sig.now) scene) }
     ensures unsettled { IfErr result (UnsettledScene (plain_signature sig.now) scene) }
 {
     match pose(alloc, sig, &scene)? {
-        Posed::Equations(equations) => solved(alloc, sig, scene, &equations),
+        Posed::Equations(equations) => solved_by(alloc, sig, scene, &equations),
         Posed::Misfit(misfit) => {
             drop(scene);
             Err(OrWide::Fault(Why::IllTyped(mismatch(misfit))))
@@ -31,7 +46,7 @@ pub fn settled(alloc: Global, sig: &Signature, scene: Scene) -> Result<Found, Or
 }
 
 /// Solves these equations, which are those of the tree.
-fn solved(
+fn solved_by(
     alloc: Global,
     sig: &Signature,
     scene: Scene,

@@ -33,14 +33,14 @@ module _ (arguments : Families) (g : Assignment) (s : Instantiation) (typed : Ty
   class_after (in_family_class {k = k} {l = l} h) p = results.kind k l p h
   class_after (in_constant_class {a = a} {b = b} h) p = (results.type a b p h).0
 
-  core_after : {tree core : PlainCore} → SubstitutedCore (instant s) tree core → CoreIsFormed arguments g tree → CoreIsFormed arguments g core
+  pub core_after : {tree core : PlainCore} → SubstitutedCore (instant s) tree core → CoreIsFormed arguments g tree → CoreIsFormed arguments g core
   core_after (in_declaration h) p = class_after h p
   core_after (in_query {a = a} {b = b} h) p = (results.type a b p h).0
   core_after (in_trace {t = t} {u = u} h) p = (results.telescope t u p h).0
   core_after (in_equation {m = m} {n = n} {x = x} {y = y} {a = a} {b = b} h i k) p = let (q, e) = results.type a b p.0 k in (q, object_after m x a b e p.1 h, object_after n y a b e p.2 i)
   core_after (in_check {n = n} {x = x} {a = a} {b = b} h k) p = let (q, e) = results.type a b p.0 k in (q, object_after n x a b e p.1 h)
 
-  each_after : (as_ bs : List PlainType) → EachBecomes s as_ bs → EachIsFormed arguments g as_ → EachIsFormed arguments g bs × (map erase bs ≡ map erase as_)
+  pub each_after : (as_ bs : List PlainType) → EachBecomes s as_ bs → EachIsFormed arguments g as_ → EachIsFormed arguments g bs × (map erase bs ≡ map erase as_)
   each_after [] [] h p = (tt, refl)
   each_after [] (b ∷ bs) h p = absurd h
   each_after (a ∷ as_) [] h p = absurd h
