@@ -1,0 +1,9 @@
+pub mod Known
+pub mod Variables
+pub mod Families
+pub mod Reading
+pub mod Settling
+pub mod Naming
+pub mod NoHole
+pub mod NamedScene
+pub mod Answering
