@@ -9,7 +9,8 @@ use Rattle.typing_laws.specs.SimpleTyping.{families_of}
 use Rattle.celf_places.specs.Heads.{argument_entries, argument_entry}
 use Rattle.celf_filled.specs.FormedTypes.{EachHasIndices}
 use Rattle.celf_filled.specs.TypedFrom.{indices_of, type_of_entry}
-use Rattle.filled_laws.specs.Laws.{FormedTypesHaveIndices, HasFamilies}
+use Rattle.filled_laws.specs.Families.{HasFamilies}
+use Rattle.filled_laws.specs.Laws.{FormedTypesHaveIndices}
 
 erased : (k : PlainKind) → map erase k ≡ map type_of_entry (map argument_entry k)
 erased [] = refl
