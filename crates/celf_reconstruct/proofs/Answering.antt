@@ -35,8 +35,8 @@ use Rattle.celf_solve.specs.Settled.{EachBecomes, Comes}
 use Rattle.celf_reconstruct.specs.Trees.{determined_name, read_name, IsItemTree}
 use Rattle.celf_reconstruct.specs.Left.{metavariables_with, IsNamed}
 use Rattle.celf_reconstruct.specs.Posed.{IsDeclaration, IsNamedTree, IsPosed, as_read, as_named}
-use Rattle.celf_reconstruct.specs.Naming.{types_in, AreSimples, HasUntyped, IsNamedScene}
-use Rattle.celf_reconstruct.specs.Reconstructed.{IsFound, IsCheck, IsSearch, IsTest, AreBinders, IsDeclared, Reconstructs, found_check, found_declaration, name_of, variable_name, nothing_filled, IsSimpleType, HasNoTree, untyped_variable, untyped_place, untyped_metavariable, Declines, no_tree, left_loose, in_a_circle, IsReconstruction}
+use Rattle.celf_reconstruct.specs.Naming.{types_in, AreSimples, IsNamedScene}
+use Rattle.celf_reconstruct.specs.Reconstructed.{IsFound, IsCheck, IsSearch, IsTest, AreBinders, IsDeclared, Reconstructs, found_check, found_declaration, name_of, variable_name, nothing_filled, HasNoTree, untyped_variable, untyped_place, Declines, no_tree, left_loose, in_a_circle, IsReconstruction}
 use Rattle.celf_reconstruct.specs.Steps.{Declined, IsFor, IsIllTyped, AreVariables, HasScene, HasFound, AreWithin, name_in, variable_of, IsCircular, IsWithinReach}
 use Rattle.celf_reconstruct.proofs.Families.{HasUntypedOne}
 
@@ -163,11 +163,8 @@ module _ (sig : PlainSignature) (item : DesugaredItem) (xs : List Implicit) wher
   ill-typed-for NoMemory no h = tt
   ill-typed-for (TooFar w) no h = h
 
-  pub untyped-done : (f : Found) → HasFound sig item.body xs 0 f → HasUntyped sig (types_in f.store) (metavariables_with (plain_core f.core) (map plain_ty f.types)) → HasNoTree sig item.body
-  untyped-done f h u = let (m, there, not) = u in untyped_metavariable h.found there (λ p. not (subst (λ (k : Types). IsSimpleType sig (k m)) h.metas p))
-
-  pub variable-done : AreAll sig item.body xs → HasUntypedOne sig (map plain_implicit xs) → HasNoTree sig item.body
-  variable-done all u = let (y, there, not) = u in untyped_variable (subst (λ ys. Contains ys y) all.found there) not
+  pub variable-done : AreAll sig item.body xs → HasUntypedOne (map plain_implicit xs) → HasNoTree sig item.body
+  variable-done all u = let (y, there, none) = u in untyped_variable (subst (λ ys. Contains ys y) all.found there) none
 
   loose-for : (count : ℕ) (fault : OrWide Why) → (IsFor (λ why. why ≡ loose count) fault) → Declines sig item.body (loose count) → Declined sig item fault
   loose-for count (Fault why) h d = subst (Declines sig item.body) (sym h) d
@@ -197,6 +194,7 @@ module _ (sig : PlainSignature) (item : DesugaredItem) (xs : List Implicit) wher
     variables = h.variables;
     posed = by refl h.found.posed h.found.comes;
     is_scene = n.is_scene;
+    families = n.families;
   }
     where
       by : {k : ℕ} {before : List PlainType} {metas : Types} {tree : PlainCore} → k ≡ 0 → IsPosed sig item.body h.vs k before metas tree
@@ -215,8 +213,8 @@ module _ (sig : PlainSignature) (item : DesugaredItem) (xs : List Implicit) wher
       })
       by z (as_named {simples = ts} m) c = absurd (m.some_left (nothing-in (metavariables_with m.core m.after) (sym (simples-length m.now.metas (metavariables_with m.core m.after) ts m.named.simple) ∙ z)))
 
-  pub some-unnamed : (f : Found) (left : List ℕ) (simples : List SimpleType) → AreSimples sig (types_in f.store) left simples → (left ≡ [] → ⊥) → length simples ≡ 0 → ⊥
-  some-unnamed f left simples are some e = some (nothing-in left (sym (simples-length (types_in f.store) left simples are.simple) ∙ e))
+  pub some-unnamed : (f : Found) (left : List ℕ) (simples : List SimpleType) → AreSimples (types_in f.store) left simples → (left ≡ [] → ⊥) → length simples ≡ 0 → ⊥
+  some-unnamed f left simples are some e = some (nothing-in left (sym (simples-length (types_in f.store) left simples are) ∙ e))
 
   -- ---- declarations
 

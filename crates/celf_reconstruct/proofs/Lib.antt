@@ -1,8 +1,8 @@
-pub mod Known
-pub mod Variables
 pub mod Families
+pub mod Variables
 pub mod Reading
 pub mod Settling
+pub mod Appearing
 pub mod Naming
 pub mod NoHole
 pub mod NamedScene

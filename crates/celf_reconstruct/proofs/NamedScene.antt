@@ -16,6 +16,7 @@ use Rattle.subst_laws.proofs.Environs.{instant_is_environment}
 use Rattle.clf_sig.specs.Entry.{PlainSignature, simple_types}
 use Rattle.clf_sig.specs.Core.{PlainCore, plain_core}
 use Rattle.typing_laws.specs.SimpleTyping.{families_of}
+use Rattle.clf_rules.specs.WellFormed.{WellFormedSignature}
 use Rattle.store_laws.specs.Additions.{Addition, new, meta_types, given}
 use Rattle.store_laws.specs.PutIn.{PutIn}
 use Rattle.metavars.specs.Stored.{Stored, constants, additions}
@@ -32,7 +33,9 @@ use Rattle.celf_elaboration.specs.Items.{SubstitutedCore}
 use Rattle.celf_filled.specs.States.{count, IsGrownBy}
 use Rattle.celf_filled.specs.TypedFrom.{indices_of}
 use Rattle.filled_laws.specs.FreshTypes.{types_from, new_in_each}
+use Rattle.filled_laws.specs.Families.{HasFamilies}
 use Rattle.filled_laws.specs.Laws.{TypesFrom}
+use Rattle.filled_laws.proofs.NewFamilies.{new_have_families}
 use Rattle.filled_laws.proofs.FinalIndices.{new_in_are_final, types_have_erasures}
 use Rattle.filled_laws.proofs.FreshTypes.{fresh_types_are_read}
 use Rattle.celf_solve.specs.declared.scene.Scene.{Scene}
@@ -49,7 +52,12 @@ use Rattle.celf_reconstruct.specs.Naming.{metas_of, types_in, IsUnsolvedWith, Ar
 use Rattle.celf_reconstruct.specs.Steps.{IsFormedIn, heads_of_store}
 use Rattle.celf_reconstruct.proofs.Naming.{put_in, is_typed, is_closed, types-store, simple-at}
 use Rattle.celf_reconstruct.proofs.NoHole.{core-has-no-hole}
-use Rattle.celf_reconstruct.proofs.Reading.{final-at, map-append as new-append, is-fresh, metas-are}
+use Rattle.celf_reconstruct.proofs.Reading.{all-at, map-append as new-append, is-fresh, metas-are}
+
+-- What holds at each number holds of each of a list.
+all_at : (P : SimpleType → Type 0) (ts : List SimpleType) → ((m : ℕ) (t : SimpleType) → slice_get ts m ≡ Some t → P t) → All P ts
+all_at P [] p = All-nil P
+all_at P (t ∷ ts) p = All-cons P t ts (p 0 t refl) (all_at P ts (λ m u e. p (suc m) u e))
 
 -- What is at hand once the store is made in which what is left is solved by constants.
 pub record HasNames (f : Found) (first : ℕ) (left : List ℕ) (simples : List SimpleType) (names : Stored) : Type 0 where
@@ -60,7 +68,7 @@ pub record HasNames (f : Found) (first : ℕ) (left : List ℕ) (simples : List 
 
 module _ (sig : PlainSignature) (f : Found) (formed_in : IsFormedIn sig (plain_core f.core) (map plain_ty f.types) f.store)
     (left : List ℕ) (are_left : left ≡ metavariables_with (plain_core f.core) (map plain_ty f.types))
-    (simples : List SimpleType) (are : AreSimples sig (types_in f.store) left simples)
+    (wf : WellFormedSignature sig) (simples : List SimpleType) (are : AreSimples (types_in f.store) left simples)
     (first : ℕ) (is_first : first ≡ length sig + length (map plain_ty f.types)) (names : Stored) (h : HasNames f first left simples names) where
   abbrev metas : Types
   metas = types_in f.store
@@ -89,7 +97,7 @@ module _ (sig : PlainSignature) (f : Found) (formed_in : IsFormedIn sig (plain_c
   typed : (m i : ℕ) (t : SimpleType) → metas m ≡ Some t → position (λ k. k == m) left ≡ Some i → cs (first + i) ≡ Some t
   typed m i t e p = ap (λ (us : List SimpleType). slice_get us (first + i)) h.constants_are
       ∙ ap (λ k. slice_get (constants f.store ++ simples) (k + i)) (sym count_is)
-      ∙ get-behind (constants f.store) simples i ∙ simple-at metas left simples are.simple m i t e p
+      ∙ get-behind (constants f.store) simples i ∙ simple-at metas left simples are m i t e p
 
   all_named : (m : ℕ) → given (additions names) m ≡ n m
   all_named m = ⊎_elim (λ l. h.named m l) (λ l. h.later m l ∙ sym (ap (λ (t : Option SimpleType). named_at first t (position (λ k. k == m) left)) (slice_get_past (metas_of f.store) m l))) (split m (length (metas_of f.store)))
@@ -202,11 +210,29 @@ module _ (sig : PlainSignature) (f : Found) (formed_in : IsFormedIn sig (plain_c
         there : SimplyFormed (families_of sig) (closed (item_constants sig (types_of scene)) (metas_in scene)) a
         there = ((store_types_the_same sig (types_of scene) (metas_in scene)).types (families_of sig) a).1 (type_more (families_of sig) g z larger a (formed_at named after.0 x a e))
 
+    simples_families : All (HasFamilies sig) simples
+    simples_families = by left simples are
+      where
+        first_of : {x y : Option SimpleType} {us vs : List (Option SimpleType)} → x ∷ us ≡ y ∷ vs → (x ≡ y) × (us ≡ vs)
+        first_of e = (cc, cc)
+
+        by : (ks : List ℕ) (ts : List SimpleType) → map metas ks ≡ map Some ts → All (HasFamilies sig) ts
+        by [] [] e = All-nil (HasFamilies sig)
+        by [] (t ∷ ts) e = absurd (cc)
+        by (k ∷ ks) [] e = absurd (cc)
+        by (k ∷ ks) (t ∷ ts) e = All-cons (HasFamilies sig) t ts (formed_in.families k t (first_of e).0) (by ks ts (first_of e).1)
+
+    old_families : All (HasFamilies sig) old
+    old_families = all_at (HasFamilies sig) old (λ m t e. formed_in.families m t e)
+
+    all_families : All (HasFamilies sig) (old ++ new_ones)
+    all_families = All-append (HasFamilies sig) old new_ones old_families (new_have_families sig wf simples simples_families)
+
     numbered : TypesFrom (metas_in scene) (length old) new_ones
     numbered j u e = metas-are scene (old ++ new_ones) additions_are (length old + j) ∙ get-behind old new_ones j ∙ e
 
     read_made : (x : ℕ) (a : PlainType) → slice_get made x ≡ Some a → ReadType sig (types_of scene) (metas_in scene) a
-    read_made x a e = fresh_types_are_read sig (types_of scene) (metas_in scene) (length old) simples are.families numbered x a e
+    read_made x a e = fresh_types_are_read sig (types_of scene) (metas_in scene) (length old) simples simples_families numbered x a e
 
     read : ReadTypes sig (types_of scene) (metas_in scene)
     read x a e = by named x (ap (λ (as_ : List PlainType). slice_get as_ x) (sym types_are) ∙ e) (λ y q. read_named y a q)
@@ -217,11 +243,7 @@ module _ (sig : PlainSignature) (f : Found) (formed_in : IsFormedIn sig (plain_c
         by (b ∷ as_) (suc y) q r = by as_ y q (λ i s. r (suc i) s)
 
     final_old : All HasFinalResult old
-    final_old = all_at old (λ m t e. formed_in.final m t e)
-      where
-        all_at : (ts : List SimpleType) → ((m : ℕ) (t : SimpleType) → slice_get ts m ≡ Some t → HasFinalResult t) → All HasFinalResult ts
-        all_at [] p = All-nil HasFinalResult
-        all_at (t ∷ ts) p = All-cons HasFinalResult t ts (p 0 t refl) (all_at ts (λ m u e. p (suc m) u e))
+    final_old = all_at HasFinalResult old (λ m t e. formed_in.final m t e)
 
     abbrev left_in : List ℕ
     left_in = metavariables_with (plain_core f.core) (map plain_ty f.types)
@@ -236,7 +258,7 @@ module _ (sig : PlainSignature) (f : Found) (formed_in : IsFormedIn sig (plain_c
     is_named = record {
       old = old;
       they = λ m. refl;
-      simple = subst (λ (ks : List ℕ). map metas ks ≡ map Some simples) are_left are.simple;
+      simple = subst (λ (ks : List ℕ). map metas ks ≡ map Some simples) are_left are;
       named_core = subst (λ (s : Instantiation). SubstitutedCore (instant s) (plain_core f.core) (tree_of scene)) naming_is (subst (λ (c : PlainCore). SubstitutedCore (instant n) (plain_core f.core) c) tree_is core_becomes);
       named = named;
       named_types = subst (λ (s : Instantiation). EachBecomes s (map plain_ty f.types) named) naming_is types_become;
@@ -253,4 +275,5 @@ module _ (sig : PlainSignature) (f : Found) (formed_in : IsFormedIn sig (plain_c
         read = read;
         no_hole = core-has-no-hole (families_of sig) g (tree_of scene) (subst (λ (c : PlainCore). CoreIsFormed (families_of sig) g c) tree_is core_formed);
       };
+      families = λ m a e. all-at (old ++ new_ones) all_families m a (sym (metas-are scene (old ++ new_ones) additions_are m) ∙ e);
     }

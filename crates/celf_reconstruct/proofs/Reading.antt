@@ -1,11 +1,13 @@
 -- The scene that is read of an item.
 use Rattle.std.proofs.Common.{ℕ, ◌+◌, ◌≡◌, ◌++◌, true, false, refl, sym, ap, subst, ◌∙◌, Option, Some, None, List, [], ◌∷◌, length, map, slice_get}
-use Rattle.std.proofs.lemmas.List.Elements.{All-append}
+use Rattle.std.proofs.lemmas.List.Elements.{All-append, All-cons, All-get_or, All-head, All-nil, All-tail}
+use Rattle.std.proofs.lemmas.Option.{get_or_from_slice_get, slice_get_within}
 use Rattle.std.specs.List.{All}
 use Rattle.clf_syntax.specs.TypeTree.{PlainType, SimpleType}
 use Rattle.clf_syntax.specs.Simple.{erase}
 use Rattle.clf_sig.specs.Entry.{PlainSignature, simple_types}
 use Rattle.clf_sig.specs.Core.{PlainCore}
+use Rattle.clf_rules.specs.WellFormed.{WellFormedSignature}
 use Rattle.store_laws.specs.Additions.{Addition, new, meta_types, given}
 use Rattle.store_laws.proofs.Lists.{types-append}
 use Rattle.metavars.specs.Stored.{Stored, constants, additions}
@@ -30,16 +32,20 @@ use Rattle.celf_filled.specs.States.{count, IsGrownBy}
 use Rattle.celf_filled.specs.Laws.{ReadsWithNew}
 use Rattle.celf_filled.specs.TypedFrom.{indices_of}
 use Rattle.filled_laws.specs.FreshTypes.{types_from, new_in_each}
-use Rattle.filled_laws.specs.Laws.{HasFamilies, TypesFrom}
+use Rattle.filled_laws.specs.Families.{HasFamilies}
+use Rattle.filled_laws.specs.Laws.{TypesFrom}
+use Rattle.filled_laws.proofs.Determined.{determined_have_families}
+use Rattle.filled_laws.proofs.FilledFamilies.{fillings_have_families}
+use Rattle.filled_laws.proofs.NewFamilies.{new_have_families}
 use Rattle.filled_laws.proofs.FinalIndices.{new_in_are_final, types_have_erasures}
 use Rattle.filled_laws.proofs.FreshTypes.{fresh_types_are_read}
 use Rattle.celf_solve.specs.declared.scene.Scene.{Scene}
 use Rattle.celf_solve.specs.Scenes.{tree_of, types_of, metas_in, IsFresh, IsScene}
 use Rattle.celf_reconstruct.specs.Trees.{determined_name, read_name, simple_types_read, IsItemTree}
-use Rattle.celf_reconstruct.specs.Known.{simple_or_unit, are_typed}
+use Rattle.celf_reconstruct.specs.Known.{simple_or_unit, are_known}
 use Rattle.celf_reconstruct.specs.Posed.{IsPosed, as_read}
 use Rattle.celf_reconstruct.specs.Steps.{HasScene}
-use Rattle.celf_reconstruct.proofs.Families.{all-families}
+use Rattle.celf_reconstruct.proofs.Families.{place_of, places-known}
 use Rattle.celf_reconstruct.proofs.Variables.{with_types, simple_of, AreTypesOf, types-of-typed, simple-of-typed, names-read, known_variable, simples-of-known, names-of-known, are-known}
 
 -- ---- stores in which nothing is solved
@@ -53,6 +59,10 @@ final-at ts all = (start_is_store [] ts [] all tt).final
 pub map-append : (ts us : List SimpleType) → map new ts ++ map new us ≡ map new (ts ++ us)
 map-append [] us = refl
 map-append (t ∷ ts) us = ap (λ (l : List Addition). new t ∷ l) (map-append ts us)
+
+-- What holds of each of a list holds at each number.
+pub all-at : {P : SimpleType → Type 0} (ts : List SimpleType) → All P ts → (m : ℕ) (a : SimpleType) → slice_get ts m ≡ Some a → P a
+all-at {P = P} ts all m a e = subst P (get_or_from_slice_get ts m a a e) (All-get_or P ts m a (slice_get_within ts m a e) all)
 
 -- A scene whose store has these metavariables alone, with final results, is fresh.
 pub is-fresh : (scene : Scene) (ts : List SimpleType) → additions scene.store ≡ map new ts → All HasFinalResult ts → IsFresh scene
@@ -72,12 +82,12 @@ pub record IsReadScene (sig : PlainSignature) (body : DesugaredBody) (xs : List 
   pub between : Stored
   pub constants_are : constants old ≡ simple_types sig ++ map simple_or_unit (map plain_implicit xs)
   pub nothing : additions old ≡ []
-  pub typed : are_typed sig xs ≡ true
+  pub typed : are_known xs ≡ true
   pub reads : (vs : List ImplicitVariable) → map plain_named xs ≡ map with_known_type vs → ReadsWithNew sig vs body old between (tree_of scene)
   pub types : types_of scene ≡ types_from (indices_of sig) (count between) (map simple_or_unit (map plain_implicit xs))
   pub grown : IsGrownBy between scene.store (new_in_each (indices_of sig) (map simple_or_unit (map plain_implicit xs)))
 
-module _ (sig : PlainSignature) (body : DesugaredBody) (xs : List Implicit) (all : AreAll sig body xs) (scene : Scene) (h : IsReadScene sig body xs scene) where
+module _ (sig : PlainSignature) (formed : WellFormedSignature sig) (body : DesugaredBody) (xs : List Implicit) (all : AreAll sig body xs) (scene : Scene) (h : IsReadScene sig body xs scene) where
   abbrev simples : List SimpleType
   simples = map simple_or_unit (map plain_implicit xs)
 
@@ -86,7 +96,7 @@ module _ (sig : PlainSignature) (body : DesugaredBody) (xs : List Implicit) (all
 
   known : map plain_named xs ≡ map with_known_type vs0
   unfolding vs0
-  known = are-known sig xs h.typed
+  known = are-known xs h.typed
 
   read : ReadsWithNew sig vs0 body h.old h.between (tree_of scene)
   read = h.reads vs0 known
@@ -151,6 +161,21 @@ module _ (sig : PlainSignature) (body : DesugaredBody) (xs : List Implicit) (all
     metavariables = λ m. metas-are scene (fs ++ more) additions_are m ∙ ap (λ (us : List SimpleType). slice_get (fs ++ new_in_each (indices_of sig) us) m) (sym simples_are);
   }
 
+  families_of_simples : All (HasFamilies sig) simples
+  families_of_simples = determined_have_families sig body simples formed (ap (map place_of) (sym all.found) ∙ places-known xs h.typed)
+
+  families_of_variables : All (λ (v : ImplicitVariable). HasFamilies sig v.type) vs0
+  unfolding vs0
+  families_of_variables = all_of xs families_of_simples
+    where
+      all_of : (ys : List Implicit) → All (HasFamilies sig) (map simple_or_unit (map plain_implicit ys)) → All (λ (v : ImplicitVariable). HasFamilies sig v.type) (map known_variable ys)
+      all_of [] a = All-nil (λ (v : ImplicitVariable). HasFamilies sig v.type)
+      all_of (y ∷ ys) a = All-cons (λ (v : ImplicitVariable). HasFamilies sig v.type) (known_variable y) (map known_variable ys)
+          (All-head (HasFamilies sig) (simple_or_unit (plain_implicit y)) (map simple_or_unit (map plain_implicit ys)) a) (all_of ys (All-tail (HasFamilies sig) (simple_or_unit (plain_implicit y)) (map simple_or_unit (map plain_implicit ys)) a))
+
+  all_families : All (HasFamilies sig) (fs ++ more)
+  all_families = All-append (HasFamilies sig) fs more (fillings_have_families sig (declared_heads sig) vs0 body read.fillings (tree_of scene) formed families_of_variables read.reading) (new_have_families sig formed simples families_of_simples)
+
   final : All HasFinalResult (fs ++ more)
   final = All-append HasFinalResult fs more (new_types_are_final.1 read.fillings) ((new_in_are_final (indices_of sig)).1 simples)
 
@@ -164,7 +189,7 @@ module _ (sig : PlainSignature) (body : DesugaredBody) (xs : List Implicit) (all
   is_scene = record {
     constants_are = constants_of_scene;
     fresh = is-fresh scene (fs ++ more) additions_are final;
-    read = λ x a e. fresh_types_are_read sig (types_of scene) (metas_in scene) (length fs) simples (all-families sig xs h.typed) numbered x a (ap (λ (as_ : List PlainType). slice_get as_ x) (sym types_are) ∙ e);
+    read = λ x a e. fresh_types_are_read sig (types_of scene) (metas_in scene) (length fs) simples families_of_simples numbered x a (ap (λ (as_ : List PlainType). slice_get as_ x) (sym types_are) ∙ e);
     no_hole = reading_has_no_hole sig (declared_heads sig) vs0 body read.fillings (tree_of scene) (count h.old) read.numbered read.reading;
   }
 
@@ -174,4 +199,5 @@ module _ (sig : PlainSignature) (body : DesugaredBody) (xs : List Implicit) (all
     variables = vs_names;
     posed = subst (λ (as_ : List PlainType). IsPosed sig body vs 0 as_ (metas_in scene) (tree_of scene)) (vs_types ∙ sym types_are) (as_read tree);
     is_scene = is_scene;
+    families = λ m a e. all-at (fs ++ more) all_families m a (sym (metas-are scene (fs ++ more) additions_are m) ∙ e);
   }

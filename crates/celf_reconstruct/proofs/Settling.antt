@@ -20,6 +20,7 @@ use Rattle.solver_laws.specs.Solving.{problem_of}
 use Rattle.elaboration_laws.specs.ItemSetting.{item_constants, ReadTypes}
 use Rattle.gathered_laws.specs.Formed.{CoreIsFormed as GatheredIsFormed}
 use Rattle.gathered_laws.proofs.CoresTyped.{gathered_core_is_typed}
+use Rattle.filled_laws.proofs.NewFamilies.{traced_have_families}
 use Rattle.celf_sugar.specs.PlainTree.{DesugaredBody, DesugaredItem}
 use Rattle.celf_implicit.specs.declared.variable.Implicit.{Implicit}
 use Rattle.celf_replies.specs.declared.reply.Why.{Why}
@@ -119,6 +120,7 @@ module _ (sig : PlainSignature) (formed : WellFormedSignature sig) (body : Desug
       formed = subst (λ (k : Assignment). CoreIsFormed (families_of sig) k (plain_core f.core)) in_store after.tree;
       each = subst (λ (k : Assignment). EachIsFormed (families_of sig) k (map plain_ty f.types)) in_store after.each;
       final = final;
+      families = traced_have_families sig (metas_in scene) now.metas now.given c.settled.settles.unified.traced c.settled.settles.unified.adds.grows h.families;
     };
   }
 

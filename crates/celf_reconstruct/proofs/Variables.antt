@@ -1,16 +1,15 @@
 -- Implicit variables with the types that are made for them.
-use Rattle.std.proofs.Common.{ℕ, ◌≡◌, Bool, true, refl, sym, ap, ◌∙◌, Option, None, Some, List, [], ◌∷◌, map, unwrap_or}
-use Rattle.clf_syntax.specs.TypeTree.{PlainType, SimpleType, simple_top}
+use Rattle.std.proofs.Common.{ℕ, ◌≡◌, Bool, true, refl, sym, ap, ◌∙◌, Option, None, Some, List, [], ◌∷◌, map}
+use Rattle.clf_syntax.specs.TypeTree.{PlainType, SimpleType}
 use Rattle.clf_syntax.specs.Simple.{erase}
-use Rattle.clf_sig.specs.Entry.{PlainSignature}
 use Rattle.celf_places.specs.Places.{Place}
 use Rattle.celf_implicit.specs.declared.variable.Implicit.{Implicit}
 use Rattle.celf_implicit.specs.Answers.{plain_implicit}
 use Rattle.celf_elaboration.specs.Names.{ImplicitVariable, TypedVariable, with_simple_type, types_read}
 use Rattle.celf_filled.specs.Scopes.{plain_named, with_known_type}
 use Rattle.celf_reconstruct.specs.Trees.{determined_name, read_name}
-use Rattle.celf_reconstruct.specs.Known.{simple_or_unit, is_simple_type, is_typed, are_typed}
-use Rattle.celf_reconstruct.proofs.Known.{both_true}
+use Rattle.celf_reconstruct.specs.Known.{simple_or_unit, is_known, are_known}
+use Rattle.celf_reconstruct.proofs.Families.{both_true, known-place}
 
 -- variables with these types
 abbrev pub with_types : List ImplicitVariable → List PlainType → List TypedVariable
@@ -57,16 +56,11 @@ pub names-of-known : (xs : List Implicit) → map determined_name (map plain_imp
 names-of-known [] = refl
 names-of-known (x ∷ xs) = ap (λ l. plain_named x ∷ l) (names-of-known xs)
 
-module _ (sig : PlainSignature) where
-  known-place : (p : Place) → is_simple_type sig p ≡ true → p ≡ Some (unwrap_or p simple_top)
-  known-place None e = absurd (cc)
-  known-place (Some t) e = refl
-
-  pub are-known : (xs : List Implicit) → are_typed sig xs ≡ true → map plain_named xs ≡ map with_known_type (map known_variable xs)
-  are-known [] e = refl
-  are-known (x ∷ xs) e =
-      let h = both_true (is_typed sig x) (are_typed sig xs) e in
-      both (ap (λ (p : Place). (x.name, p)) (known-place (plain_implicit x).place h.0)) (are-known xs h.1)
-    where
-      both : {a b : List ℕ × Place} {as_ bs : List (List ℕ × Place)} → a ≡ b → as_ ≡ bs → a ∷ as_ ≡ b ∷ bs
-      both e f = cc
+pub are-known : (xs : List Implicit) → are_known xs ≡ true → map plain_named xs ≡ map with_known_type (map known_variable xs)
+are-known [] e = refl
+are-known (x ∷ xs) e =
+    let h = both_true (is_known x) (are_known xs) e in
+    both (ap (λ (p : Place). (x.name, p)) (known-place (plain_implicit x).place h.0)) (are-known xs h.1)
+  where
+    both : {a b : List ℕ × Place} {as_ bs : List (List ℕ × Place)} → a ≡ b → as_ ≡ bs → a ∷ as_ ≡ b ∷ bs
+    both e f = cc

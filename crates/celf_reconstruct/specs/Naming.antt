@@ -1,6 +1,5 @@
 -- Inner: how a store is made in which metavariables are solved by constants.
-use Rattle.std.specs.Prelude.{ℕ, ◌+◌, ◌≡◌, ◌≤◌, ◌<◌, ◌==◌, List, ◌++◌, length, map, Some, None, Contains, Option, slice_get}
-use Rattle.std.specs.List.{All, position}
+use Rattle.std.specs.Prelude.{ℕ, ◌≡◌, ◌≤◌, ◌<◌, List, ◌++◌, map, Some, None, slice_get}
 use Rattle.clf_syntax.specs.declared.tree.Head.TheVariants.{Const}
 use Rattle.clf_syntax.specs.Tree.{head_alone}
 use Rattle.clf_syntax.specs.TypeTree.{PlainType, SimpleType}
@@ -11,12 +10,11 @@ use Rattle.clf_sig.specs.Core.{PlainCore, plain_core}
 use Rattle.store_laws.specs.Additions.{new, meta_types, given}
 use Rattle.metavars.specs.Stored.{Stored, constants, additions, IsPart}
 use Rattle.pattern_laws.specs.Instantiations.{Types}
-use Rattle.filled_laws.specs.Laws.{HasFamilies}
 use Rattle.celf_solve.specs.declared.scene.Scene.{Scene}
 use Rattle.celf_solve.specs.declared.scene.Found.{Found}
 use Rattle.celf_solve.specs.Scenes.{tree_of, types_of, metas_in, IsScene}
 use Rattle.celf_reconstruct.specs.Left.{metavariables_with, naming, IsNamed}
-use Rattle.celf_reconstruct.specs.Reconstructed.{IsSimpleType}
+use Rattle.celf_reconstruct.specs.Steps.{HaveFamilies}
 
 abbrev pub metas_of : Stored → List SimpleType
 metas_of s = meta_types (additions s)
@@ -52,16 +50,12 @@ pub record IsNamedUntil (first : ℕ) (left : List ℕ) (old : Stored) (count : 
   pub named : (m : ℕ) → m < count → given (additions s) m ≡ naming first (types_in old) left m
   pub later : (m : ℕ) → count ≤ m → given (additions s) m ≡ None
 
--- These are the simple types of the metavariables that are left, all of them over the signature.
-pub record AreSimples (sig : PlainSignature) (metas : Types) (left : List ℕ) (simples : List SimpleType) : Type 0 where
-  pub simple : map metas left ≡ map Some simples
-  pub families : All (HasFamilies sig) simples
-
--- One that is left has none.
-abbrev pub HasUntyped : PlainSignature → Types → List ℕ → Type 0
-HasUntyped sig metas left = (m : ℕ) × Contains left m × (IsSimpleType sig (metas m) → ⊥)
+-- These are the simple types of the metavariables that are left.
+abbrev pub AreSimples : Types → List ℕ → List SimpleType → Type 0
+AreSimples metas left simples = map metas left ≡ map Some simples
 
 -- What is found, with what is left as constants.
 pub record IsNamedScene (sig : PlainSignature) (f : Found) (simples : List SimpleType) (scene : Scene) : Type 0 where
   pub named : IsNamed sig (types_in f.store) (plain_core f.core) (map plain_ty f.types) simples (tree_of scene) (types_of scene) (metas_in scene)
   pub is_scene : IsScene sig scene
+  pub families : HaveFamilies sig (metas_in scene)

@@ -19,7 +19,6 @@ use Rattle.celf_explicit.specs.Explicit.{entry_of}
 use Rattle.celf_elaboration.specs.Names.{TypedVariable}
 use Rattle.celf_filled.specs.States.{State}
 use Rattle.celf_filled.specs.WalkItems.{fill_body}
-use Rattle.filled_laws.specs.Laws.{HasFamilies}
 use Rattle.celf_front.specs.Fronted.{IsInOrder, IsInCircle}
 use Rattle.celf_replies.specs.declared.reply.Why.{Why}
 use Rattle.celf_replies.specs.Reply.{PlainMismatch, PlainWhy, undetermined as undetermined_name, ill_typed, loose, circular, not_yet, plain_why}
@@ -108,18 +107,11 @@ pub record IsLoose (sig : PlainSignature) (body : DesugaredBody) (count : ℕ) :
 abbrev pub nothing_filled : List SimpleType → State
 nothing_filled constants = record { constants = constants; added = []; whole = true }
 
--- a simple type over the signature, if this is one
-abbrev pub IsSimpleType : PlainSignature → Option SimpleType → Type 0
-IsSimpleType sig None = ⊥
-IsSimpleType sig (Some t) = HasFamilies sig t
-
--- Something is left to be found of which no simple type over the signature is known. An implicit variable is determined where none is wanted; or, as it is read, the
--- item has a place for something to be filled in that has none itself, or stands under a local without one; or a metavariable is left that has none.
+-- Something is left to be found of which the simple type is not known: an implicit variable is determined where none is wanted; or, as it is read, the item has a place
+-- for something to be filled in that has none itself, or stands under a local without one.
 pub data HasNoTree (sig : PlainSignature) (body : DesugaredBody) : Type 0 where
-  untyped_variable : {x : PlainImplicit} → Contains (determined sig body) x → (IsSimpleType sig x.place → ⊥) → HasNoTree sig body
+  untyped_variable : {x : PlainImplicit} → Contains (determined sig body) x → x.place ≡ None → HasNoTree sig body
   untyped_place : {constants : List SimpleType} → (fill_body sig (map determined_name (determined sig body)) body (nothing_filled constants)).1.whole ≡ false → HasNoTree sig body
-  untyped_metavariable : {vs : List TypedVariable} {core : PlainCore} {types : List PlainType} {m : ℕ} (found : IsFound sig body vs 0 core types)
-      → Contains (metavariables_with core types) m → (IsSimpleType sig (found.now.metas m) → ⊥) → HasNoTree sig body
 
 abbrev pub IsSearch : DesugaredBody → Type 0
 IsSearch (declare n i c) = ⊥

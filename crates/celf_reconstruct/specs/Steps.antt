@@ -10,7 +10,7 @@ use Rattle.clf_sig.specs.Entry.{PlainSignature, PlainClass, simple_types}
 use Rattle.clf_sig.specs.Core.{PlainCore, plain_core}
 use Rattle.store_laws.specs.Additions.{meta_types}
 use Rattle.metavars.specs.Stored.{Stored, constants, additions}
-use Rattle.pattern_laws.specs.Instantiations.{closed}
+use Rattle.pattern_laws.specs.Instantiations.{Types, closed}
 use Rattle.pattern_laws.specs.Equations.{Equation}
 use Rattle.pattern_laws.specs.Patterns.{HasFinalResult}
 use Rattle.typing_laws.specs.SimpleTyping.{families_of}
@@ -19,6 +19,7 @@ use Rattle.celf_implicit.specs.declared.variable.Implicit.{Implicit}
 use Rattle.celf_implicit.specs.Rounds.{determined}
 use Rattle.celf_elaboration.specs.Names.{TypedVariable}
 use Rattle.celf_filled.specs.Scopes.{plain_named}
+use Rattle.filled_laws.specs.Families.{HasFamilies}
 use Rattle.celf_front.specs.Fronted.{IsInCircle}
 use Rattle.celf_replies.specs.declared.reply.Why.{Why}
 use Rattle.celf_replies.specs.Reply.{PlainMismatch, PlainWhy, plain_why, ill_typed, circular}
@@ -47,12 +48,17 @@ IsIllTyped why = (m : PlainMismatch) × (why ≡ ill_typed m)
 abbrev pub AreVariables : List TypedVariable → List Implicit → Type 0
 AreVariables vs xs = map plain_named xs ≡ map read_name vs
 
+-- The simple types of the metavariables have the families of the signature.
+abbrev pub HaveFamilies : PlainSignature → Types → Type 0
+HaveFamilies sig metas = (m : ℕ) (a : SimpleType) → metas m ≡ Some a → HasFamilies sig a
+
 -- A tree of the item is at hand.
 pub record HasScene (sig : PlainSignature) (body : DesugaredBody) (xs : List Implicit) (unnamed : ℕ) (scene : Scene) : Type 0 where
   pub vs : List TypedVariable
   pub variables : AreVariables vs xs
   pub posed : IsPosed sig body vs unnamed (types_of scene) (metas_in scene) (tree_of scene)
   pub is_scene : IsScene sig scene
+  pub families : HaveFamilies sig (metas_in scene)
 
 -- Why nothing comes of a tree, or memory or a number is wanting.
 abbrev pub UnsettledScene : PlainSignature → Scene → OrWide Why → Type 0
@@ -74,6 +80,7 @@ pub record IsFormedIn (sig : PlainSignature) (core : PlainCore) (types : List Pl
   pub formed : CoreIsFormed (families_of sig) (heads_of_store store) core
   pub each : EachIsFormed (families_of sig) (heads_of_store store) types
   pub final : (m : ℕ) (a : SimpleType) → slice_get (meta_types (additions store)) m ≡ Some a → HasFinalResult a
+  pub families : HaveFamilies sig (slice_get (meta_types (additions store)))
 
 -- What one of the item's trees comes to is at hand, with its store.
 pub record HasFound (sig : PlainSignature) (body : DesugaredBody) (xs : List Implicit) (unnamed : ℕ) (f : Found) : Type 0 where

@@ -16,11 +16,10 @@ ghost use Rattle.celf_reconstruct.specs.Steps.{HasFound, IsFor, IsWithinReach};
 
 use crate::declared::declare;
 use crate::left::metavariables;
-use crate::misfit::ill_typed;
 use crate::naming::{named, simples_left};
 use crate::settled::settled;
 use celf_implicit::Implicit;
-use celf_replies::{Mismatch, Why};
+use celf_replies::Why;
 use celf_solve::Found;
 use celf_sugar::Plain;
 use clf_sig::{Core, Signature};
@@ -115,23 +114,16 @@ fn again(
     requires some { left.now ≡ [] → ⊥ }
     ensures { IsReconstruction (plain_signature sig.now) (desugared_item plain.now) result }
 {
-    match simples_left(alloc, sig, &found.store, left)? {
-        Some(simples) => {
-            again_with(
-                alloc,
-                sig,
-                plain,
-                variables,
-                found,
-                left,
-                simples.as_slice(),
-            )
-        }
-        None => {
-            drop(found);
-            Err(ill_typed(Mismatch::NotClosed))
-        }
-    }
+    let simples = simples_left(alloc, &found.store, left)?;
+    again_with(
+        alloc,
+        sig,
+        plain,
+        variables,
+        found,
+        left,
+        simples.as_slice(),
+    )
 }
 
 /// The same, where these are their simple types.
@@ -150,7 +142,7 @@ fn again_with(
     requires declaration { IsDeclaration (plain_core found.core) }
     requires left { left.now ≡ metavariables_with (plain_core found.core) (map plain_ty found.types) }
     requires some { left.now ≡ [] → ⊥ }
-    requires simples { AreSimples (plain_signature sig.now) (types_in found.store) left.now (map plain_simple simples.now) }
+    requires simples { AreSimples (types_in found.store) left.now (map plain_simple simples.now) }
     ensures { IsReconstruction (plain_signature sig.now) (desugared_item plain.now) result }
 {
     let scene = named(alloc, sig, found, left, simples)?;

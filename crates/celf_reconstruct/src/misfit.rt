@@ -26,7 +26,7 @@ pub fn misfit(alloc: Global, sig: &Signature, store: &Store, core: &Core) -> OrW
 }
 
 /// That an item is ill typed for this.
-pub fn ill_typed(mismatch: Mismatch) -> OrWide<Why>
+fn ill_typed(mismatch: Mismatch) -> OrWide<Why>
     ensures { IsFor IsIllTyped result }
 {
     OrWide::Fault(Why::IllTyped(mismatch))

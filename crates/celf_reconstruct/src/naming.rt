@@ -1,6 +1,6 @@
 //! Metavariables that are left, as constants.
-ghost use Rattle.std.specs.Prelude.{◌≡◌, ◌+◌, ◌++◌, ◌==◌, ◌<◌, ◌≤◌, ℕ, [], None, map, length, option_map, option_copied, IfErr, IfOk, OnOk};
-ghost use Rattle.std.specs.List.{position};
+ghost use Rattle.std.specs.Prelude.{◌≡◌, ◌+◌, ◌++◌, ◌==◌, ◌<◌, ◌≤◌, ℕ, Some, None, map, length, IfErr, IfOk, OnOk};
+ghost use Rattle.std.specs.List.{All, position};
 ghost use Rattle.clf_syntax.specs.declared.tree.Head.TheVariants.{Const};
 ghost use Rattle.clf_syntax.specs.Tree.{head_alone};
 ghost use Rattle.clf_syntax.specs.Plain.{plain_obj};
@@ -9,16 +9,16 @@ ghost use Rattle.clf_syntax.specs.PlainTypes.{plain_ty};
 ghost use Rattle.clf_syntax.specs.Wide.{IsWant};
 ghost use Rattle.clf_sig.specs.Core.{plain_core};
 ghost use Rattle.clf_sig.specs.Signature.{plain_signature};
+ghost use Rattle.clf_rules.specs.WellFormed.{WellFormedSignature};
 ghost use Rattle.eta_laws.specs.Eta.{expansion};
 ghost use Rattle.store_laws.specs.Additions.{given};
 ghost use Rattle.metavars.specs.Stored.{additions, constants};
 ghost use Rattle.celf_filled.specs.States.{IsGrownBy};
-ghost use Rattle.celf_reconstruct.specs.Known as spec;
+ghost use Rattle.celf_reconstruct.specs.Known.{HasSimple};
 ghost use Rattle.celf_reconstruct.specs.Left.{metavariables_with, naming};
 ghost use Rattle.celf_reconstruct.specs.Naming.{AreSimples, IsNamedScene, IsNamedUntil, IsSolvedBy, IsUnsolvedWith, NamesOne, metas_of, types_in};
 ghost use Rattle.celf_reconstruct.specs.Steps.{IsFormedIn};
 
-use crate::known::has_families;
 use crate::read::add_types;
 use celf_solve::{Found, Scene, put_in};
 use clf_sig::Signature;
@@ -28,37 +28,26 @@ use metavars::Store;
 use sqlite_items::Items;
 use std::alloc::{AllocError, Global};
 
-/// The simple types of the metavariables that are left; none where one of them has no simple type over the signature.
-pub fn simples_left(
-    alloc: Global,
-    sig: &Signature,
-    store: &Store,
-    left: &[u32],
-) -> Result<Option<Items<Simple>>, AllocError>
-    ensures { IfOk result (λ found.
-        option_map (λ simples. map plain_simple simples) found
-        ≡ spec.known_simples (plain_signature sig.now) (types_in store.now) [] left.now) }
+/// The simple types of the metavariables that are left.
+pub fn simples_left(alloc: Global, store: &Store, left: &[u32]) -> Result<Items<Simple>, AllocError>
+    requires known { All (HasSimple (types_in store.now)) left.now }
+    ensures { IfOk result (λ simples. AreSimples (types_in store.now) left.now (map plain_simple simples)) }
 {
     let mut simples = Items::new(alloc);
     for meta in left {
-        match simple_left(sig, store, *meta) {
-            Some(simple) => simples.push(simple.copy(alloc)?)?,
-            None => return Ok(None),
-        }
+        simples.push(simple_of_meta(store, *meta).copy(alloc)?)?;
     }
-    Ok(Some(simples))
+    Ok(simples)
 }
 
-/// That of one metavariable.
-fn simple_left<'a>(sig: &Signature, store: &'a Store, meta: u32) -> Option<&'a Simple>
-    ensures { option_map plain_simple (option_copied result)
-        ≡ spec.known_simple (plain_signature sig.now) (types_in store.now meta) }
+/// That of a metavariable.
+fn simple_of_meta(store: &Store, meta: u32) -> &Simple
+    requires known { HasSimple (types_in store.now) meta }
+    ensures { types_in store.now meta ≡ Some (plain_simple result.now) }
 {
-    let simple = store.metas().get(meta as usize)?;
-    if has_families(simple, sig) {
-        Some(simple)
-    } else {
-        None
+    match store.metas().get(meta as usize) {
+        Some(simple) => simple,
+        None => unreachable!(),
     }
 }
 
@@ -71,9 +60,10 @@ pub fn named(
     left: &[u32],
     simples: &[Simple],
 ) -> Result<Scene, Want>
+    requires signature { WellFormedSignature (plain_signature sig.now) }
     requires formed { IsFormedIn (plain_signature sig.now) (plain_core found.core) (map plain_ty found.types) found.store }
     requires left { left.now ≡ metavariables_with (plain_core found.core) (map plain_ty found.types) }
-    requires simples { AreSimples (plain_signature sig.now) (types_in found.store) left.now (map plain_simple simples.now) }
+    requires simples { AreSimples (types_in found.store) left.now (map plain_simple simples.now) }
     ensures scene { IfOk result (IsNamedScene (plain_signature sig.now) found (map plain_simple simples.now)) }
     ensures wanting { IfErr result IsWant }
 {

@@ -5,6 +5,7 @@ ghost use Rattle.clf_syntax.specs.PlainSimple.{plain_simple};
 ghost use Rattle.clf_syntax.specs.Wide.{IsWant};
 ghost use Rattle.clf_sig.specs.Entry.{simple_types};
 ghost use Rattle.clf_sig.specs.Signature.{plain_signature};
+ghost use Rattle.clf_rules.specs.WellFormed.{WellFormedSignature};
 ghost use Rattle.celf_sugar.specs.Plain.{desugared_item};
 ghost use Rattle.celf_implicit.specs.Answers.{AreAll, plain_implicit};
 ghost use Rattle.celf_filled.specs.States.{IsGrownBy, count};
@@ -13,7 +14,7 @@ ghost use Rattle.filled_laws.specs.FreshTypes.{types_from, new_in_each};
 ghost use Rattle.celf_reconstruct.specs.Known.{simple_or_unit};
 ghost use Rattle.celf_reconstruct.specs.Steps.{Declined, HasScene};
 
-use crate::known::are_typed;
+use crate::known::are_known;
 use crate::misfit::misfit;
 use celf_filled::{Filled, read_filled, typed_from};
 use celf_implicit::Implicit;
@@ -33,6 +34,7 @@ pub fn read(
     plain: &Plain,
     variables: &[Implicit],
 ) -> Result<Scene, OrWide<Why>>
+    requires formed { WellFormedSignature (plain_signature sig.now) }
     requires all { AreAll (plain_signature sig.now) (desugared_item plain.now).body variables.now }
     ensures scene { IfOk result
         (HasScene (plain_signature sig.now) (desugared_item plain.now).body variables.now 0) }
@@ -41,7 +43,7 @@ pub fn read(
     let simples = simples_of(alloc, sig, variables)?;
     let mut store = Store::new(alloc, simples.as_slice())?;
     let Filled { core, whole } = read_filled(sig, variables, &mut store, &plain.body)?;
-    if !whole || !are_typed(sig, variables) {
+    if !whole || !are_known(variables) {
         let why = misfit(alloc, sig, &store, &core);
         drop(core);
         return Err(why);
