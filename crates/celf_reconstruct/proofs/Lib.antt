@@ -7,3 +7,4 @@ pub mod Naming
 pub mod NoHole
 pub mod NamedScene
 pub mod Answering
+pub mod Leading
