@@ -7,4 +7,3 @@ pub mod Naming
 pub mod NoHole
 pub mod NamedScene
 pub mod Answering
-pub mod Leading

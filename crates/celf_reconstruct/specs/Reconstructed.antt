@@ -57,7 +57,7 @@ pub record AreBinders (sig : PlainSignature) (body : DesugaredBody) (named unnam
 -- as are written so.
 pub record IsDeclared (sig : PlainSignature) (types : List PlainType) (binders : List ℕ) (written : ℕ) (class : PlainClass) (e : PlainEntry) : Type 0 where
   pub in_order : IsInOrder (length sig) types binders class e.class
-  pub implicit : e.implicit ≡ length binders + written
+  pub implicit : e.implicit ≡ length types + written
   -- There are no more than can be counted.
   pub counted : e.implicit < 2 ^ 32
 

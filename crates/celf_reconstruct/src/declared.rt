@@ -129,7 +129,7 @@ fn declared(
         Fronted::Under(class) => {
             let written = entry.implicit;
             drop(entry);
-            Ok(counted(alloc, binders, written, class)?)
+            Ok(counted(alloc, types, written, class)?)
         }
         Fronted::Circle(circle) => {
             drop(entry);
@@ -138,12 +138,12 @@ fn declared(
     }
 }
 
-/// The entry of a class, in which these binders are implicit beside as many arguments as are written so.
-fn counted(alloc: Global, binders: &[u32], written: u32, class: Class) -> Result<Entry, Want>
-    ensures entry { IfOk result (λ e. e ≡ record { implicit = length binders.now + written; class = class }) }
+/// The entry of a class, in which binders of these types are implicit beside as many arguments as are written so.
+fn counted(alloc: Global, types: &[Ty], written: u32, class: Class) -> Result<Entry, Want>
+    ensures entry { IfOk result (λ e. e ≡ record { implicit = length types.now + written; class = class }) }
     ensures wide { IfErr result IsWant }
 {
-    match u32::try_from(binders.len() as u64 + u64::from(written)) {
+    match u32::try_from(types.len() as u64 + u64::from(written)) {
         Ok(implicit) => Ok(Entry { implicit, class }),
         Err(_) => {
             drop(class);
