@@ -3,10 +3,9 @@ use Rattle.std.proofs.Common.{subst}
 use Rattle.std.proofs.lemmas.List.Elements.{All-cons, All-nil}
 use Rattle.std.specs.List.{All, cons_option, filter, filter_map, find}
 use Rattle.std.specs.Option.{option_and_then, option_map}
-use Rattle.std.specs.Prelude.{Bool, List, None, Option, Some, [], cond, false, get_or, if◌then◌else◌, length, map, nat_lt, slice_get, suc, true, zero, ℕ, ◌++◌, ◌∷◌, ◌≡◌}
+use Rattle.std.specs.Prelude.{Bool, List, None, Option, Some, [], cond, false, if◌then◌else◌, length, map, nat_lt, slice_get, suc, true, zero, ℕ, ◌++◌, ◌∷◌, ◌≡◌}
 use Rattle.clf_syntax.specs.TypeTree.{SimpleType, arrow}
 use Rattle.clf_syntax.specs.declared.tree.Mode.{Mode}
-use Rattle.clf_syntax.specs.declared.tree.Mode.TheVariants.{Linear}
 use Rattle.clf_sig.specs.Entry.{PlainSignature, entry_at, simple_types}
 use Rattle.clf_rules.specs.WellFormed.{WellFormedSignature}
 use Rattle.celf_surface.specs.declared.surface.SMode.{SMode}
@@ -20,9 +19,9 @@ use Rattle.celf_places.specs.Heads.{Local, Typed, arguments_of, local_from}
 use Rattle.celf_places.specs.Places.{Place, behind_act, behind_spine, entries_at, function_parts, marked, next_part, pair_parts}
 use Rattle.celf_places.specs.SimpleTypes.{local_of, simple_type}
 use Rattle.celf_implicit.specs.Occurrences.{AppliedLocal, Occurrence, after_step, after_steps, applied_local, are_distinct, at_head, distinct_locals, in_act, in_class, in_indices, in_object, in_spine, in_steps, in_telescope, in_tuple, in_type, inside, local_argument, local_named, locals_applied_to, occurrences, where_distinct, written_parts}
-use Rattle.celf_implicit.specs.Rounds.{after_rounds, at_distinct, determined, determined_by, first_of_each, found, from_locals, is_open, is_other, round, start}
+use Rattle.celf_implicit.specs.Rounds.{after_rounds, at_distinct, determined, determined_by, first_of_each, found, from_locals, is_open, is_other, start}
 use Rattle.celf_implicit.specs.Scopes.{Binders, Scope, bind, bind_pattern, outermost, under}
-use Rattle.celf_implicit.specs.Variables.{PlainImplicit, after_arguments, constant_or, constant_place, has_name, head_place, is_variable, left_out, local_or, variable_place}
+use Rattle.celf_implicit.specs.Variables.{PlainImplicit, after_arguments, constant_or, has_name, head_place, is_variable, left_out, local_or, variable_place}
 use Rattle.filled_laws.specs.Families.{HasFamilies}
 use Rattle.filled_laws.specs.Laws.{DeterminedHaveFamilies}
 use Rattle.filled_laws.proofs.Places.{EntriesOver, HeadOver, IsOver, LocalsOver, arguments_over, codomain_over, constant_over, domain_over, dropped_over, entries_over, left_over, local_from_over, local_over, next_over, right_over, spine_over, type_over}
@@ -105,11 +104,11 @@ module _ (sig : PlainSignature) where
 
   variable_over : (xs : List PlainImplicit) (n : List ℕ) → VariablesOver xs → IsOver sig (variable_place xs n)
   variable_over [] n h = tt
-  variable_over (x ∷ xs) n h = here (has_name n x)
+  variable_over (x ∷ xs) n h = here (has_name n x) (variable_over xs n h.1)
     where
-      here : (b : Bool) → IsOver sig (if b then x.place else variable_place xs n)
-      here true = h.0
-      here false = variable_over xs n h.1
+      here : (b : Bool) → IsOver sig (variable_place xs n) → IsOver sig (if b then x.place else variable_place xs n)
+      here true k = h.0
+      here false k = k
 
   after_over : (n : ℕ) (p : Place) → IsOver sig p → IsOver sig (after_arguments n p)
   after_over zero p h = h
@@ -150,6 +149,9 @@ module _ (sig : PlainSignature) where
         here true = ((k, h), tt)
         here false = tt
 
+    behind_over : (t : Place) (a : DesugaredAct) → IsOver sig t → IsOver sig (behind_act t a)
+    behind_over t a k = spine_over sig t (and_then a end_of_spine) k
+
     mutual
       object_over : (s : Scope) (t : Place) (o : DesugaredObject) → ScopeOver s → IsOver sig t → OccurrencesOver (in_object sig xs s t o)
       object_over s t (lam p m n b) h k = object_over (under (marked m (function_parts t).mode) (n, (function_parts t).domain) s) (function_parts t).codomain b (domain_over sig t k, h) (codomain_over sig t k)
@@ -166,9 +168,6 @@ module _ (sig : PlainSignature) where
       acts_over : (s : Scope) (t : Place) (es : DesugaredSpine) → ScopeOver s → IsOver sig t → OccurrencesOver (in_spine sig xs s t es)
       acts_over s t end_of_spine h k = tt
       acts_over s t (and_then a es) h k = both_over (in_act sig xs s t a) (in_spine sig xs s (behind_act t a) es) (one_act_over s t a h k) (acts_over s (behind_act t a) es h (behind_over t a k))
-
-      behind_over : (t : Place) (a : DesugaredAct) → IsOver sig t → IsOver sig (behind_act t a)
-      behind_over t a k = spine_over sig t (and_then a end_of_spine) k
 
       one_act_over : (s : Scope) (t : Place) (a : DesugaredAct) → ScopeOver s → IsOver sig t → OccurrencesOver (in_act sig xs s t a)
       one_act_over s t (argument m o) h k = object_over s (function_parts t).domain o h (domain_over sig t k)

@@ -1,6 +1,6 @@
 -- The simple types of what is filled in have the families of the signature.
 use Rattle.std.proofs.Common.{ap, subst, sym, ◌∙◌}
-use Rattle.std.proofs.lemmas.List.Elements.{All-append, All-cons, All-head, All-nil, All-tail}
+use Rattle.std.proofs.lemmas.List.Elements.{All-append, All-head, All-nil, All-tail}
 use Rattle.std.specs.List.{All}
 use Rattle.std.specs.Option.{option_map, option_or}
 use Rattle.std.specs.Prelude.{Bool, List, None, Option, Some, [], false, if◌then◌else◌, map, refl, true, ℕ, ◌++◌, ◌+◌, ◌∷◌, ◌≡◌}
@@ -11,7 +11,7 @@ use Rattle.clf_syntax.specs.Word.{same_bytes}
 use Rattle.clf_syntax.specs.declared.tree.Head.{Head}
 use Rattle.clf_syntax.specs.declared.tree.Mode.{Mode}
 use Rattle.clf_sig.specs.Core.{PlainCore}
-use Rattle.clf_sig.specs.Entry.{PlainSignature, entry_at, family_kind, simple_types}
+use Rattle.clf_sig.specs.Entry.{PlainSignature, family_kind}
 use Rattle.clf_rules.specs.WellFormed.{WellFormedSignature}
 use Rattle.typing_laws.specs.SimpleTyping.{families_of}
 use Rattle.pattern_laws.specs.Equations.{Locals}
@@ -21,8 +21,8 @@ use Rattle.celf_sugar.specs.declared.plain.PBinder.{PBinder}
 use Rattle.celf_sugar.specs.declared.plain.PName.{PName}
 use Rattle.celf_names.specs.Names.{constant_named}
 use Rattle.celf_places.specs.Heads.{Typed, local_from}
-use Rattle.celf_places.specs.Places.{Place, entries_at, function_parts, marked, next_part, pair_parts}
-use Rattle.celf_elaboration.specs.Fillings.{Filling, Fillings, KnownLocals, Scoped, types_of_new}
+use Rattle.celf_places.specs.Places.{Place, entries_at, marked, next_part}
+use Rattle.celf_elaboration.specs.Fillings.{Fillings, KnownLocals, Scoped, types_of_new}
 use Rattle.celf_elaboration.specs.Items.{ReadsBody, reads_check, reads_constant_declaration, reads_equation, reads_family_declaration, reads_query, reads_trace}
 use Rattle.celf_elaboration.specs.Names.{ImplicitVariable, Meaning, all_arguments, as_local, constant_meaning, implicit_from, meaning}
 use Rattle.celf_elaboration.specs.Readings.{ReadsFilled, ReadsHead, ReadsImplicit, ReadsIndices, ReadsObject, ReadsSpine, ReadsSteps, ReadsTelescope, ReadsTuple, ReadsType, filled_next, filled_none, implicit_next, implicit_none, indices_beyond, indices_next, indices_none, reads_atomic, reads_binding, reads_both, reads_dropped, reads_end, reads_family, reads_function, reads_head, reads_hole, reads_lam, reads_monad, reads_monadic, reads_pair, reads_top, reads_unit, spine_argument, spine_end, spine_first, spine_second, steps_next, steps_none, tuple_end, tuple_entry, with_pattern}
@@ -88,11 +88,11 @@ module _ (sig : PlainSignature) where
 
     as_implicit : (x : ℕ) (name : List ℕ) (ws : List ImplicitVariable) → All (λ v. HasFamilies sig v.type) ws → MeaningOver (implicit_from heads x name ws)
     as_implicit x name [] h = tt
-    as_implicit x name (v ∷ ws) h = here (same_bytes name v.name)
+    as_implicit x name (v ∷ ws) h = here (same_bytes name v.name) (as_implicit (x + 1) name ws (All-tail (λ v. HasFamilies sig v.type) v ws h))
       where
-        here : (b : Bool) → MeaningOver (if b then Some (record { head = heads x; place = Some v.type; implicit = 0 }) else implicit_from heads (x + 1) name ws)
-        here true = All-head (λ v. HasFamilies sig v.type) v ws h
-        here false = as_implicit (x + 1) name ws (All-tail (λ v. HasFamilies sig v.type) v ws h)
+        here : (b : Bool) → MeaningOver (implicit_from heads (x + 1) name ws) → MeaningOver (if b then Some (record { head = heads x; place = Some v.type; implicit = 0 }) else implicit_from heads (x + 1) name ws)
+        here true k = All-head (λ v. HasFamilies sig v.type) v ws h
+        here false k = k
 
     meaning_over : (ls : List Scoped) (n : PName) → ScopedOver ls → MeaningOver (meaning sig heads vs ls n)
     meaning_over ls n h = here n.dollar
@@ -151,7 +151,7 @@ module _ (sig : PlainSignature) where
     indices_over (indices_beyond {fs = fs} {gs = gs} {hs = hs} p q e) h k = both_over fs gs hs e (object_over p h tt) (indices_over q h k)
 
     kind_have : (f : ℕ) (k : PlainKind) → family_kind sig f ≡ Some k → All (HasFamilies sig) (map erase k)
-    kind_have f k e = subst (All (HasFamilies sig)) (the_types (sym (has_indices sig (map erase k) e') ∙ e')) (indices_have sig formed f)
+    kind_have f k e = subst (All (HasFamilies sig)) (the_types (sym (has_indices sig f (map erase k) e') ∙ e')) (indices_have sig formed f)
       where
         e' : families_of sig f ≡ Some (map erase k)
         e' = ap (option_map (map erase)) e
@@ -162,7 +162,7 @@ module _ (sig : PlainSignature) where
     mutual
       type_over : {ls : List Scoped} {t : DesugaredType} {fs : Fillings} {a : PlainType} → ReadsType sig heads vs ls t fs a → ScopedOver ls → FillingsOver fs × HasFamilies sig (erase a)
       type_over (reads_family {f = f} {k = k} {fs = fs} {gs = gs} {hs = hs} i j p q e) h = let (x, y) = filled_over p h (kind_have f k j) in
-          (both_over fs gs hs e x (indices_over q h y), has_indices sig (map erase k) (ap (option_map (map erase)) j))
+          (both_over fs gs hs e x (indices_over q h y), has_indices sig f (map erase k) (ap (option_map (map erase)) j))
       type_over (reads_function {fs = fs} {gs = gs} {hs = hs} p q e) h = let (x1, y1) = type_over p h in let (x2, y2) = type_over q (y1, h) in (both_over fs gs hs e x1 x2, (y1, y2))
       type_over (reads_both {fs = fs} {gs = gs} {hs = hs} p q e) h = let (x1, y1) = type_over p h in let (x2, y2) = type_over q h in (both_over fs gs hs e x1 x2, (y1, y2))
       type_over reads_top h = (tt, tt)

@@ -2,7 +2,7 @@
 use Rattle.std.proofs.Common.{arith, subst, sym, ⊎_elim, ◌∙◌}
 use Rattle.std.proofs.lemmas.List.Elements.{All-append, All-cons, All-head, All-nil, All-tail}
 use Rattle.std.specs.List.{All}
-use Rattle.std.specs.Prelude.{Bool, List, Some, [], false, if◌then◌else◌, map, suc, true, zero, ℕ, ◌++◌, ◌<◌, ◌∷◌, ◌≡◌}
+use Rattle.std.specs.Prelude.{Bool, List, Some, [], false, if◌then◌else◌, map, suc, true, zero, ℕ, ◌<◌, ◌∷◌, ◌≡◌}
 use Rattle.clf_syntax.specs.TypeTree.{SimpleTelescope, SimpleType, arrow, base, lax, simple_binding, simple_end, simple_top, simple_with}
 use Rattle.clf_syntax.specs.declared.tree.Mode.{Mode}
 use Rattle.clf_sig.specs.Entry.{PlainSignature}
@@ -14,7 +14,7 @@ use Rattle.pattern_laws.specs.Instantiations.{Types}
 use Rattle.pattern_laws.specs.Patterns.{Place, arrows, masked}
 use Rattle.unify_laws.specs.Problems.{Grows}
 use Rattle.unify_laws.specs.Progress.{CameFrom, Traced}
-use Rattle.metavars.specs.Fresh.{Local, Scope, binder, functions, new_types, scope_of}
+use Rattle.metavars.specs.Fresh.{Scope, binder, functions, new_types, scope_of}
 use Rattle.celf_places.specs.Heads.{arguments_of}
 use Rattle.celf_filled.specs.FormedTypes.{EachHasIndices}
 use Rattle.celf_filled.specs.TypedFrom.{indices_of, new_in, new_in_telescope, new_of_each, type_of_entry}
@@ -112,15 +112,15 @@ module _ (sig : PlainSignature) where
     -- the metavariables before a number
     traced_below : (n k : ℕ) → k < n → (a : SimpleType) → metas k ≡ Some a → HasFamilies sig a
     traced_below zero k l a e = absurd (omega (arith, l))
-    traced_below (suc n) k l a e = ⊎_elim old came (traced k a e)
+    traced_below (suc n) k l a e = ⊎_elim old (came (λ j i b f. traced_below n j i b f)) (traced k a e)
       where
         old : (b : SimpleType) × (start k ≡ Some b) → HasFamilies sig a
         old (b, i) = subst (HasFamilies sig) (the_type (sym (grows k b i) ∙ e)) (have k b i)
 
-        came : (j : ℕ) × CameFrom metas given k j → HasFamilies sig a
-        came (j, c) =
+        came : ((j : ℕ) → j < n → (b : SimpleType) → metas j ≡ Some b → HasFamilies sig b) → (j : ℕ) × CameFrom metas given k j → HasFamilies sig a
+        came earlier (j, c) =
             let b : j < k = c.before in
-            let (x, y) = of_arrows c.places c.result (traced_below n j (omega (arith, l, b)) (arrows c.places c.result) c.older) in
+            let (x, y) = of_arrows c.places c.result (earlier j (omega (arith, l, b)) (arrows c.places c.result) c.older) in
             subst (HasFamilies sig) (the_type (sym c.newer ∙ e)) (to_arrows (masked 0 c.mask c.places) c.result (masked_have 0 c.mask c.places x) y)
 
 pub traced_have_families : TracedHaveFamilies

@@ -1,13 +1,13 @@
 -- The simple types at places of an item have the families of the signature.
 use Rattle.std.proofs.Common.{ap, subst, sym, ⊎_elim}
-use Rattle.std.specs.List.{drop, slice_get}
+use Rattle.std.specs.List.{slice_get}
 use Rattle.std.specs.Option.{option_map}
-use Rattle.std.specs.Prelude.{Bool, List, None, Option, Some, [], false, if◌then◌else◌, map, refl, suc, true, zero, ℕ, ◌+◌, ◌∷◌, ◌≡◌}
+use Rattle.std.specs.Prelude.{Bool, List, None, Option, Some, [], drop, false, if◌then◌else◌, map, refl, suc, true, zero, ℕ, ◌+◌, ◌∷◌, ◌≡◌}
 use Rattle.clf_syntax.specs.Simple.{SimplyFormedKind, erase, extended, Assignment}
 use Rattle.clf_syntax.specs.TypeTree.{PlainKind, PlainType, SimpleTelescope, SimpleType, arrow, base, lax, simple_binding, simple_end, simple_top, simple_with}
 use Rattle.clf_syntax.specs.declared.tree.Head.TheVariants.{Var}
 use Rattle.clf_syntax.specs.declared.tree.Mode.{Mode}
-use Rattle.clf_sig.specs.Entry.{PlainEntry, PlainSignature, constant_type, entry_at, family_kind, simple_types}
+use Rattle.clf_sig.specs.Entry.{PlainSignature, constant_type, family_kind, simple_types}
 use Rattle.clf_rules.proofs.Signatures.{entries_well_formed}
 use Rattle.clf_rules.specs.WellFormed.{WellFormedSignature}
 use Rattle.typing_laws.proofs.FormedTypes.{well_formed_is_simply_formed}
@@ -114,7 +114,7 @@ module _ (sig : PlainSignature) where
 
   family_over : (p : Option ℕ) → ((f : ℕ) → p ≡ Some f → (k : PlainKind) × (family_kind sig f ≡ Some k)) → IsOver (option_map base p)
   family_over None g = tt
-  family_over (Some f) g = let (k, e) = g f refl in has_indices sig (map erase k) (ap (option_map (map erase)) e)
+  family_over (Some f) g = let (k, e) = g f refl in has_indices sig f (map erase k) (ap (option_map (map erase)) e)
 
   monad_over : (p : Option SimpleTelescope) → TelescopeOver p → IsOver (option_map lax p)
   monad_over None h = tt

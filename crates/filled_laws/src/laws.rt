@@ -12,7 +12,7 @@ pub fn fresh()
 {}
 
 /// The simple types of implicit variables and of metavariables have the families of the signature.
-pub fn families()
+pub fn over_signature()
     ensures formed { FormedTypesHaveIndices }
     ensures determined { DeterminedHaveFamilies }
     ensures fresh { NewHaveFamilies }

@@ -3,7 +3,7 @@ use Rattle.std.specs.Prelude.{ℕ, ◌≡◌, List, map}
 use Rattle.std.specs.List.{All, slice_get}
 use Rattle.clf_syntax.specs.declared.tree.Head.{Head}
 use Rattle.clf_syntax.specs.TypeTree.{PlainType, PlainTelescope, PlainKind, SimpleType}
-use Rattle.clf_syntax.specs.Simple.{Assignment, Families, extended_over, SimplyFormed, SimplyFormedTelescope, SimplyFormedKind, SimplyFormedContext}
+use Rattle.clf_syntax.specs.Simple.{Families, extended_over, SimplyFormed, SimplyFormedTelescope, SimplyFormedKind, SimplyFormedContext}
 use Rattle.use_contexts.specs.Context.{Context}
 use Rattle.clf_sig.specs.Entry.{PlainSignature}
 use Rattle.clf_sig.specs.Core.{PlainCore}

@@ -2,7 +2,7 @@ use Rattle.filled_laws.proofs.Determined.{determined_have_families}
 use Rattle.filled_laws.proofs.Families.{formed_types_have_indices}
 use Rattle.filled_laws.proofs.FilledFamilies.{fillings_have_families}
 use Rattle.filled_laws.proofs.NewFamilies.{new_have_families, traced_have_families}
-use Rattle.filled_laws.proofs.laws.families.Goals as goal
+use Rattle.filled_laws.proofs.laws.over_signature.Goals as goal
 
 pub returns-clause-formed : goal.returns-clause-formed
 returns-clause-formed c = formed_types_have_indices
