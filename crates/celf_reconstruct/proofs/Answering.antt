@@ -24,7 +24,11 @@ use Rattle.celf_elaboration.specs.Items.{ReadsBody, reads_family_declaration, re
 use Rattle.celf_elaboration.specs.Names.{ImplicitVariable, TypedVariable, with_simple_type, types_read}
 use Rattle.celf_filled.specs.Scopes.{plain_named}
 use Rattle.celf_filled.specs.TypedFrom.{indices_of, new_in}
+use Rattle.celf_filled.specs.States.{State, state_of}
 use Rattle.celf_filled.specs.WalkItems.{fill_body}
+use Rattle.store_laws.specs.Additions.{Addition}
+use Rattle.metavars.specs.Stored.{Stored, constants, additions}
+use Rattle.celf_reconstruct.proofs.Variables.{names-of-known}
 use Rattle.filled_laws.specs.FreshTypes.{types_from}
 use Rattle.celf_replies.specs.declared.reply.Why.{Why}
 use Rattle.celf_replies.specs.Reply.{PlainWhy, plain_why, ill_typed, loose, circular}
@@ -36,9 +40,10 @@ use Rattle.celf_reconstruct.specs.Trees.{determined_name, read_name, IsItemTree}
 use Rattle.celf_reconstruct.specs.Left.{metavariables_with, IsNamed}
 use Rattle.celf_reconstruct.specs.Posed.{IsDeclaration, IsNamedTree, IsPosed, as_read, as_named}
 use Rattle.celf_reconstruct.specs.Naming.{types_in, AreSimples, IsNamedScene}
-use Rattle.celf_reconstruct.specs.Reconstructed.{IsFound, IsCheck, IsSearch, IsTest, AreBinders, IsDeclared, Reconstructs, found_check, found_declaration, name_of, variable_name, nothing_filled, HasNoTree, untyped_variable, untyped_place, Declines, no_tree, left_loose, in_a_circle, IsReconstruction}
+use Rattle.celf_reconstruct.specs.Reconstructed.{IsFound, IsCheck, IsSearch, IsTest, AreBinders, IsDeclared, Reconstructs, found_check, found_declaration, name_of, variable_name, Declines, no_tree, left_loose, in_a_circle, IsReconstruction}
 use Rattle.celf_reconstruct.specs.Steps.{Declined, IsFor, IsIllTyped, AreVariables, HasScene, HasFound, AreWithin, name_in, variable_of, IsCircular, IsWithinReach}
 use Rattle.celf_reconstruct.proofs.Families.{HasUntypedOne}
+use Rattle.celf_reconstruct.proofs.NoTree.{HasNoTree, untyped_variable, untyped_place, nothing_filled, no-tree}
 
 -- ---- lengths
 
@@ -159,12 +164,26 @@ module _ (sig : PlainSignature) (body : DesugaredBody) (reach : IsWithinReach si
 
 module _ (sig : PlainSignature) (item : DesugaredItem) (xs : List Implicit) where
   pub ill-typed-for : (fault : OrWide Why) → HasNoTree sig item.body → IsFor IsIllTyped fault → Declined sig item fault
-  ill-typed-for (Fault why) no h = let (m, e) = h in subst (Declines sig item.body) (sym e) (no_tree no)
+  ill-typed-for (Fault why) no h = let (m, e) = h in subst (Declines sig item.body) (sym e) (no_tree (no-tree sig item.body no))
   ill-typed-for NoMemory no h = tt
   ill-typed-for (TooFar w) no h = h
 
   pub variable-done : AreAll sig item.body xs → HasUntypedOne (map plain_implicit xs) → HasNoTree sig item.body
   variable-done all u = let (y, there, none) = u in untyped_variable (subst (λ ys. Contains ys y) all.found there) none
+
+  -- The walk from a store without metavariables did not fill in all.
+  pub place-done : AreAll sig item.body xs → (old between : Stored) (core : PlainCore) (whole : Bool) → additions old ≡ []
+      → (core, state_of between whole) ≡ fill_body sig (map plain_named xs) item.body (state_of old true) → whole ≡ false → HasNoTree sig item.body
+  place-done all old between core whole nothing made e = untyped_place {constants = constants old} (sym (ap (λ (v : PlainCore × State). v.1.whole) start) ∙ e)
+    where
+      from : state_of old true ≡ nothing_filled (constants old)
+      from = ap (λ (zs : List Addition). let s : State = record { constants = constants old; added = zs; whole = true } in s) nothing
+
+      names : map plain_named xs ≡ map determined_name (determined sig item.body)
+      names = sym (names-of-known xs) ∙ ap (map determined_name) all.found
+
+      start : (core, state_of between whole) ≡ fill_body sig (map determined_name (determined sig item.body)) item.body (nothing_filled (constants old))
+      start = made ∙ ap (λ ns. fill_body sig ns item.body (state_of old true)) names ∙ ap (λ (s : State). fill_body sig (map determined_name (determined sig item.body)) item.body s) from
 
   loose-for : (count : ℕ) (fault : OrWide Why) → (IsFor (λ why. why ≡ loose count) fault) → Declines sig item.body (loose count) → Declined sig item fault
   loose-for count (Fault why) h d = subst (Declines sig item.body) (sym h) d

@@ -6,4 +6,7 @@ pub mod Appearing
 pub mod Naming
 pub mod NoHole
 pub mod NamedScene
+pub mod WholeObjects
+pub mod WholeItems
+pub mod NoTree
 pub mod Answering
