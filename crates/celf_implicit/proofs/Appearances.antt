@@ -1,10 +1,9 @@
 -- Where determined variables first appear, and their order.
-use Rattle.std.specs.Prelude.{ℕ, zero, suc, ◌+◌, ◌≡◌, ◌≢◌, ◌<◌, ◌||◌, ◌⊎◌, Bool, true, false, nat_lt, if◌then◌else◌, List, [], ◌∷◌, map, length, Option, Some, None, option_map, option_and_then, slice_get, Contains, AllPairs, refl}
+use Rattle.std.specs.Prelude.{ℕ, zero, suc, ◌+◌, ◌≡◌, ◌≢◌, ◌<◌, ◌||◌, ◌⊎◌, Bool, true, false, nat_lt, List, [], ◌∷◌, map, length, Option, Some, None, option_map, slice_get, AllPairs, refl}
 use Rattle.std.specs.List.{All, fold, filter, find, list_any}
-use Rattle.std.specs.List.Sorted.{IsPermutation}
 use Rattle.std.proofs.Common.{ap, sym, ◌∙◌, arith, get_or, eqb, inl, inr, subst}
 use Rattle.std.proofs.lemmas.Bool.Decides.{Decides-eqb, nat_tests}
-use Rattle.std.proofs.lemmas.List.{get_or-map, get_or_default, length-map}
+use Rattle.std.proofs.lemmas.List.{get_or-map, length-map}
 use Rattle.std.proofs.lemmas.List.Sorted.{All-permutation, Contains-permutation, IsPermutation-map}
 use Rattle.std.proofs.lemmas.Map.Keys.{IsDistinct-IsPermutation}
 use Rattle.std.proofs.lemmas.Map.Made.{AllPairs-from_IsDistinct, IsDistinct-from_AllPairs}
@@ -19,7 +18,7 @@ use Rattle.celf_implicit.specs.Variables.{PlainImplicit, has_name, is_among}
 use Rattle.celf_implicit.specs.Occurrences.{Occurrence, occurrences}
 use Rattle.celf_implicit.specs.Rounds.{start, determined_by, is_open, found, first_of_each, after_rounds, determined}
 use Rattle.celf_implicit.specs.Answers.{plain_implicit, AreAll}
-use Rattle.celf_implicit.specs.Appearance.{is_of, byte, first_byte, first_byte_of, AppearsBefore, IsByAppearance}
+use Rattle.celf_implicit.specs.Appearance.{is_of, byte, first_byte_of, IsByAppearance}
 use Rattle.celf_implicit.specs.FirstBytes.{byte_in, bytes_in, numbered, AreByBytes}
 use Rattle.celf_implicit.specs.Noting.{PlainNotes, nothing_noted, with_one, appearing, note_open, noted}
 use Rattle.celf_implicit.proofs.Names.{same_name, name_same, among_append, firsts_among}

@@ -1,5 +1,5 @@
 -- The orders that are worked out by hand.
-use Rattle.std.specs.Prelude.{ℕ, zero, suc, ◌≡◌, ◌<◌, List, [], ◌∷◌, Contains, AllPairs, ◌≢◌, refl}
+use Rattle.std.specs.Prelude.{ℕ, zero, suc, ◌<◌, [], ◌∷◌, Contains, AllPairs, ◌≢◌, refl}
 use Rattle.std.proofs.Common.{arith}
 use Rattle.celf_implicit.specs.Appearance.{AppearsBefore, IsByAppearance}
 use Rattle.celf_implicit.specs.Worked.{signature, sum_of_successor, conclusion_first}
