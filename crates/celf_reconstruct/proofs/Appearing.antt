@@ -13,7 +13,8 @@ use Rattle.clf_sig.specs.Entry.{PlainClass, family_of, constant_of}
 use Rattle.clf_sig.specs.Core.{PlainCore, declares, queries, traces, equates, checks}
 use Rattle.clf_printer.specs.Metas.{appeared, appearing_head, appearing, appearing_neutral, appearing_expression, appearing_tuple, appearing_indices, appearing_type, appearing_telescope, appearing_kind, appearing_class}
 use Rattle.pattern_laws.specs.Instantiations.{Types}
-use Rattle.celf_solve.specs.Formed.{EachIsFormed, ClassIsFormed, CoreIsFormed}
+use Rattle.gathered_laws.specs.Formed.{ClassIsFormed, CoreIsFormed}
+use Rattle.celf_solve.specs.Scenes.{EachIsFormed}
 use Rattle.celf_reconstruct.specs.Known.{HasSimple}
 use Rattle.celf_reconstruct.specs.Left.{metavariables_in, metavariables_with}
 

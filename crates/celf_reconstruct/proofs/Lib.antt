@@ -4,7 +4,6 @@ pub mod Reading
 pub mod Settling
 pub mod Appearing
 pub mod Naming
-pub mod NoHole
 pub mod NamedScene
 pub mod WholeObjects
 pub mod WholeItems

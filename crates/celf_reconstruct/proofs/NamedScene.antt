@@ -10,6 +10,8 @@ use Rattle.clf_syntax.specs.declared.tree.Head.TheVariants.{Const, Var, Meta}
 use Rattle.clf_syntax.specs.TypeTree.{PlainType, SimpleType}
 use Rattle.clf_syntax.specs.PlainTypes.{plain_ty}
 use Rattle.clf_syntax.specs.Simple.{erase, Assignment, SimplyFormed}
+use Rattle.hered_subst.specs.Laws.{ResultsAreTyped}
+use Rattle.hered_subst.proofs.TypedResults.{result_is_typed}
 use Rattle.hered_subst.specs.TypedEnvironments.{TypedEnvironment}
 use Rattle.subst_laws.specs.Environments.{Instantiation, instant}
 use Rattle.subst_laws.proofs.Environs.{instant_is_environment}
@@ -27,6 +29,7 @@ use Rattle.pattern_laws.specs.Instantiations.{Types, closed}
 use Rattle.pattern_laws.specs.Patterns.{HasFinalResult}
 use Rattle.elaboration_laws.specs.ItemSetting.{ReadType, ReadTypes, item_constants}
 use Rattle.gathered_laws.specs.Formed.{store_constants}
+use Rattle.gathered_laws.proofs.Keeping.{core_stays_formed, formed_core_has_no_hole}
 use Rattle.gathered_laws.proofs.SameTypes.{store_types_the_same}
 use Rattle.gathered_laws.proofs.Stores.{formed_type_has_no_variables}
 use Rattle.celf_elaboration.specs.Items.{SubstitutedCore}
@@ -40,18 +43,17 @@ use Rattle.filled_laws.proofs.FinalIndices.{new_in_are_final, types_have_erasure
 use Rattle.filled_laws.proofs.FreshTypes.{fresh_types_are_read}
 use Rattle.celf_solve.specs.declared.scene.Scene.{Scene}
 use Rattle.celf_solve.specs.declared.scene.Found.{Found}
-use Rattle.celf_solve.specs.Formed.{EachIsFormed, CoreIsFormed}
+use Rattle.gathered_laws.specs.Formed.{CoreIsFormed}
+use Rattle.celf_solve.specs.Scenes.{EachIsFormed}
 use Rattle.celf_solve.specs.Puts.{HasPutIn, CoreIsFormedIn, EachIsFormedIn, IsPutInto}
 use Rattle.celf_solve.specs.Scenes.{tree_of, types_of, metas_in, IsScene}
 use Rattle.celf_solve.specs.Settled.{EachBecomes}
-use Rattle.celf_solve.proofs.After.{core_after, each_after}
-use Rattle.celf_solve.proofs.More.{HasMore, core_more, each_more, type_more}
+use Rattle.celf_solve.proofs.More.{HasMore, core_more, each_more}
 use Rattle.celf_solve.proofs.Puts.{each_becomes, core_formed_in, each_formed_in}
 use Rattle.celf_reconstruct.specs.Left.{metavariables_with, naming, named_at, IsNamed}
 use Rattle.celf_reconstruct.specs.Naming.{metas_of, types_in, IsUnsolvedWith, AreSimples, IsNamedScene}
 use Rattle.celf_reconstruct.specs.Steps.{IsFormedIn, heads_of_store}
 use Rattle.celf_reconstruct.proofs.Naming.{put_in, is_typed, is_closed, types-store, simple-at}
-use Rattle.celf_reconstruct.proofs.NoHole.{core-has-no-hole}
 use Rattle.celf_reconstruct.proofs.Reading.{all-at, map-append as new-append, is-fresh, metas-are}
 
 -- What holds at each number holds of each of a list.
@@ -156,6 +158,18 @@ module _ (sig : PlainSignature) (f : Found) (formed_in : IsFormedIn sig (plain_c
     keeps : TypedEnvironment true g g (instant n)
     keeps = (instant_is_environment g).0 g n (is_typed first metas left cs typed)
 
+    results : ResultsAreTyped true (families_of sig) g g (instant n)
+    results = result_is_typed true (families_of sig) g g (instant n) keeps
+
+    each_after : (as_ bs : List PlainType) → EachBecomes n as_ bs → EachIsFormed (families_of sig) g as_ → EachIsFormed (families_of sig) g bs × (map erase bs ≡ map erase as_)
+    each_after [] [] h p = (tt, refl)
+    each_after [] (b ∷ bs) h p = absurd h
+    each_after (a ∷ as_) [] h p = absurd h
+    each_after (a ∷ as_) (b ∷ bs) h p =
+        let (q, e) = results.type a b p.0 h.0 in
+        let (r, i) = each_after as_ bs h.1 p.1 in
+        ((q, r), ap (λ t. t ∷ map erase bs) e ∙ ap (λ l. erase a ∷ l) i)
+
     core_becomes : SubstitutedCore (instant n) (plain_core f.core) (plain_core put.core)
     core_becomes = is_put.tree n puts (is_closed first metas left cs typed)
 
@@ -163,10 +177,10 @@ module _ (sig : PlainSignature) (f : Found) (formed_in : IsFormedIn sig (plain_c
     types_become = each_becomes (additions names) n puts (is_closed first metas left cs typed) is_put.each
 
     core_formed : CoreIsFormed (families_of sig) g (plain_core put.core)
-    core_formed = core_after (families_of sig) g n keeps core_becomes formed
+    core_formed = core_stays_formed (families_of sig) g g (instant n) keeps (plain_core f.core) (plain_core put.core) core_becomes formed
 
     after : EachIsFormed (families_of sig) g named × (map erase named ≡ map erase (map plain_ty f.types))
-    after = each_after (families_of sig) g n keeps (map plain_ty f.types) named types_become each
+    after = each_after (map plain_ty f.types) named types_become each
 
     count_of_fresh : count fresh ≡ length old
     count_of_fresh = ap (λ (zs : List Addition). length (meta_types zs)) unsolved.additions_are ∙ ap (λ (us : List SimpleType). length us) (new-types old)
@@ -208,7 +222,7 @@ module _ (sig : PlainSignature) (f : Found) (formed_in : IsFormedIn sig (plain_c
     read_named x a e = record { formed = there; closed_type = formed_type_has_no_variables (families_of sig) (item_constants sig (types_of scene)) (metas_in scene) a there }
       where
         there : SimplyFormed (families_of sig) (closed (item_constants sig (types_of scene)) (metas_in scene)) a
-        there = ((store_types_the_same sig (types_of scene) (metas_in scene)).types (families_of sig) a).1 (type_more (families_of sig) g z larger a (formed_at named after.0 x a e))
+        there = ((store_types_the_same sig (types_of scene) (metas_in scene)).types (families_of sig) a).1 (each_more (families_of sig) g z larger (a ∷ []) (formed_at named after.0 x a e, tt)).0
 
     simples_families : All (HasFamilies sig) simples
     simples_families = by left simples are
@@ -273,7 +287,7 @@ module _ (sig : PlainSignature) (f : Found) (formed_in : IsFormedIn sig (plain_c
         constants_are = are_constants;
         fresh = is-fresh scene (old ++ new_ones) additions_are (All-append HasFinalResult old new_ones final_old ((new_in_are_final (indices_of sig)).1 simples));
         read = read;
-        no_hole = core-has-no-hole (families_of sig) g (tree_of scene) (subst (λ (c : PlainCore). CoreIsFormed (families_of sig) g c) tree_is core_formed);
+        no_hole = formed_core_has_no_hole (families_of sig) g (tree_of scene) (subst (λ (c : PlainCore). CoreIsFormed (families_of sig) g c) tree_is core_formed);
       };
       families = λ m a e. all-at (old ++ new_ones) all_families m a (sym (metas-are scene (old ++ new_ones) additions_are m) ∙ e);
     }

@@ -5,8 +5,8 @@ use Rattle.clf_syntax.specs.Simple.{erase, Assignment, SimplyFormed}
 use Rattle.clf_syntax.specs.PlainTypes.{plain_ty}
 use Rattle.clf_syntax.specs.declared.fault.OrWide.{OrWide}
 use Rattle.clf_syntax.specs.declared.fault.OrWide.TheVariants.{Fault, NoMemory, TooFar}
-use Rattle.clf_sig.specs.Entry.{PlainSignature, PlainClass, family_of, constant_of, simple_types}
-use Rattle.clf_sig.specs.Core.{PlainCore, declares, queries, traces, equates, checks, plain_core}
+use Rattle.clf_sig.specs.Entry.{PlainSignature, simple_types}
+use Rattle.clf_sig.specs.Core.{plain_core}
 use Rattle.clf_rules.specs.WellFormed.{WellFormedSignature}
 use Rattle.typing_laws.specs.SimpleTyping.{families_of}
 use Rattle.store_laws.specs.Additions.{meta_types}
@@ -18,7 +18,7 @@ use Rattle.unify_laws.specs.Problems.{Problem}
 use Rattle.unify_laws.specs.Progress.{CameFrom}
 use Rattle.solver_laws.specs.Solving.{problem_of}
 use Rattle.elaboration_laws.specs.ItemSetting.{item_constants, ReadTypes}
-use Rattle.gathered_laws.specs.Formed.{CoreIsFormed as GatheredIsFormed}
+use Rattle.gathered_laws.proofs.SameTypes.{store_types_the_same}
 use Rattle.gathered_laws.proofs.CoresTyped.{gathered_core_is_typed}
 use Rattle.filled_laws.proofs.NewFamilies.{traced_have_families}
 use Rattle.celf_sugar.specs.PlainTree.{DesugaredBody, DesugaredItem}
@@ -27,29 +27,17 @@ use Rattle.celf_replies.specs.declared.reply.Why.{Why}
 use Rattle.celf_replies.specs.Reply.{plain_why}
 use Rattle.celf_solve.specs.declared.scene.Scene.{Scene}
 use Rattle.celf_solve.specs.declared.scene.Found.{Found}
-use Rattle.celf_solve.specs.Formed.{EachIsFormed, CoreIsFormed}
+use Rattle.gathered_laws.specs.Formed.{CoreIsFormed}
+use Rattle.celf_solve.specs.Scenes.{EachIsFormed}
 use Rattle.celf_solve.specs.Laws.{AnswersGathered, IsFormedAfter}
 use Rattle.celf_solve.specs.Scenes.{tree_of, types_of, metas_in, constants_in, IsScene}
 use Rattle.celf_solve.specs.Settled.{constants_of}
 use Rattle.celf_solve.proofs.After.{settled_is_formed}
 use Rattle.celf_solve.proofs.Answers.{posed_and_settled}
-use Rattle.celf_solve.proofs.Constants.{heads_more}
-use Rattle.celf_solve.proofs.More.{core_more, each_more}
 use Rattle.celf_reconstruct.specs.Reconstructed.{Declines, unsettled, IsFound}
 use Rattle.celf_reconstruct.specs.Steps.{Declined, HasScene, HasFound, IsFormedIn, ComesOf, UnsettledScene, heads_of_store}
 
 -- ---- simple types
-
-same_words : (sig : PlainSignature) (g : Assignment) (core : PlainCore) → GatheredIsFormed (families_of sig) g core → CoreIsFormed (families_of sig) g core
-same_words sig g (declares name e) p = of_class e.class p
-  where
-    of_class : (c : PlainClass) → GatheredIsFormed (families_of sig) g (declares name (record { implicit = 0; class = c })) → CoreIsFormed (families_of sig) g (declares name (record { implicit = 0; class = c }))
-    of_class (family_of k) p = p
-    of_class (constant_of a) p = p
-same_words sig g (queries a) p = p
-same_words sig g (traces s) p = p
-same_words sig g (equates m n a) p = p
-same_words sig g (checks n a) p = p
 
 each-read : (sig : PlainSignature) (g : Assignment) (xs : List PlainType) → ((x : ℕ) (a : PlainType) → slice_get xs x ≡ Some a → SimplyFormed (families_of sig) g a) → EachIsFormed (families_of sig) g xs
 each-read sig g [] read = tt
@@ -71,21 +59,18 @@ module _ (sig : PlainSignature) (formed : WellFormedSignature sig) (body : Desug
   abbrev now : Problem
   now = problem_of (additions f.store) c.equations
 
-  abbrev g : Assignment
-  g = closed (item_constants sig (types_of scene)) (metas_in scene)
-
   same : constants_in scene ≡ constants_of sig (types_of scene)
-  same = ap (λ cs. slice_get cs) h.is_scene.constants_are
+  same = ap (λ (cs : List SimpleType). let get : Types = slice_get cs in get) h.is_scene.constants_are
 
   tree_formed : CoreIsFormed (families_of sig) (closed (constants_in scene) (metas_in scene)) (tree_of scene)
   tree_formed = subst (λ (cs : Types). CoreIsFormed (families_of sig) (closed cs (metas_in scene)) (tree_of scene)) (sym same)
-      (core_more (families_of sig) g (closed (constants_of sig (types_of scene)) (metas_in scene)) (heads_more sig (types_of scene) (metas_in scene)) (tree_of scene)
-      (same_words sig g (tree_of scene) (gathered_core_is_typed sig (types_of scene) (metas_in scene) formed h.is_scene.read (tree_of scene) c.equations h.is_scene.no_hole c.posed.gathers).1))
+      (((store_types_the_same sig (types_of scene) (metas_in scene)).cores (families_of sig) (tree_of scene)).0
+      (gathered_core_is_typed sig (types_of scene) (metas_in scene) formed h.is_scene.read (tree_of scene) c.equations h.is_scene.no_hole c.posed.gathers).1)
 
   types_formed : EachIsFormed (families_of sig) (closed (constants_in scene) (metas_in scene)) (types_of scene)
   types_formed = subst (λ (cs : Types). EachIsFormed (families_of sig) (closed cs (metas_in scene)) (types_of scene)) (sym same)
-      (each_more (families_of sig) g (closed (constants_of sig (types_of scene)) (metas_in scene)) (heads_more sig (types_of scene) (metas_in scene)) (types_of scene)
-      (each-read sig g (types_of scene) (λ x a e. (h.is_scene.read x a e).formed)))
+      (each-read sig (closed (constants_of sig (types_of scene)) (metas_in scene)) (types_of scene)
+      (λ x a e. ((store_types_the_same sig (types_of scene) (metas_in scene)).types (families_of sig) a).0 (h.is_scene.read x a e).formed))
 
   after : IsFormedAfter (families_of sig) (constants_in scene) (types_of scene) now (plain_core f.core) (map plain_ty f.types)
   after = settled_is_formed (families_of sig) (constants_in scene) (metas_in scene) c.equations (tree_of scene) (types_of scene) now (plain_core f.core) (map plain_ty f.types) c.settled.settles tree_formed types_formed

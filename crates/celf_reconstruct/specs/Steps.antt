@@ -25,7 +25,8 @@ use Rattle.celf_replies.specs.declared.reply.Why.{Why}
 use Rattle.celf_replies.specs.Reply.{PlainMismatch, PlainWhy, plain_why, ill_typed, circular}
 use Rattle.celf_solve.specs.declared.scene.Scene.{Scene}
 use Rattle.celf_solve.specs.declared.scene.Found.{Found}
-use Rattle.celf_solve.specs.Formed.{EachIsFormed, CoreIsFormed}
+use Rattle.gathered_laws.specs.Formed.{CoreIsFormed}
+use Rattle.celf_solve.specs.Scenes.{EachIsFormed}
 use Rattle.celf_solve.specs.Scenes.{tree_of, types_of, metas_in, IsScene, IsSettled, IsPosed as IsPosedScene}
 use Rattle.celf_reconstruct.specs.Trees.{read_name}
 use Rattle.celf_reconstruct.specs.Posed.{IsPosed, Unsettled}

@@ -8,21 +8,9 @@ ghost use Rattle.clf_sig.specs.Core.{plain_core};
 ghost use Rattle.clf_sig.specs.Signature.{plain_class};
 ghost use Rattle.metavars.specs.Becoming.{Each};
 ghost use Rattle.metavars.specs.Stored.{additions};
-ghost use Rattle.celf_solve.specs.Puts.{
-  ClassBecomes,
-  ClassIsFormedIn,
-  CoreBecomes,
-  CoreIsFormedIn,
-  EachIsFormedIn,
-  HasPutIn,
-  IsFormedIn,
-  IsPutInto,
-  IsTypedIn,
-  KindBecomes,
-  ObjectBecomes,
-  TelescopeBecomes,
-  TypeBecomes,
-};
+ghost use Rattle.celf_solve.specs.Puts.{ClassBecomes, ClassIsFormedIn, CoreBecomes, CoreIsFormedIn,
+    EachIsFormedIn, HasPutIn, IsFormedIn, IsPutInto, IsTypedIn, KindBecomes, ObjectBecomes, TelescopeBecomes,
+    TypeBecomes};
 
 use crate::scene::Found;
 use clf_sig::{Class, Core, Entry};
