@@ -3,7 +3,7 @@ pub mod Variables
 pub mod Reading
 pub mod Settling
 pub mod Appearing
-pub mod Naming
+pub mod NamedBy
 pub mod NamedScene
 pub mod WholeObjects
 pub mod WholeItems

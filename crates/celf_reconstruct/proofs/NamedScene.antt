@@ -53,7 +53,7 @@ use Rattle.celf_solve.proofs.Puts.{each_becomes, core_formed_in, each_formed_in}
 use Rattle.celf_reconstruct.specs.Left.{metavariables_with, naming, named_at, IsNamed}
 use Rattle.celf_reconstruct.specs.Naming.{metas_of, types_in, IsUnsolvedWith, AreSimples, IsNamedScene}
 use Rattle.celf_reconstruct.specs.Steps.{IsFormedIn, heads_of_store}
-use Rattle.celf_reconstruct.proofs.Naming.{put_in, is_typed, is_closed, types-store, simple-at}
+use Rattle.celf_reconstruct.proofs.NamedBy.{put_in, is_typed, is_closed, types-store, simple-at}
 use Rattle.celf_reconstruct.proofs.Reading.{all-at, map-append as new-append, is-fresh, metas-are}
 
 -- What holds at each number holds of each of a list.
