@@ -1,3 +1,4 @@
+pub mod Ranges
 pub mod Families
 pub mod Variables
 pub mod Reading
