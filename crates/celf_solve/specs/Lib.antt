@@ -1,0 +1,4 @@
+pub mod Settled
+pub mod Scenes
+pub mod Laws
+pub mod Puts
