@@ -3,6 +3,7 @@ pub mod Listed
 pub mod Placing
 pub mod PlacingSteps
 pub mod Replaced
+pub mod Named
 pub mod InFront
 pub mod FrontHeads
 pub mod BinderTypes

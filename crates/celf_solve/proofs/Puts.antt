@@ -1,0 +1,84 @@
+-- Trees in a store with all solutions put in, from what is typed there.
+use Rattle.std.specs.Prelude.{ℕ, zero, suc, ◌≡◌, ◌<◌, List, [], ◌∷◌, length, map, get_or}
+use Rattle.std.proofs.Common.{sym, subst, arith}
+use Rattle.clf_syntax.specs.declared.tree.Ty.{Ty}
+use Rattle.clf_syntax.specs.PlainTypes.{plain_ty}
+use Rattle.clf_syntax.specs.TypeTree.{PlainType, family, function, both, top, monad, PlainTelescope, PlainKind}
+use Rattle.clf_syntax.specs.Simple.{Assignment, Families, erase, extended, SimplyFormedKind}
+use Rattle.hered_subst.specs.Substitution.{Environment, SubstitutedType, in_monad, SubstitutedTelescope, SubstitutedKind, in_no_argument, in_argument}
+use Rattle.subst_laws.specs.Environments.{Instantiation, instant}
+use Rattle.store_laws.specs.Additions.{Addition, given}
+use Rattle.store_laws.specs.PutIn.{PutIn, IsClosed}
+use Rattle.clf_sig.specs.Entry.{PlainClass, family_of, constant_of}
+use Rattle.clf_sig.specs.Core.{PlainCore, declares, queries, traces, equates, checks}
+use Rattle.metavars.specs.Becoming.{Each, none, next}
+use Rattle.metavars.specs.Typed.{TypesStore}
+use Rattle.metavars.proofs.Becomings.{under-closed}
+use Rattle.metavars.proofs.TypesStores.{types-extended}
+use Rattle.celf_solve.specs.Formed.{EachIsFormed, ClassIsFormed, CoreIsFormed}
+use Rattle.celf_solve.specs.Settled.{EachBecomes}
+use Rattle.celf_solve.specs.Puts.{HasPutIn, IsFormedIn, EachIsFormedIn, ClassIsFormedIn, CoreIsFormedIn, TypeBecomes, TelescopeBecomes, KindBecomes}
+
+-- ---- lists of types
+
+module _ (zs : List Addition) where
+  pub formed_at : (xs : List Ty) (i : ℕ) (x : Ty) → i < length xs → x ≡ get_or xs i x → EachIsFormedIn zs (map plain_ty xs) → IsFormedIn zs (plain_ty x)
+  formed_at [] i x l e p = absurd (omega arith)
+  formed_at (y ∷ xs) zero x l e p = subst (λ (u : Ty). IsFormedIn zs (plain_ty u)) (sym e) p.0
+  formed_at (y ∷ xs) (suc i) x l e p = formed_at xs i x (omega arith) e p.1
+
+  pub kind_becomes : {as_ bs : List PlainType} → Each (TypeBecomes zs) as_ bs → KindBecomes zs as_ bs
+  kind_becomes none s p c = in_no_argument
+  kind_becomes (next {xs = as_} {ys = bs} h hs) s p c = in_argument (h s p c) (subst (λ (z : Environment). SubstitutedKind z as_ bs) (sym (under-closed s c 1)) (kind_becomes hs s p c))
+
+  pub each_becomes : (s : Instantiation) → PutIn (given zs) s → IsClosed s → {as_ bs : List PlainType} → Each (TypeBecomes zs) as_ bs → EachBecomes s as_ bs
+  each_becomes s p c none = tt
+  each_becomes s p c (next h hs) = (h s p c, each_becomes s p c hs)
+
+-- ---- monads
+
+through_monad : {s : Environment} {t u : PlainTelescope} → SubstitutedType s (monad t) (monad u) → SubstitutedTelescope s t u
+through_monad (in_monad h) = h
+
+abbrev IsMonad : PlainType → Type 0
+IsMonad (family f ns) = ⊥
+IsMonad (function m a b) = ⊥
+IsMonad (both a b) = ⊥
+IsMonad top = ⊥
+IsMonad (monad s) = Unit {0}
+
+monad_stays : {s : Environment} {t : PlainTelescope} {x : PlainType} → SubstitutedType s (monad t) x → IsMonad x
+monad_stays (in_monad h) = tt
+
+module _ (zs : List Addition) where
+  pub telescope_becomes : (t u : PlainTelescope) → TypeBecomes zs (monad t) (monad u) → TelescopeBecomes zs t u
+  telescope_becomes t u h s p c = through_monad (h s p c)
+
+  pub is_monad : HasPutIn zs → (t : PlainTelescope) (x : PlainType) → TypeBecomes zs (monad t) x → IsMonad x
+  is_monad w t x h = monad_stays (h w.solutions w.put_in w.closed)
+
+-- ---- what is typed by an assignment that types the store
+
+module _ (zs : List Addition) (arguments : Families) where
+  pub each_formed_in : (g : Assignment) → TypesStore g zs → (as_ : List PlainType) → EachIsFormed arguments g as_ → EachIsFormedIn zs as_
+  each_formed_in g w [] p = tt
+  each_formed_in g w (a ∷ as_) p = (record { arguments = arguments; assignment = g; store = w; formed = p.0 }, each_formed_in g w as_ p.1)
+
+  kind_formed_in : (g : Assignment) → TypesStore g zs → (k : PlainKind) → SimplyFormedKind arguments g k → EachIsFormedIn zs k
+  kind_formed_in g w [] p = tt
+  kind_formed_in g w (a ∷ k) p = (record { arguments = arguments; assignment = g; store = w; formed = p.0 }, kind_formed_in (extended (erase a) g) (types-extended (erase a) g zs w) k p.1)
+
+  class_formed_in : (g : Assignment) → TypesStore g zs → (c : PlainClass) → ClassIsFormed arguments g c → ClassIsFormedIn zs c
+  class_formed_in g w (family_of k) p = kind_formed_in g w k p
+  class_formed_in g w (constant_of a) p = record { arguments = arguments; assignment = g; store = w; formed = p }
+
+  pub core_formed_in : (g : Assignment) → TypesStore g zs → (c : PlainCore) → CoreIsFormed arguments g c → CoreIsFormedIn zs c
+  core_formed_in g w (declares name e) p = class_formed_in g w e.class p
+  core_formed_in g w (queries a) p = record { arguments = arguments; assignment = g; store = w; formed = p }
+  core_formed_in g w (traces s) p = record { arguments = arguments; assignment = g; store = w; formed = p }
+  core_formed_in g w (equates m n a) p = (
+    record { arguments = arguments; assignment = g; store = w; formed = p.0 },
+    record { assignment = g; type = erase a; store = w; typed = p.1 },
+    record { assignment = g; type = erase a; store = w; typed = p.2 },
+  )
+  core_formed_in g w (checks n a) p = (record { arguments = arguments; assignment = g; store = w; formed = p.0 }, record { assignment = g; type = erase a; store = w; typed = p.1 })

@@ -1,0 +1,5 @@
+pub mod Formed
+pub mod Settled
+pub mod Scenes
+pub mod Laws
+pub mod Puts

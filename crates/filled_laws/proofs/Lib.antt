@@ -1,0 +1,3 @@
+pub mod FinalIndices
+pub mod Families
+pub mod FreshTypes
