@@ -3,9 +3,6 @@ use Rattle.std.proofs.Common.{ℕ, ◌≡◌, ◌≢◌, true, false, refl, sym,
 use Rattle.std.specs.Prelude.{IfOk, OnOk, IfErr}
 use Rattle.std.proofs.lemmas.List.{length-map}
 use Rattle.clf_syntax.specs.Word.{is_declarable}
-use Rattle.clf_syntax.specs.declared.tree.Head.{Head}
-use Rattle.hered_subst.specs.Substitution.{Environment}
-use Rattle.subst_laws.specs.Environments.{instant}
 use Rattle.clf_syntax.specs.declared.fault.Want.{Want}
 use Rattle.clf_syntax.specs.declared.fault.Want.TheVariants.{NoMemory as no_memory, TooFar as too_far}
 use Rattle.clf_syntax.specs.declared.fault.OrWide.{OrWide}
@@ -38,16 +35,12 @@ use Rattle.celf_run.specs.declared.options.Options.{Options}
 use Rattle.clf_sig.specs.Core.{PlainCore, declares, queries, traces, equates, checks}
 use Rattle.celf_unknown.specs.Fault.{standing}
 use Rattle.celf_explicit.specs.Explicit.{explicit}
-use Rattle.celf_explicit.specs.Explicit.{entry_of}
-use Rattle.celf_elaboration.specs.Fillings.{Fillings}
-use Rattle.celf_elaboration.specs.Names.{ImplicitVariable, with_simple_type}
-use Rattle.celf_elaboration.specs.Declarations.{declared_heads}
-use Rattle.celf_elaboration.specs.Items.{ReadsBody, reads_family_declaration, reads_constant_declaration, reads_query, reads_trace, reads_equation, reads_check, SubstitutedCore, in_declaration}
 use Rattle.celf_reconstruct.specs.Reconstructed.{Reconstructs, found_check, found_declaration}
 use Rattle.celf_run.specs.Source.{written}
 use Rattle.celf_run.specs.Allowed.{Held, holding, declared_name, NameBarred, is_duplicate, is_full, NamePasses, Barred, by_unknown, HasHidden, is_explicit, is_found, Passes, IsTyped, IsBeyondReach, Fits, typed, in_class, in_type, in_object, in_common_type, in_first, in_second, by_rules, by_rules_found, not_answered, accepted, same, differing, PlainAllowed, declined, answered, Allowed, sugar_fault, plainly, sugar_refusal}
 use Rattle.celf_run.specs.Answering.{MayBeDeclared, MayBeAdded, AnswersCore, fits, explained, beyond, refused_by_rules, FormsClosed, JudgesClosed, IsReplyToFault, ExplainsCore, Compares, reply_of_found}
 use Rattle.celf_run.proofs.Cores.{unnamed, written-fits, declared-fits}
+use Rattle.celf_run.proofs.Leads.{declared-for}
 
 none_of : {A : Type 0} (r : Option A) → is_some r ≡ false → r ≡ None
 none_of None h = refl
@@ -201,22 +194,12 @@ core-answers options old new item core (Err e) passes known h a = tt
 
 -- ---- cores that are found
 
--- A core that is found of a declaration is that of its name.
-tree-declares : (sig : PlainSignature) (heads : ℕ → Head) (vs : List ImplicitVariable) (b : DesugaredBody) (fs : Fillings) (s : Environment) (tree : PlainCore) (name : List ℕ) (e : PlainEntry)
-    → ReadsBody sig heads vs b fs tree → SubstitutedCore s tree (declares name e) → declared_name b ≡ Some name
-tree-declares sig heads vs b fs s tree name e (reads_family_declaration r) (in_declaration x) = refl
-tree-declares sig heads vs b fs s tree name e (reads_constant_declaration r) (in_declaration x) = refl
-tree-declares sig heads vs b fs s tree name e (reads_query r) x = elim x [ ]
-tree-declares sig heads vs b fs s tree name e (reads_trace r) x = elim x [ ]
-tree-declares sig heads vs b fs s tree name e (reads_equation r q p) x = elim x [ ]
-tree-declares sig heads vs b fs s tree name e (reads_check r q) x = elim x [ ]
-
 pub found-may-be-added : (sig : PlainSignature) (item : DesugaredItem) (core : PlainCore) → MayBeDeclared item → NamePasses sig item → Reconstructs sig item.body core → MayBeAdded sig core
 found-may-be-added sig item (declares name e) may passes (found_check c f n) = absurd c
-found-may-be-added sig item (declares name e) may passes (found_declaration {vs = vs} {count = count} {class = class} f n d) =
-    let named = tree-declares sig (declared_heads sig) (map with_simple_type vs) item.body f.is_tree.fillings (instant f.solutions) f.tree name (entry_of count class) f.is_tree.reading f.core_becomes in
-    let new = passes-new sig item name passes named in
-    (new, (λ l. passes full (is_full named new l)), may.name name named, d.leads)
+found-may-be-added sig item (declares name e) may passes (found_declaration {vs = vs} {unnamed = unnamed} {written = written} {class = class} {types = types} {binders = binders} f n b d) =
+    let is = declared-for sig item.body vs unnamed name written class types binders e f b d may.implicit in
+    let new = passes-new sig item name passes is.0 in
+    (new, (λ l. passes full (is_full is.0 new l)), may.name name is.0, is.1)
 found-may-be-added sig item (queries a) may passes r = tt
 found-may-be-added sig item (traces t) may passes r = tt
 found-may-be-added sig item (equates n o a) may passes r = tt
