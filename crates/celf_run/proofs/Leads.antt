@@ -153,16 +153,13 @@ without n before after q lt has = elim (Contains-append_cases before (n ∷ afte
 at-least : (n : ℕ) (xs : List ℕ) → ((q : ℕ) → q < n → (Contains xs q → ⊥) → ⊥) → n ≤ length xs
 at-least zero xs all = omega arith
 at-least (suc n) xs all = elim (cases_lt (length xs) (suc n)) [
-  | inl short ↦ absurd (all n (omega arith) (λ has. too-short has short))
+  | inl short ↦ absurd (all n (omega arith) (λ has.
+      let (before, after, is) = split_at xs n has in
+      let rest = at-least n (before ++ after) (λ q lt out. all q (omega (arith, lt)) (λ there. out (without n before after q lt (subst (λ (ys : List ℕ). Contains ys q) is there)))) in
+      let long = ap (λ (ys : List ℕ). length ys) is in
+      omega (arith, rest, long, short, length-append before after, length-append before (n ∷ after))))
   | inr long ↦ long
 ]
-  where
-    too-short : Contains xs n → length xs < suc n → ⊥
-    too-short has short =
-        let (before, after, is) = split_at xs n has in
-        let rest = at-least n (before ++ after) (λ q lt out. all q (omega (arith, lt)) (λ there. out (without n before after q lt (subst (λ (ys : List ℕ). Contains ys q) is there)))) in
-        let long = ap (λ (ys : List ℕ). length ys) is in
-        absurd (omega (arith, rest, long, short, length-append before after, length-append before (n ∷ after)))
 
 binders-listed : (sig : PlainSignature) (body : DesugaredBody) (named unnamed : ℕ) (binders : List ℕ) → AreBinders sig body named unnamed binders → named + unnamed ≤ length binders
 binders-listed sig body named unnamed binders b =
