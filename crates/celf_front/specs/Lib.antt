@@ -3,9 +3,9 @@ pub mod Listed
 pub mod Placing
 pub mod PlacingSteps
 pub mod Replaced
-pub mod Named
 pub mod InFront
-pub mod FrontHeads
+pub mod Named
+pub mod Heads
 pub mod BinderTypes
 pub mod UnderFront
 pub mod Occurring

@@ -15,14 +15,15 @@ abbrev pub named_meta : ℕ → ℕ → Option ℕ → Head
 named_meta n m None = Meta m
 named_meta n m (Some j) = Const (n + j)
 
--- what becomes of a head, under any number of binders: the metavariable at place j of the list is constant n + j, and other heads stay
-abbrev pub named_head : ℕ → List ℕ → ℕ → Head → Head
-named_head n metas d (Const c) = Const c
-named_head n metas d (Var i) = Var i
-named_head n metas d (Meta m) = named_meta n m (meta_at metas m)
+-- what becomes of a head: the metavariable at place j of the list is constant n + j, and other heads stay
+abbrev pub named_head : ℕ → List ℕ → Head → Head
+named_head n metas (Const c) = Const c
+named_head n metas (Var i) = Var i
+named_head n metas (Meta m) = named_meta n m (meta_at metas m)
 
+-- the same at each head, since neither constants nor metavariables count binders
 abbrev pub named_type : ℕ → List ℕ → PlainType → PlainType
-named_type n metas a = replaced_type (named_head n metas) 0 a
+named_type n metas a = replaced_type (λ d. named_head n metas) 0 a
 
 abbrev pub named_class : ℕ → List ℕ → PlainClass → PlainClass
-named_class n metas c = replaced_class (named_head n metas) 0 c
+named_class n metas c = replaced_class (λ d. named_head n metas) 0 c

@@ -14,6 +14,6 @@ mod types;
 mod variable;
 
 pub use appearance::by_appearance;
-pub use laws::{least_closed, worked_variables};
+pub use laws::{least_closed, worked_orders, worked_variables};
 pub use rounds::implicit_variables;
 pub use variable::{Argument, Implicit, Variable};

@@ -19,7 +19,7 @@ use Rattle.celf_conform.specs.declared.misfit.Misfit.TheVariants.{NotFunction, N
 use Rattle.celf_replies.specs.Reply.{PlainSides, PlainMismatch, not_function, not_pair, not_top, not_monad, not_atomic, not_closed, mode_differs, width, family_differs, unknown_head, family_arity, index_differs, PlainWhy, ill_typed, unresolved}
 use Rattle.celf_solve.specs.Settled.{Comes, Sticks, Clashes}
 use Rattle.celf_reconstruct.specs.Trees.{IsItemTree}
-use Rattle.celf_reconstruct.specs.Left.{metavariables_with, IsNamed, new_metas}
+use Rattle.celf_reconstruct.specs.Left.{metavariables_with, IsNamed}
 
 abbrev pub IsDeclaration : PlainCore → Type 0
 IsDeclaration (declares name e) = Unit {0}
@@ -29,7 +29,7 @@ IsDeclaration (equates n o a) = ⊥
 IsDeclaration (checks n a) = ⊥
 
 -- What is left unnamed in what a declaration comes to, and the tree in which that has become constants.
-pub record IsNamedTree (sig : PlainSignature) (body : DesugaredBody) (vs : List TypedVariable) (simples : List SimpleType) (tree : PlainCore) (types : List PlainType) : Type 0 where
+pub record IsNamedTree (sig : PlainSignature) (body : DesugaredBody) (vs : List TypedVariable) (simples : List SimpleType) (tree : PlainCore) (types : List PlainType) (metas : Types) : Type 0 where
   pub first_metas : Types
   pub first_tree : PlainCore
   pub is_tree : IsItemTree sig body vs first_metas first_tree
@@ -39,14 +39,14 @@ pub record IsNamedTree (sig : PlainSignature) (body : DesugaredBody) (vs : List 
   pub comes : Comes sig (types_read vs) first_metas first_tree now core after
   pub declaration : IsDeclaration core
   pub some_left : metavariables_with core after ≡ [] → ⊥
-  pub named : IsNamed sig now.metas core after simples tree types
+  pub named : IsNamed sig now.metas core after simples tree types metas
 
 -- A tree of the item, with the types of its implicit variables and then of as many unnamed ones, and with the simple types of its metavariables: first the tree that
 -- is read; and of a declaration, where metavariables are left in what that comes to, once more that with constants for them.
 pub data IsPosed (sig : PlainSignature) (body : DesugaredBody) (vs : List TypedVariable) : ℕ → List PlainType → Types → PlainCore → Type 0 where
   as_read : {metas : Types} {tree : PlainCore} → IsItemTree sig body vs metas tree → IsPosed sig body vs 0 (types_read vs) metas tree
-  as_named : {simples : List SimpleType} {types : List PlainType} {tree : PlainCore}
-      → IsNamedTree sig body vs simples tree types → IsPosed sig body vs (length simples) types (new_metas sig simples) tree
+  as_named : {simples : List SimpleType} {types : List PlainType} {metas : Types} {tree : PlainCore}
+      → IsNamedTree sig body vs simples tree types metas → IsPosed sig body vs (length simples) types metas tree
 
 -- ---- why nothing comes of a tree
 

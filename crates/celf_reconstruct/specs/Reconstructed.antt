@@ -1,7 +1,7 @@
 -- What an item comes to in which something is not written: its core, or why none is answered.
-use Rattle.std.specs.Prelude.{ℕ, ◌+◌, ◌≡◌, ◌<◌, ◌^◌, Bool, true, false, List, [], ◌++◌, length, map, Option, Some, None, Result, Ok, Err, Contains, option_map, slice_get}
+use Rattle.std.specs.Prelude.{ℕ, ◌+◌, ◌≡◌, ◌<◌, ◌^◌, List, [], ◌++◌, length, map, Option, Some, Result, Ok, Err, option_map, slice_get}
 use Rattle.std.specs.List.{range_with_len}
-use Rattle.clf_syntax.specs.TypeTree.{PlainType, SimpleType}
+use Rattle.clf_syntax.specs.TypeTree.{PlainType}
 use Rattle.clf_syntax.specs.Wide.{IsWide}
 use Rattle.clf_syntax.specs.declared.fault.OrWide.{OrWide}
 use Rattle.clf_syntax.specs.declared.fault.OrWide.TheVariants.{Fault, NoMemory, TooFar}
@@ -12,18 +12,15 @@ use Rattle.pattern_laws.specs.Instantiations.{Types}
 use Rattle.unify_laws.specs.Problems.{Problem}
 use Rattle.celf_sugar.specs.PlainTree.{DesugaredBody, declare, query, trace, equal, check, DesugaredItem}
 use Rattle.celf_implicit.specs.declared.variable.Variable.{Variable}
-use Rattle.celf_implicit.specs.Variables.{PlainImplicit}
 use Rattle.celf_implicit.specs.Rounds.{determined, undetermined}
 use Rattle.celf_implicit.specs.Appearance.{IsByAppearance}
 use Rattle.celf_explicit.specs.Explicit.{entry_of}
 use Rattle.celf_elaboration.specs.Names.{TypedVariable}
-use Rattle.celf_filled.specs.States.{State}
-use Rattle.celf_filled.specs.WalkItems.{fill_body}
 use Rattle.celf_front.specs.Fronted.{IsInOrder, IsInCircle}
 use Rattle.celf_replies.specs.declared.reply.Why.{Why}
 use Rattle.celf_replies.specs.Reply.{PlainMismatch, PlainWhy, undetermined as undetermined_name, ill_typed, loose, circular, not_yet, plain_why}
 use Rattle.celf_solve.specs.Settled.{Comes}
-use Rattle.celf_reconstruct.specs.Trees.{determined_name}
+use Rattle.celf_reconstruct.specs.Trees.{IsItemTree}
 use Rattle.celf_reconstruct.specs.Left.{metavariables_in, metavariables_with}
 use Rattle.celf_reconstruct.specs.Posed.{IsDeclaration, IsPosed, Unsettled}
 
@@ -103,16 +100,6 @@ pub record IsLoose (sig : PlainSignature) (body : DesugaredBody) (count : ℕ) :
   pub counted : count ≡ length (metavariables_with core types)
   pub some_left : count ≡ 0 → ⊥
 
--- the simple types of the constants, and no metavariable so far; all is filled in so far
-abbrev pub nothing_filled : List SimpleType → State
-nothing_filled constants = record { constants = constants; added = []; whole = true }
-
--- Something is left to be found of which the simple type is not known. An implicit variable is determined where none is wanted; or, as it is read, the item has a place
--- for something to be filled in that has none itself, or stands under a local without one.
-pub data HasNoTree (sig : PlainSignature) (body : DesugaredBody) : Type 0 where
-  untyped_variable : {x : PlainImplicit} → Contains (determined sig body) x → x.place ≡ None → HasNoTree sig body
-  untyped_place : {constants : List SimpleType} → (fill_body sig (map determined_name (determined sig body)) body (nothing_filled constants)).1.whole ≡ false → HasNoTree sig body
-
 abbrev pub IsSearch : DesugaredBody → Type 0
 IsSearch (declare n i c) = ⊥
 IsSearch (query d e l a t) = Unit {0}
@@ -135,7 +122,8 @@ pub data IsBeyond (sig : PlainSignature) (body : DesugaredBody) : Type 0 where
 -- Why an item with something to be found is declined before the rules are asked.
 pub data Declines (sig : PlainSignature) (body : DesugaredBody) : PlainWhy → Type 0 where
   no_type : {v : Variable} → undetermined sig body ≡ Some v → Declines sig body (undetermined_name v.name)
-  no_tree : {m : PlainMismatch} → HasNoTree sig body → Declines sig body (ill_typed m)
+  -- No such tree is there: something is left to be found of which the simple type is not known.
+  no_tree : {m : PlainMismatch} → ((vs : List TypedVariable) (metas : Types) (tree : PlainCore) → IsItemTree sig body vs metas tree → ⊥) → Declines sig body (ill_typed m)
   unsettled : {vs : List TypedVariable} {unnamed : ℕ} {types : List PlainType} {metas : Types} {tree : PlainCore} {why : PlainWhy}
       → IsPosed sig body vs unnamed types metas tree → Unsettled sig types metas tree why → Declines sig body why
   left_loose : {count : ℕ} → IsLoose sig body count → Declines sig body (loose count)

@@ -1,6 +1,6 @@
 -- The tree of an item in which something is not written: what is read of it with new metavariables in those places, and the implicit variables as
 -- constants past those of the signature.
-use Rattle.std.specs.Prelude.{ℕ, ◌+◌, ◌≡◌, List, [], ◌∷◌, ◌++◌, length, map, Option, Some, None, slice_get}
+use Rattle.std.specs.Prelude.{ℕ, ◌≡◌, List, ◌++◌, length, map, Some, None, slice_get}
 use Rattle.clf_syntax.specs.TypeTree.{PlainType, SimpleType}
 use Rattle.clf_syntax.specs.Simple.{erase}
 use Rattle.clf_sig.specs.Entry.{PlainSignature}
@@ -14,7 +14,8 @@ use Rattle.celf_elaboration.specs.Fillings.{Fillings, AreNew, types_of_new}
 use Rattle.celf_elaboration.specs.Names.{TypedVariable, with_simple_type, types_read}
 use Rattle.celf_elaboration.specs.Declarations.{declared_heads}
 use Rattle.celf_elaboration.specs.Items.{ReadsBody}
-use Rattle.celf_filled.specs.TypedFrom.{indices_of, new_in, typed_from}
+use Rattle.celf_filled.specs.TypedFrom.{indices_of}
+use Rattle.filled_laws.specs.FreshTypes.{types_from, new_in_each}
 
 -- a name with a simple type, if that is known
 abbrev pub determined_name : PlainImplicit → List ℕ × Place
@@ -22,16 +23,6 @@ determined_name x = (x.name, x.place)
 
 abbrev pub read_name : TypedVariable → List ℕ × Place
 read_name v = (v.name, Some (erase v.type))
-
--- the types of these simple types in which new metavariables, numbered in order from k on, stand for the indices of families; and the simple types of these
-module _ (indices : ℕ → List SimpleType) where
-  abbrev pub types_from : ℕ → List SimpleType → List PlainType
-  types_from k [] = []
-  types_from k (t ∷ ts) = typed_from indices k [] t ∷ types_from (k + length (new_in indices [] t)) ts
-
-  abbrev pub new_in_each : List SimpleType → List SimpleType
-  new_in_each [] = []
-  new_in_each (t ∷ ts) = new_in indices [] t ++ new_in_each ts
 
 abbrev pub simple_types_read : List TypedVariable → List SimpleType
 simple_types_read vs = map erase (types_read vs)

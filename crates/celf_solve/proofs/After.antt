@@ -2,22 +2,19 @@
 use Rattle.std.specs.Prelude.{◌≡◌, true, List, [], ◌∷◌, map, refl}
 use Rattle.std.proofs.Common.{ap, sym, subst, ◌∙◌}
 use Rattle.clf_syntax.specs.declared.tree.Head.TheVariants.{Const, Var, Meta}
-use Rattle.clf_syntax.specs.Tree.{PlainObject}
 use Rattle.clf_syntax.specs.TypeTree.{PlainType, SimpleType}
 use Rattle.clf_syntax.specs.Simple.{erase, Assignment, Families, SimplyTyped}
-use Rattle.hered_subst.specs.Substitution.{Substituted}
 use Rattle.hered_subst.specs.TypedEnvironments.{TypedEnvironment}
 use Rattle.hered_subst.specs.Laws.{ResultsAreTyped}
 use Rattle.hered_subst.proofs.TypedResults.{result_is_typed}
 use Rattle.subst_laws.specs.Environments.{Instantiation, instant}
 use Rattle.subst_laws.proofs.Environs.{instant_is_environment}
-use Rattle.clf_sig.specs.Entry.{PlainClass}
 use Rattle.clf_sig.specs.Core.{PlainCore}
 use Rattle.pattern_laws.specs.Instantiations.{Types, closed}
 use Rattle.pattern_laws.specs.Equations.{Equation}
 use Rattle.unify_laws.specs.Problems.{Problem}
-use Rattle.celf_elaboration.specs.Items.{SubstitutedClass, in_family_class, in_constant_class, SubstitutedCore, in_declaration, in_query, in_trace, in_equation, in_check}
-use Rattle.celf_solve.specs.Formed.{EachIsFormed, ClassIsFormed, CoreIsFormed}
+use Rattle.gathered_laws.proofs.Keeping.{core_stays_formed}
+use Rattle.celf_solve.specs.Scenes.{EachIsFormed}
 use Rattle.celf_solve.specs.Settled.{EachBecomes, Settles}
 use Rattle.celf_solve.specs.Laws.{SettledIsFormed, IsFormedAfter}
 use Rattle.celf_solve.proofs.More.{HasMore, core_more, each_more}
@@ -26,20 +23,6 @@ module _ (arguments : Families) (g : Assignment) (s : Instantiation) (typed : Ty
   results : ResultsAreTyped true arguments g g (instant s)
   results = result_is_typed true arguments g g (instant s) typed
 
-  object_after : (n x : PlainObject) (a b : PlainType) → erase b ≡ erase a → SimplyTyped g n (erase a) → Substituted (instant s) n x → SimplyTyped g x (erase b)
-  object_after n x a b e p h = subst (SimplyTyped g x) (sym e) (results.object n x (erase a) p h)
-
-  class_after : {c d : PlainClass} → SubstitutedClass (instant s) c d → ClassIsFormed arguments g c → ClassIsFormed arguments g d
-  class_after (in_family_class {k = k} {l = l} h) p = results.kind k l p h
-  class_after (in_constant_class {a = a} {b = b} h) p = (results.type a b p h).0
-
-  core_after : {tree core : PlainCore} → SubstitutedCore (instant s) tree core → CoreIsFormed arguments g tree → CoreIsFormed arguments g core
-  core_after (in_declaration h) p = class_after h p
-  core_after (in_query {a = a} {b = b} h) p = (results.type a b p h).0
-  core_after (in_trace {t = t} {u = u} h) p = (results.telescope t u p h).0
-  core_after (in_equation {m = m} {n = n} {x = x} {y = y} {a = a} {b = b} h i k) p = let (q, e) = results.type a b p.0 k in (q, object_after m x a b e p.1 h, object_after n y a b e p.2 i)
-  core_after (in_check {n = n} {x = x} {a = a} {b = b} h k) p = let (q, e) = results.type a b p.0 k in (q, object_after n x a b e p.1 h)
-
   each_after : (as_ bs : List PlainType) → EachBecomes s as_ bs → EachIsFormed arguments g as_ → EachIsFormed arguments g bs × (map erase bs ≡ map erase as_)
   each_after [] [] h p = (tt, refl)
   each_after [] (b ∷ bs) h p = absurd h
@@ -47,15 +30,12 @@ module _ (arguments : Families) (g : Assignment) (s : Instantiation) (typed : Ty
   each_after (a ∷ as_) (b ∷ bs) h p = let (q, e) = results.type a b p.0 h.0 in let (r, f) = each_after as_ bs h.1 p.1 in ((q, r), ap (λ t. t ∷ map erase bs) e ∙ ap (λ l. erase a ∷ l) f)
 
 pub settled_is_formed : SettledIsFormed
-settled_is_formed arguments constants metas q tree types now core after h formed each = let later = each_after arguments g h.solutions typed types after h.types_become (each_more arguments (closed constants metas) g more types each) in record {
-  tree = core_after arguments g h.solutions typed h.core_becomes (core_more arguments (closed constants metas) g more tree formed);
+settled_is_formed arguments constants metas q tree types now core after h formed each = let g = closed constants now.metas in let later = each_after arguments g h.solutions typed types after h.types_become (each_more arguments (closed constants metas) g more types each) in record {
+  tree = core_stays_formed arguments g g (instant h.solutions) typed tree core h.core_becomes (core_more arguments (closed constants metas) g more tree formed);
   each = later.0;
   erased = later.1;
 }
   where
-    abbrev g : Assignment
-    g = closed constants now.metas
-
     typed : TypedEnvironment true (closed constants now.metas) (closed constants now.metas) (instant h.solutions)
     typed = (instant_is_environment (closed constants now.metas)).0 (closed constants now.metas) h.solutions h.put_in.assigns
 

@@ -1,8 +1,11 @@
 -- Trees in a store with all solutions put in, from what is typed there.
-use Rattle.std.specs.Prelude.{ℕ, zero, suc, ◌≡◌, ◌<◌, List, [], ◌∷◌, length, map, get_or}
-use Rattle.std.proofs.Common.{sym, subst, arith}
-use Rattle.clf_syntax.specs.declared.tree.Ty.{Ty}
-use Rattle.clf_syntax.specs.PlainTypes.{plain_ty}
+use Rattle.std.specs.Prelude.{ℕ, zero, suc, ◌≡◌, ◌<◌, List, [], ◌∷◌, length, map, get_or, refl}
+use Rattle.std.proofs.Common.{ap, sym, subst, ◌∙◌, arith}
+use Rattle.clf_syntax.specs.declared.tree.Mode.{Mode}
+use Rattle.clf_syntax.specs.declared.tree.Obj.{Obj}
+use Rattle.clf_syntax.specs.declared.tree.Ty.{Ty, Fam, Fun, With, Top}
+use Rattle.clf_syntax.specs.Plain.{plain_obj}
+use Rattle.clf_syntax.specs.PlainTypes.{plain_ty, plain-Fam, plain-Fun, plain-With, plain-Top}
 use Rattle.clf_syntax.specs.TypeTree.{PlainType, family, function, both, top, monad, PlainTelescope, PlainKind}
 use Rattle.clf_syntax.specs.Simple.{Assignment, Families, erase, extended, SimplyFormedKind}
 use Rattle.hered_subst.specs.Substitution.{Environment, SubstitutedType, in_monad, SubstitutedTelescope, SubstitutedKind, in_no_argument, in_argument}
@@ -15,7 +18,8 @@ use Rattle.metavars.specs.Becoming.{Each, none, next}
 use Rattle.metavars.specs.Typed.{TypesStore}
 use Rattle.metavars.proofs.Becomings.{under-closed}
 use Rattle.metavars.proofs.TypesStores.{types-extended}
-use Rattle.celf_solve.specs.Formed.{EachIsFormed, ClassIsFormed, CoreIsFormed}
+use Rattle.gathered_laws.specs.Formed.{ClassIsFormed, CoreIsFormed}
+use Rattle.celf_solve.specs.Scenes.{EachIsFormed}
 use Rattle.celf_solve.specs.Settled.{EachBecomes}
 use Rattle.celf_solve.specs.Puts.{HasPutIn, IsFormedIn, EachIsFormedIn, ClassIsFormedIn, CoreIsFormedIn, TypeBecomes, TelescopeBecomes, KindBecomes}
 
@@ -40,22 +44,29 @@ module _ (zs : List Addition) where
 through_monad : {s : Environment} {t u : PlainTelescope} → SubstitutedType s (monad t) (monad u) → SubstitutedTelescope s t u
 through_monad (in_monad h) = h
 
-abbrev IsMonad : PlainType → Type 0
-IsMonad (family f ns) = ⊥
-IsMonad (function m a b) = ⊥
-IsMonad (both a b) = ⊥
-IsMonad top = ⊥
-IsMonad (monad s) = Unit {0}
-
-monad_stays : {s : Environment} {t : PlainTelescope} {x : PlainType} → SubstitutedType s (monad t) x → IsMonad x
-monad_stays (in_monad h) = tt
+monad_stays : {s : Environment} {t : PlainTelescope} {x : PlainType} → SubstitutedType s (monad t) x → (u : PlainTelescope) × (x ≡ monad u)
+monad_stays (in_monad {u = u} h) = (u, refl)
 
 module _ (zs : List Addition) where
   pub telescope_becomes : (t u : PlainTelescope) → TypeBecomes zs (monad t) (monad u) → TelescopeBecomes zs t u
   telescope_becomes t u h s p c = through_monad (h s p c)
 
-  pub is_monad : HasPutIn zs → (t : PlainTelescope) (x : PlainType) → TypeBecomes zs (monad t) x → IsMonad x
-  is_monad w t x h = monad_stays (h w.solutions w.put_in w.closed)
+  pub stays_monad : HasPutIn zs → (t : PlainTelescope) (x : PlainType) → TypeBecomes zs (monad t) x → (u : PlainTelescope) × (x ≡ monad u)
+  stays_monad w t x h = monad_stays (h w.solutions w.put_in w.closed)
+
+-- No other form of type is a monad.
+module _ (x : Ty) (u : PlainTelescope) (e : plain_ty x ≡ monad u) where
+  pub no_family : (f : ℕ) (ns : List Obj) → x ≡ Fam f ns → ⊥
+  no_family f ns h = let k : plain_ty x ≡ family f (map plain_obj ns) = ap plain_ty h ∙ plain-Fam f ns in cc
+
+  pub no_function : (m : Mode) (a b : Ty) → x ≡ Fun m a b → ⊥
+  no_function m a b h = let k : plain_ty x ≡ function m (plain_ty a) (plain_ty b) = ap plain_ty h ∙ plain-Fun m a b in cc
+
+  pub no_pair : (a b : Ty) → x ≡ With a b → ⊥
+  no_pair a b h = let k : plain_ty x ≡ both (plain_ty a) (plain_ty b) = ap plain_ty h ∙ plain-With a b in cc
+
+  pub no_top : x ≡ Top → ⊥
+  no_top h = let k : plain_ty x ≡ top = ap plain_ty h ∙ plain-Top in cc
 
 -- ---- what is typed by an assignment that types the store
 

@@ -14,9 +14,9 @@ use Rattle.solver_laws.specs.Solving.{problem_of}
 use Rattle.metavars.specs.Stored.{additions}
 use Rattle.celf_solve.specs.declared.scene.Scene.{Scene}
 use Rattle.celf_solve.specs.declared.scene.Found.{Found}
-use Rattle.celf_solve.specs.Formed.{EachIsFormed, CoreIsFormed}
+use Rattle.gathered_laws.specs.Formed.{CoreIsFormed}
 use Rattle.celf_solve.specs.Settled.{Settles, Comes, Sticks, Clashes}
-use Rattle.celf_solve.specs.Scenes.{constants_in, metas_in, tree_of, types_of, IsScene, Gathered, IsSettled, AreLeft, start_of}
+use Rattle.celf_solve.specs.Scenes.{constants_in, metas_in, tree_of, types_of, IsScene, Gathered, EachIsFormed, IsSettled, AreLeft, start_of}
 
 -- Of a scene whose tree gathers these equations.
 pub record AnswersGathered (sig : PlainSignature) (s : Scene) (q : List Equation) : Type 0 where

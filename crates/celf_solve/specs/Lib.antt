@@ -1,4 +1,3 @@
-pub mod Formed
 pub mod Settled
 pub mod Scenes
 pub mod Laws

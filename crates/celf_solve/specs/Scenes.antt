@@ -1,10 +1,10 @@
 -- What is asked of a scene, and what is answered of it.
-use Rattle.std.specs.Prelude.{ℕ, ◌≡◌, List, [], ◌++◌, map, Some, None, slice_get}
+use Rattle.std.specs.Prelude.{ℕ, ◌≡◌, List, [], ◌∷◌, map, Some, None, slice_get}
 use Rattle.clf_syntax.specs.TypeTree.{PlainType, SimpleType}
-use Rattle.clf_syntax.specs.Simple.{Assignment, Families, erase}
+use Rattle.clf_syntax.specs.Simple.{Assignment, Families, SimplyFormed}
 use Rattle.clf_syntax.specs.Plain.{plain_obj}
 use Rattle.clf_syntax.specs.PlainTypes.{plain_ty}
-use Rattle.clf_sig.specs.Entry.{PlainSignature, simple_types}
+use Rattle.clf_sig.specs.Entry.{PlainSignature}
 use Rattle.clf_sig.specs.Core.{PlainCore, plain_core}
 use Rattle.store_laws.specs.Additions.{meta_types, given}
 use Rattle.metavars.specs.Stored.{constants, additions}
@@ -28,7 +28,7 @@ use Rattle.celf_solve.specs.declared.scene.Posed.{Posed}
 use Rattle.celf_solve.specs.declared.scene.Posed.TheVariants as posed
 use Rattle.celf_solve.specs.declared.scene.Solved.{Solved}
 use Rattle.celf_solve.specs.declared.scene.Solved.TheVariants as solved
-use Rattle.celf_solve.specs.Formed.{EachIsFormed, CoreIsFormed}
+use Rattle.gathered_laws.specs.Formed.{CoreIsFormed, store_constants}
 use Rattle.celf_solve.specs.Settled.{Settles}
 
 -- ---- the parts of a scene
@@ -58,7 +58,7 @@ pub record IsFresh (s : Scene) : Type 0 where
 
 -- The constants past those of the signature have the types of the scene, which are simply formed without variables, and no hole stands in the tree.
 pub record IsScene (sig : PlainSignature) (s : Scene) : Type 0 where
-  pub constants_are : constants s.store ≡ simple_types sig ++ map erase (types_of s)
+  pub constants_are : constants s.store ≡ store_constants sig (types_of s)
   pub fresh : IsFresh s
   pub read : ReadTypes sig (types_of s) (metas_in s)
   pub no_hole : CoreHasNoHole (tree_of s)
@@ -69,6 +69,10 @@ Gathered sig s q = CoreGathers sig (item_setting sig (types_of s) (metas_in s)) 
 
 abbrev pub GathersNone : PlainSignature → Scene → Type 0
 GathersNone sig s = (q : List Equation) → Gathered sig s q → ⊥
+
+abbrev pub EachIsFormed : Families → Assignment → List PlainType → Type 0
+EachIsFormed arguments g [] = Unit {0}
+EachIsFormed arguments g (a ∷ as_) = SimplyFormed arguments g a × EachIsFormed arguments g as_
 
 -- The tree, the types and the equations are simply typed in a store in which nothing is solved.
 pub record MaySettle (s : Scene) (q : List Equation) : Type 0 where

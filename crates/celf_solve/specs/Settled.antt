@@ -1,11 +1,10 @@
 -- Equations that are solved, and trees with all solutions put in.
-use Rattle.std.specs.Prelude.{ℕ, ◌≡◌, List, [], ◌∷◌, ◌++◌, map, slice_get}
+use Rattle.std.specs.Prelude.{ℕ, ◌≡◌, List, [], ◌∷◌, slice_get}
 use Rattle.clf_syntax.specs.Tree.{PlainObject}
 use Rattle.clf_syntax.specs.TypeTree.{PlainType}
-use Rattle.clf_syntax.specs.Simple.{erase}
 use Rattle.hered_subst.specs.Substitution.{SubstitutedType}
 use Rattle.subst_laws.specs.Environments.{Instantiation, instant}
-use Rattle.clf_sig.specs.Entry.{PlainSignature, simple_types}
+use Rattle.clf_sig.specs.Entry.{PlainSignature}
 use Rattle.clf_sig.specs.Core.{PlainCore}
 use Rattle.pattern_laws.specs.Instantiations.{Types}
 use Rattle.pattern_laws.specs.Equations.{Equation}
@@ -14,10 +13,11 @@ use Rattle.reach_laws.specs.Unified.{Unified, Clashed, IsPutIn}
 use Rattle.elaboration_laws.specs.General.{fresh_problem}
 use Rattle.elaboration_laws.specs.ItemSetting.{item_setting}
 use Rattle.celf_elaboration.specs.Items.{SubstitutedCore, CoreGathers}
+use Rattle.gathered_laws.specs.Formed.{store_constants}
 
 -- the simple types of the signature's constants, and past them those of these types
 abbrev pub constants_of : PlainSignature → List PlainType → Types
-constants_of sig types = slice_get (simple_types sig ++ map erase types)
+constants_of sig types = slice_get (store_constants sig types)
 
 -- An instantiation makes these types those.
 abbrev pub EachBecomes : Instantiation → List PlainType → List PlainType → Type 0

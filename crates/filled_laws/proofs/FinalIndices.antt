@@ -1,8 +1,7 @@
 -- The new metavariables in types made of simple types have final results, and these types have those as erasures.
 use Rattle.std.proofs.lemmas.List.Elements.{All-append, All-nil}
 use Rattle.std.specs.List.{All}
-use Rattle.std.specs.Prelude.{List, [], length, map, refl, ℕ, ◌++◌, ◌+◌, ◌∷◌, ◌≡◌}
-use Rattle.clf_syntax.specs.Simple.{erase}
+use Rattle.std.specs.Prelude.{List, [], length, refl, ℕ, ◌+◌, ◌∷◌, ◌≡◌}
 use Rattle.clf_syntax.specs.TypeTree.{SimpleTelescope, SimpleType, arrow, base, lax, simple_binding, simple_end, simple_top, simple_with}
 use Rattle.pattern_laws.specs.Equations.{Locals}
 use Rattle.pattern_laws.specs.Patterns.{HasFinalResult}
@@ -10,7 +9,7 @@ use Rattle.metavars.specs.Fresh.{Scope, new_types, scope_of}
 use Rattle.gathered_laws.proofs.Finals.{new_are_final}
 use Rattle.celf_filled.proofs.Erasures.{typed-erased}
 use Rattle.celf_filled.specs.TypedFrom.{new_in, new_in_telescope, new_of_each}
-use Rattle.filled_laws.specs.FreshTypes.{new_in_each, types_from}
+use Rattle.filled_laws.specs.FreshTypes.{new_in_each}
 use Rattle.filled_laws.specs.Laws.{NewInAreFinal, TypesHaveErasures}
 
 of_each : (s : Scope) (ts : List SimpleType) → All HasFinalResult (new_of_each s ts)

@@ -15,7 +15,8 @@ use Rattle.gathered_laws.proofs.Stores.{formed_type_has_no_variables}
 use Rattle.celf_filled.proofs.FormedTypes.{made_types_are_formed}
 use Rattle.celf_filled.specs.TypedFrom.{indices_of, new_in, typed_from}
 use Rattle.filled_laws.specs.FreshTypes.{new_in_each, types_from}
-use Rattle.filled_laws.specs.Laws.{FreshTypesAreRead, HasFamilies, TypesFrom}
+use Rattle.filled_laws.specs.Families.{HasFamilies}
+use Rattle.filled_laws.specs.Laws.{FreshTypesAreRead, TypesFrom}
 
 in_front : (metas : Types) (k : ℕ) (ts us : List SimpleType) → TypesFrom metas k (ts ++ us) → TypesFrom metas k ts
 in_front metas k ts us n j u e = n j u (get-front ts us j u e)

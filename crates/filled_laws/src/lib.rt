@@ -3,4 +3,4 @@
 
 mod laws;
 
-pub use laws::fresh;
+pub use laws::{fresh, over_signature};

@@ -9,14 +9,14 @@ use Rattle.clf_sig.specs.Entry.{PlainClass, PlainSignature, constant_of, family_
 use Rattle.clf_rules.specs.WellFormed.{WellFormedSignature}
 use Rattle.typing_laws.specs.SimpleTyping.{families_of}
 use Rattle.pattern_laws.specs.Equations.{Equation}
-use Rattle.pattern_laws.specs.Instantiations.{Types, closed}
+use Rattle.pattern_laws.specs.Instantiations.{Types}
 use Rattle.gathering.proofs.GatheredTyped.{gathered_is_typed}
 use Rattle.gathering.specs.Complete.{HasNoHole}
 use Rattle.gathering.specs.Gather.{Gathers}
 use Rattle.gathering.specs.Setting.{EquationsTyped, Setting}
 use Rattle.gathering.specs.Shape.{unmarked_shape}
 use Rattle.elaboration_laws.proofs.InFronts.{kinds, setting_formed}
-use Rattle.elaboration_laws.specs.ItemSetting.{ReadTypes, item_constants, item_setting}
+use Rattle.elaboration_laws.specs.ItemSetting.{ReadTypes, item_setting}
 use Rattle.celf_elaboration.specs.Items.{ClassGathers, CoreGathers}
 use Rattle.celf_gather.specs.Holes.{ClassHasNoHole, CoreHasNoHole}
 use Rattle.gathered_laws.proofs.PartsTyped.{kind_typed, telescope_typed, type_typed, typed_both}

@@ -1,10 +1,10 @@
 -- New metavariables have a family or a monad as their result.
 use Rattle.std.proofs.lemmas.List.Elements.{All-append, All-cons, All-nil}
 use Rattle.std.specs.List.{All}
-use Rattle.std.specs.Prelude.{Bool, List, [], false, if◌then◌else◌, true, ◌++◌, ◌∷◌}
+use Rattle.std.specs.Prelude.{Bool, [], false, if◌then◌else◌, true, ◌∷◌}
 use Rattle.clf_syntax.specs.TypeTree.{SimpleType, arrow, base, lax, simple_top, simple_with}
 use Rattle.pattern_laws.specs.Patterns.{HasFinalResult}
-use Rattle.metavars.specs.Fresh.{Local, Scope, binder, functions, new_types, scope_of}
+use Rattle.metavars.specs.Fresh.{Scope, binder, functions, new_types, scope_of}
 use Rattle.celf_elaboration.specs.Fillings.{Fillings, types_of_new}
 use Rattle.gathered_laws.specs.Laws.{NewTypesAreFinal}
 

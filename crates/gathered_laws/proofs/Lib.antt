@@ -5,3 +5,4 @@ pub mod ReadingsWhole
 pub mod Finals
 pub mod Stores
 pub mod SameTypes
+pub mod Keeping

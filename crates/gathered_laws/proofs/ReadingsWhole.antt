@@ -17,7 +17,7 @@ use Rattle.celf_sugar.specs.declared.plain.PName.{PName}
 use Rattle.celf_places.specs.Places.{Place}
 use Rattle.celf_explicit.specs.Objects.{long_at}
 use Rattle.celf_explicit.specs.Types.{kind_of}
-use Rattle.celf_elaboration.specs.Fillings.{AreNew, Filling, Fillings, Scoped}
+use Rattle.celf_elaboration.specs.Fillings.{AreNew, Fillings, Scoped}
 use Rattle.celf_elaboration.specs.Items.{ReadsBody, reads_check, reads_constant_declaration, reads_equation, reads_family_declaration, reads_query, reads_trace}
 use Rattle.celf_elaboration.specs.Names.{ImplicitVariable}
 use Rattle.celf_elaboration.specs.Readings.{ReadsFilled, ReadsHead, ReadsImplicit, ReadsIndices, ReadsObject, ReadsSpine, ReadsSteps, ReadsTelescope, ReadsTuple, ReadsType, filled_next, filled_none, implicit_next, implicit_none, indices_beyond, indices_next, indices_none, reads_atomic, reads_binding, reads_both, reads_dropped, reads_end, reads_family, reads_function, reads_head, reads_hole, reads_lam, reads_monad, reads_monadic, reads_pair, reads_top, reads_unit, spine_argument, spine_end, spine_first, spine_second, steps_next, steps_none, tuple_end, tuple_entry}

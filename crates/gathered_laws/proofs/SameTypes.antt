@@ -4,8 +4,8 @@ use Rattle.std.proofs.lemmas.List.{length-map}
 use Rattle.std.proofs.lemmas.Option.{slice_get-map}
 use Rattle.std.specs.List.{slice_get}
 use Rattle.std.specs.Option.{option_map}
-use Rattle.std.specs.Prelude.{Bool, List, None, Option, Some, [], false, if◌then◌else◌, length, map, nat_lt, refl, suc, true, zero, ℕ, ◌++◌, ◌+◌, ◌-◌, ◌<◌, ◌∷◌, ◌≡◌, ◌≤◌, ◌⊎◌}
-use Rattle.clf_syntax.specs.Simple.{Assignment, Families, SimplyFormed, SimplyFormedKind, SimplyFormedTelescope, SimplyTyped, SimplyTypedEach, erase, extended}
+use Rattle.std.specs.Prelude.{Bool, List, None, Option, Some, [], false, if◌then◌else◌, length, map, nat_lt, refl, suc, true, zero, ℕ, ◌++◌, ◌-◌, ◌<◌, ◌∷◌, ◌≡◌, ◌≤◌, ◌⊎◌}
+use Rattle.clf_syntax.specs.Simple.{Assignment, Families, SimplyFormed, SimplyFormedKind, SimplyFormedTelescope, SimplyTypedEach, erase, extended}
 use Rattle.clf_syntax.specs.Tree.{PlainObject}
 use Rattle.clf_syntax.specs.TypeTree.{PlainKind, PlainTelescope, PlainType, SimpleType, binding, both, end, family, function, monad, simple_top, top}
 use Rattle.clf_syntax.specs.declared.tree.Head.{Head}
@@ -70,21 +70,22 @@ module _ (arguments : Families) where
 equations_nearly : (b c metas : Types) → Nearly (closed b metas) (closed c metas) → (q : List Equation) → TypedEquations b metas q → TypedEquations c metas q
 equations_nearly b c metas n [] p = tt
 equations_nearly b c metas n (e ∷ q) p =
-    let k = scoped_nearly e.locals (closed b metas) (closed c metas) n in
-    ((typed_nearly e.left (scoped e.locals (closed b metas)) (scoped e.locals (closed c metas)) e.type k p.0.0, typed_nearly e.right (scoped e.locals (closed b metas)) (scoped e.locals (closed c metas)) e.type k p.0.1),
-    equations_nearly b c metas n q p.1)
+    let k = scoped_nearly e.locals (closed b metas) (closed c metas) n in (
+      (typed_nearly e.left (scoped e.locals (closed b metas)) (scoped e.locals (closed c metas)) e.type k p.0.0, typed_nearly e.right (scoped e.locals (closed b metas)) (scoped e.locals (closed c metas)) e.type k p.0.1),
+      equations_nearly b c metas n q p.1,
+    )
 
 -- ---- the constants
 
 -- The store has the same simple type at a number, or <T> where the item has none.
-abbrev IsSame : Option SimpleType → Option SimpleType → Type 0
+abbrev pub IsSame : Option SimpleType → Option SimpleType → Type 0
 IsSame x y = (x ≡ y) ⊎ ((x ≡ Some simple_top) × (y ≡ None))
 
 class_same : (d : PlainClass) → IsSame (Some (simple_class d)) (option_map erase (type_in d))
 class_same (family_of k) = inr (refl, refl)
 class_same (constant_of a) = inl refl
 
-constant_same : (sig : PlainSignature) (c : ℕ) → IsSame (slice_get (simple_types sig) c) (option_map erase (constant_type sig c))
+pub constant_same : (sig : PlainSignature) (c : ℕ) → IsSame (slice_get (simple_types sig) c) (option_map erase (constant_type sig c))
 constant_same [] c = inl refl
 constant_same (d ∷ sig) zero = class_same d.1.class
 constant_same (d ∷ sig) (suc c) = constant_same sig c
@@ -105,12 +106,13 @@ get_second (x ∷ xs) ys (suc i) l = get_second xs ys i (omega arith) ∙ ap (sl
     less : (i n : ℕ) → i - n ≡ suc i - suc n
     less i n = omega arith
 
+-- the simple type at a number that is that of a constant of the signature or not
+abbrev given_at : PlainSignature → List PlainType → ℕ → Bool → Option SimpleType
+given_at sig xs c b = option_map erase (if b then constant_type sig c else slice_get xs (c - length sig))
+
 same_at : (sig : PlainSignature) (xs : List PlainType) (c : ℕ) → IsSame (slice_get (store_constants sig xs) c) (item_constants sig xs c)
 same_at sig xs c = of_place (nat_lt c (length sig)) refl
   where
-    here : Bool → Option SimpleType
-    here b = option_map erase (if b then constant_type sig c else slice_get xs (c - length sig))
-
     moved : (x y z w : Option SimpleType) → x ≡ y → w ≡ z → IsSame y z → IsSame x w
     moved x y z w e f p = ⊎_elim (λ g. inl (e ∙ g ∙ sym f)) (λ g. inr (e ∙ g.0, f ∙ g.1)) p
 
@@ -118,12 +120,11 @@ same_at sig xs c = of_place (nat_lt c (length sig)) refl
     count = length-map sig (λ e. simple_class e.1.class)
 
     of_place : (b : Bool) → nat_lt c (length sig) ≡ b → IsSame (slice_get (store_constants sig xs) c) (item_constants sig xs c)
-    unfolding here
     of_place true l = let i : c < length sig = grind (arith, l) in let n = count in
         moved (slice_get (store_constants sig xs) c) (slice_get (simple_types sig) c) (option_map erase (constant_type sig c)) (item_constants sig xs c)
-        (get_first (simple_types sig) (map erase xs) c (omega (arith, i, n))) (ap here l) (constant_same sig c)
+        (get_first (simple_types sig) (map erase xs) c (omega (arith, i, n))) (ap (given_at sig xs c) l) (constant_same sig c)
     of_place false l = let i : length sig ≤ c = grind (arith, l) in let n = count in
-        inl (get_second (simple_types sig) (map erase xs) c (omega (arith, i, n)) ∙ ap (λ k. slice_get (map erase xs) (c - k)) count ∙ slice_get-map erase xs (c - length sig) ∙ sym (ap here l))
+        inl (get_second (simple_types sig) (map erase xs) c (omega (arith, i, n)) ∙ ap (λ k. slice_get (map erase xs) (c - k)) count ∙ slice_get-map erase xs (c - length sig) ∙ sym (ap (given_at sig xs c) l))
 
 module _ (sig : PlainSignature) (xs : List PlainType) (metas : Types) where
   abbrev of_item : Assignment
@@ -150,8 +151,10 @@ module _ (sig : PlainSignature) (xs : List PlainType) (metas : Types) where
 
 pub store_types_the_same : StoreTypesTheSame
 store_types_the_same sig xs metas = record {
-  equations = λ q. (equations_nearly (item_constants sig xs) (slice_get (store_constants sig xs)) metas (to_store sig xs metas) q,
-      equations_nearly (slice_get (store_constants sig xs)) (item_constants sig xs) metas (to_item sig xs metas) q);
+  equations = λ q. (
+    equations_nearly (item_constants sig xs) (slice_get (store_constants sig xs)) metas (to_store sig xs metas) q,
+    equations_nearly (slice_get (store_constants sig xs)) (item_constants sig xs) metas (to_item sig xs metas) q,
+  );
   types = λ arguments a. (type_nearly arguments a (of_item sig xs metas) (of_store sig xs metas) (to_store sig xs metas), type_nearly arguments a (of_store sig xs metas) (of_item sig xs metas) (to_item sig xs metas));
   cores = λ arguments c. (core_nearly arguments c (of_item sig xs metas) (of_store sig xs metas) (to_store sig xs metas), core_nearly arguments c (of_store sig xs metas) (of_item sig xs metas) (to_item sig xs metas));
 }

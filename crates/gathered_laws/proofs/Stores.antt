@@ -3,12 +3,10 @@ use Rattle.std.proofs.Common.{ap, subst, sym, ◌∙◌}
 use Rattle.std.proofs.lemmas.List.Elements.{All-get_or}
 use Rattle.std.proofs.lemmas.Option.{get_or_from_slice_get, slice_get_within}
 use Rattle.std.specs.List.{All, slice_get}
-use Rattle.std.specs.Prelude.{List, None, Option, Some, [], length, map, refl, true, ℕ, ◌++◌, ◌∷◌, ◌≡◌}
+use Rattle.std.specs.Prelude.{List, None, Some, [], map, refl, ℕ, ◌++◌, ◌∷◌, ◌≡◌}
 use Rattle.clf_syntax.proofs.RenamingLaws.{ext}
-use Rattle.clf_syntax.specs.Renaming.{Renumbering, ren_type}
-use Rattle.clf_syntax.specs.Simple.{Families, SimplyFormed}
 use Rattle.clf_syntax.specs.Tree.{PlainObject}
-use Rattle.clf_syntax.specs.TypeTree.{PlainType, SimpleType}
+use Rattle.clf_syntax.specs.TypeTree.{SimpleType}
 use Rattle.clf_syntax.specs.declared.tree.Head.{Head}
 use Rattle.clf_syntax.specs.declared.tree.Head.TheVariants.{Const, Meta, Var}
 use Rattle.hered_subst.proofs.Types.{determined_type, renames_type}
@@ -16,9 +14,8 @@ use Rattle.hered_subst.specs.Laws.{keeping}
 use Rattle.hered_subst.specs.Substitution.{keep}
 use Rattle.subst_laws.proofs.Results.{unmoved}
 use Rattle.subst_laws.specs.Environments.{Instantiation}
-use Rattle.store_laws.specs.Additions.{Addition, given, meta_types, new, solved}
-use Rattle.store_laws.specs.Store.{IsStore}
-use Rattle.pattern_laws.specs.Equations.{Equation, TypedEquations}
+use Rattle.store_laws.specs.Additions.{Addition, given, new, solved}
+use Rattle.pattern_laws.specs.Equations.{TypedEquations}
 use Rattle.pattern_laws.specs.Instantiations.{Types, closed}
 use Rattle.pattern_laws.specs.Patterns.{HasFinalResult}
 use Rattle.unify_laws.specs.Problems.{Problem}

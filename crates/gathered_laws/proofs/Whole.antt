@@ -1,5 +1,5 @@
 -- No hole stands in eta-long forms, in what is renumbered, and in objects of new metavariables.
-use Rattle.std.specs.Prelude.{Bool, List, [], false, if◌then◌else◌, length, true, ℕ, ◌+◌, ◌∷◌}
+use Rattle.std.specs.Prelude.{Bool, [], false, if◌then◌else◌, length, true, ℕ, ◌+◌, ◌∷◌}
 use Rattle.clf_syntax.specs.Renaming.{Renumbering, lifted, ren, ren_expression, ren_neutral, ren_tuple, up}
 use Rattle.clf_syntax.specs.Simple.{simple_modes}
 use Rattle.clf_syntax.specs.Tree.{PlainExpression, PlainNeutral, PlainObject, PlainTuple, app, atomic, done, empty, entry, fst, head_alone, head_of, hole, lam, monadic, pair, snd, step, unit}
@@ -7,7 +7,7 @@ use Rattle.clf_syntax.specs.TypeTree.{SimpleTelescope, SimpleType, arrow, base, 
 use Rattle.clf_syntax.specs.declared.tree.Head.TheVariants.{Meta, Var}
 use Rattle.hered_subst.specs.TypedEnvironments.{is_metavariable}
 use Rattle.eta_laws.specs.Eta.{at_monad, eta, expansion, variables}
-use Rattle.metavars.specs.Fresh.{Local, Scope, applied_from, binder, fresh_object, new_types}
+use Rattle.metavars.specs.Fresh.{Scope, applied_from, binder, fresh_object, new_types}
 use Rattle.gathering.specs.Complete.{ExpressionHasNoHole, HasNoHole, NeutralHasNoHole, TupleHasNoHole}
 
 mutual

@@ -1,10 +1,12 @@
 -- Laws of gathered items, as statements; the functions of the crate's `laws` state them.
-use Rattle.std.specs.Prelude.{ℕ, ◌≡◌, List, map}
+use Rattle.std.specs.Prelude.{ℕ, ◌≡◌, true, List, map}
 use Rattle.std.specs.List.{All, slice_get}
 use Rattle.clf_syntax.specs.declared.tree.Head.{Head}
 use Rattle.clf_syntax.specs.TypeTree.{PlainType, PlainTelescope, PlainKind, SimpleType}
 use Rattle.clf_syntax.specs.Simple.{Assignment, Families, extended_over, SimplyFormed, SimplyFormedTelescope, SimplyFormedKind, SimplyFormedContext}
 use Rattle.use_contexts.specs.Context.{Context}
+use Rattle.hered_subst.specs.Substitution.{Environment}
+use Rattle.hered_subst.specs.TypedEnvironments.{TypedEnvironment}
 use Rattle.clf_sig.specs.Entry.{PlainSignature}
 use Rattle.clf_sig.specs.Core.{PlainCore}
 use Rattle.clf_rules.specs.WellFormed.{WellFormedSignature}
@@ -18,13 +20,14 @@ use Rattle.metavars.specs.Fresh.{Scope, new_types}
 use Rattle.gathering.specs.Shape.{Shape}
 use Rattle.gathering.specs.Setting.{Setting, NoImplicit, NoVariables, EquationsTyped}
 use Rattle.gathering.specs.Instances.{FormedSetting, FormedKinds, HasNoVariables}
+use Rattle.gathering.specs.Becoming.{BecomeEach}
 use Rattle.gathering.specs.Items.{TypeGathers, TelescopeGathers, KindGathers}
 use Rattle.elaboration_laws.specs.ItemSetting.{item_constants, item_setting, ReadTypes}
 use Rattle.elaboration_laws.specs.General.{fresh_problem}
 use Rattle.celf_sugar.specs.PlainTree.{DesugaredBody}
 use Rattle.celf_elaboration.specs.Fillings.{Fillings, AreNew, types_of_new}
 use Rattle.celf_elaboration.specs.Names.{ImplicitVariable}
-use Rattle.celf_elaboration.specs.Items.{ReadsBody, CoreGathers}
+use Rattle.celf_elaboration.specs.Items.{ReadsBody, SubstitutedCore, CoreGathers}
 use Rattle.celf_gather.specs.Holes.{TypeHasNoHole, TelescopeHasNoHole, KindHasNoHole, CoreHasNoHole}
 use Rattle.gathered_laws.specs.Formed.{CoreIsFormed, store_constants}
 
@@ -76,3 +79,16 @@ StartIsFresh = (ts : List SimpleType) (q : List Equation) → problem_of (map ne
 -- What is simply formed over constants and metavariables alone has no variables.
 abbrev pub FormedTypeHasNoVariables : Type 0
 FormedTypeHasNoVariables = (arguments : Families) (constants metas : Types) (a : PlainType) → SimplyFormed arguments (closed constants metas) a → HasNoVariables a
+
+-- No hole is simply typed.
+abbrev pub FormedCoreHasNoHole : Type 0
+FormedCoreHasNoHole = (arguments : Families) (g : Assignment) (core : PlainCore) → CoreIsFormed arguments g core → CoreHasNoHole core
+
+-- Under a typed environment a core stays simply formed, and equations stay typed.
+abbrev pub CoreStaysFormed : Type 0
+CoreStaysFormed = (arguments : Families) (g z : Assignment) (s : Environment) → TypedEnvironment true g z s → (core after : PlainCore) → SubstitutedCore s core after
+    → CoreIsFormed arguments g core → CoreIsFormed arguments z after
+
+abbrev pub EquationsStayTyped : Type 0
+EquationsStayTyped = (constants metas more grown : Types) (s : Environment) → TypedEnvironment true (closed constants metas) (closed more grown) s → (p q : List Equation) → BecomeEach s p q
+    → TypedEquations constants metas p → TypedEquations more grown q

@@ -1,6 +1,7 @@
 //! Laws of gathered items, stated by functions that do nothing.
-ghost use Rattle.gathered_laws.specs.Laws.{GatheredCoreIsTyped, GatheredPartsAreTyped, ReadingHasNoHole};
-ghost use Rattle.gathered_laws.specs.Laws.{FormedTypeHasNoVariables, NewTypesAreFinal, StartIsFresh, StartIsStore, StoreTypesTheSame};
+ghost use Rattle.gathered_laws.specs.Laws.{CoreStaysFormed, EquationsStayTyped, FormedCoreHasNoHole};
+ghost use Rattle.gathered_laws.specs.Laws.{FormedTypeHasNoVariables, GatheredCoreIsTyped, GatheredPartsAreTyped};
+ghost use Rattle.gathered_laws.specs.Laws.{NewTypesAreFinal, ReadingHasNoHole, StartIsFresh, StartIsStore, StoreTypesTheSame};
 
 /// What is gathered of a core without holes is typed, and so is the core.
 pub fn gathered()
@@ -20,4 +21,11 @@ pub fn started()
     ensures store { StartIsStore }
     ensures fresh { StartIsFresh }
     ensures closed { FormedTypeHasNoVariables }
+{}
+
+/// What is simply formed has no holes, and stays so under a typed environment.
+pub fn kept()
+    ensures whole { FormedCoreHasNoHole }
+    ensures core { CoreStaysFormed }
+    ensures equations { EquationsStayTyped }
 {}

@@ -3,4 +3,4 @@
 
 mod laws;
 
-pub use laws::{gathered, readings, started};
+pub use laws::{gathered, kept, readings, started};

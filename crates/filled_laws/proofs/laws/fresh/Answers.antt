@@ -1,4 +1,3 @@
-use Rattle.filled_laws.proofs.Families.{formed_types_have_indices}
 use Rattle.filled_laws.proofs.FinalIndices.{new_in_are_final, types_have_erasures}
 use Rattle.filled_laws.proofs.FreshTypes.{fresh_types_are_read}
 use Rattle.filled_laws.proofs.laws.fresh.Goals as goal
@@ -8,9 +7,6 @@ returns-clause-results c = new_in_are_final
 
 pub returns-clause-erasures : goal.returns-clause-erasures
 returns-clause-erasures c = types_have_erasures
-
-pub returns-clause-indices : goal.returns-clause-indices
-returns-clause-indices c = formed_types_have_indices
 
 pub returns-clause-read : goal.returns-clause-read
 returns-clause-read c = fresh_types_are_read

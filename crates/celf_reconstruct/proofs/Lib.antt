@@ -1,0 +1,11 @@
+pub mod Families
+pub mod Variables
+pub mod Reading
+pub mod Settling
+pub mod Appearing
+pub mod Naming
+pub mod NamedScene
+pub mod WholeObjects
+pub mod WholeItems
+pub mod NoTree
+pub mod Answering
