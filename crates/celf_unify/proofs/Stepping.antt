@@ -15,6 +15,11 @@ use Rattle.reach_laws.specs.Rest.{PartOf}
 use Rattle.reach_laws.specs.Unified.{Clashed}
 use Rattle.reach_laws.proofs.PartsUnder.{part_typed}
 use Rattle.reach_laws.proofs.Rests.{typed_listed}
+use Rattle.flat_systems.specs.Systems.{FlatSystem}
+use Rattle.flat_systems.proofs.Wholes.{flat_is_put_in}
+use Rattle.flat_systems.proofs.Parts.{flat_parts}
+use Rattle.flat_systems.proofs.Steps.{flat_assigns, flat_narrows}
+use Rattle.flat_systems.proofs.Left.{nothing_flat_is_left}
 use Rattle.solver_laws.specs.Solving.{problem_of, store_weight, unsolved_types, Ready, Open, ArePutIn, Working}
 use Rattle.solver_laws.specs.Steps.{AssignsEither, NarrowsEither}
 use Rattle.solver_laws.specs.Laws.{MayAssign, MayNarrow}
@@ -23,7 +28,7 @@ use Rattle.solver_laws.proofs.StepFacts.{closed_equation}
 use Rattle.solver_laws.proofs.Hands.{part_silent}
 use Rattle.solver_laws.proofs.Allowed.{assign_is_allowed, narrow_is_allowed, put_in_is_open}
 use Rattle.solver_laws.proofs.Works.{work_assigns, work_narrows, work_reduces, work_clashes}
-use Rattle.celf_constraints.specs.Equated.{plain_equation}
+use Rattle.celf_constraints.specs.Equated.{plain_equation, equations_in}
 use Rattle.metavars.specs.Stored.{Stored, constants, additions}
 use Rattle.celf_unify.specs.declared.answer.Clash.{Clash}
 use Rattle.celf_unify.specs.declared.step.Step.{Step}
@@ -32,7 +37,7 @@ use Rattle.celf_unify.specs.declared.gather.Gathered.{Gathered}
 use Rattle.celf_unify.specs.declared.gather.Gathered.TheVariants as gathered
 use Rattle.celf_unify.specs.Steps.{MayTake, Takes}
 use Rattle.celf_unify.specs.Gathered.{IsTyped, PartIn, ClashIn, GathersOver}
-use Rattle.celf_unify.specs.Passes.{MayAdvance, MayRun, ClashedAt, WorkStands, Advances}
+use Rattle.celf_unify.specs.Passes.{MayAdvance, MayRun, ClashedAt, WorkStands, FlatStands, Advances}
 
 the_open : (cs : List SimpleType) (zs : List Addition) (step : Step) (ws : List Equation) (a : MayAdvance cs zs step ws) → TypedEquation (slice_get cs) (unsolved_types (slice_get (meta_types zs)) (given zs)) a.equation
 the_open cs zs step ws a = typed_listed (slice_get cs) (unsolved_types (slice_get (meta_types zs)) (given zs)) a.equation ws a.listed a.all_in
@@ -48,23 +53,26 @@ may_take s (Assign m o) ws a = let h = assigning (constants s) (additions s) (As
 may_take s (Narrow k mask) ws a = let (zs, c, h) = a.step_of in let n = narrowing (constants s) (additions s) (Narrow k mask) ws ws a a.ready k mask.items zs c h in
     record { places = zs; result = c; type = ⊎_elim (λ p. p.type) (λ p. p.type) h; final = ⊎_elim (λ p. p.final) (λ p. p.final) h; there = n.there; unsolved = n.unsolved }
 
--- A step was taken in a store with these constants: what is ready stays so, the store is lighter, and the work goes on.
+-- A step was taken in a store with these constants: what is ready stays so, and what is flat; the store is lighter, and the work goes on.
 pub record Stepped (cs : List SimpleType) (zs more : List Addition) (ws : List Equation) : Type 0 where
   pub ready : (es : List Equation) → Ready cs zs es → Ready cs more es
   pub lighter : store_weight more < store_weight zs
   pub goes : (before : List Addition) (es : List Equation) (v : Instantiation) → Ready cs zs es → Working cs before zs es v ws → (us : List Equation) → ArePutIn more ws us → (w : Instantiation) × Working cs before more es w us
+  pub flat : FlatSystem cs zs ws → FlatSystem cs more ws
 
 pub stepped : (s t : Stored) (step : Step) (ws : List Equation) → MayAdvance (constants s) (additions s) step ws → Takes s step t → Stepped (constants s) (additions s) (additions t) ws
 stepped s t (Assign m o) ws a taken = subst (λ more. Stepped (constants s) (additions s) more ws) (sym taken.1) (record {
   ready = (λ es r. (assigning (constants s) (additions s) (Assign m o) ws es a r m (plain_obj o) a.step_of).ready);
   lighter = (assigning (constants s) (additions s) (Assign m o) ws ws a a.ready m (plain_obj o) a.step_of).lighter;
   goes = (λ before es v r working us put. work_assigns (constants s) before (additions s) es ws r v working a.equation a.listed m (plain_obj o) a.step_of us put);
+  flat = (λ f. flat_assigns (constants s) (additions s) ws a.ready a.all_in f a.equation a.listed m (plain_obj o) a.step_of);
 })
 stepped s t (Narrow k mask) ws a taken = let (ps, c, h) = a.step_of in subst (λ more. Stepped (constants s) (additions s) more ws)
     (sym (taken.more ps c (⊎_elim (λ p. p.type) (λ p. p.type) h) (⊎_elim (λ p. p.final) (λ p. p.final) h))) (record {
       ready = (λ es r. (narrowing (constants s) (additions s) (Narrow k mask) ws es a r k mask.items ps c h).ready);
       lighter = (narrowing (constants s) (additions s) (Narrow k mask) ws ws a a.ready k mask.items ps c h).lighter;
       goes = (λ before es v r working us put. work_narrows (constants s) before (additions s) es ws r v working a.equation a.listed k mask.items ps c h us put);
+      flat = (λ f. flat_narrows (constants s) (additions s) ws a.ready a.all_in f a.equation a.listed k mask.items ps c h);
     })
 
 pub same_constants : (s t : Stored) (step : Step) → Takes s step t → constants t ≡ constants s
@@ -124,6 +132,12 @@ stands cs before zs es us w (gathered.Left left) working h = (w, working.solving
 stands cs before zs es us w (gathered.Clash c) working h = clashed cs before zs es us w c working h
 stands cs before zs es us w (gathered.Step step rest) working h = (w, work_reduces cs before zs es us (map plain_equation rest.items) w working h.parts)
 
+-- What comes of flat equations.
+pub flat_stands : (cs : List SimpleType) (zs : List Addition) (us : List Equation) (g : Gathered) → Ready cs zs us → FlatSystem cs zs us → GathersOver (slice_get cs) (slice_get (meta_types zs)) us g → FlatStands cs zs g
+flat_stands cs zs us (gathered.Left left) ready f h = (f.store, nothing_flat_is_left cs zs us (equations_in left) ready f h)
+flat_stands cs zs us (gathered.Clash c) ready f h = f.store
+flat_stands cs zs us (gathered.Step step rest) ready f h = flat_parts cs zs us (map plain_equation rest.items) ready f h.parts
+
 -- A step was taken, all solutions put in, and what comes of it gathered.
 pub advanced : (s t : Stored) (step : Step) (ws us : List Equation) (g : Gathered) → MayAdvance (constants s) (additions s) step ws → Takes s step t → ArePutIn (additions t) ws us → GathersOver (slice_get (constants t)) (slice_get (meta_types (additions t))) us g → Advances s ws t g
 advanced s t step ws us g a taken put h = record {
@@ -131,6 +145,7 @@ advanced s t step ws us g a taken put h = record {
   state = may_run (constants s) (additions t) ws us g (made.ready ws a.ready) (put_in_is_open (constants s) (additions t) ws (made.ready ws a.ready) us put) over;
   lighter = made.lighter;
   goes = (λ before es v ready working. (made.ready es ready, let (w, on) = made.goes before es v ready working us put in stands (constants s) before (additions t) es us w g on over));
+  flat = (λ f. flat_stands (constants s) (additions t) us g ready_us (flat_is_put_in (constants s) (additions t) ws (made.ready ws a.ready) (made.flat f) us put) over);
 }
   where
     same : constants t ≡ constants s
@@ -141,6 +156,13 @@ advanced s t step ws us g a taken put h = record {
 
     over : GathersOver (slice_get (constants s)) (slice_get (meta_types (additions t))) us g
     over = subst (λ cs. GathersOver (slice_get cs) (slice_get (meta_types (additions t))) us g) same h
+
+    ready_us : Ready (constants s) (additions t) us
+    ready_us = record {
+      store = (made.ready ws a.ready).store;
+      final = (made.ready ws a.ready).final;
+      typed = typed_open (constants s) (additions t) us (put_in_is_open (constants s) (additions t) ws (made.ready ws a.ready) us put);
+    }
 
 -- What is still to be looked at stays ready.
 pub ready_after : (s t : Stored) (step : Step) (ws : List Equation) → MayAdvance (constants s) (additions s) step ws → Takes s step t → Ready (constants t) (additions t) ws

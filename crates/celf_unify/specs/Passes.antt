@@ -1,5 +1,5 @@
 -- Inner: passes over equations.
-use Rattle.std.specs.Prelude.{◌≡◌, ◌<◌, ◌≤◌, List, map, Option, Some, None}
+use Rattle.std.specs.Prelude.{◌≡◌, ◌<◌, ◌≤◌, List, [], map, Option, Some, None}
 use Rattle.clf_syntax.specs.TypeTree.{SimpleType}
 use Rattle.clf_syntax.specs.Plain.{plain_obj}
 use Rattle.std.specs.List.{slice_get}
@@ -7,6 +7,7 @@ use Rattle.subst_laws.specs.Environments.{Instantiation}
 use Rattle.store_laws.specs.Additions.{Addition, meta_types}
 use Rattle.pattern_laws.specs.Equations.{Equation, Listed}
 use Rattle.reach_laws.specs.Unified.{Unified, Clashed}
+use Rattle.flat_systems.specs.Systems.{FlatStore, FlatSystem}
 use Rattle.solver_laws.specs.Solving.{Solving, problem_of, store_weight, Ready, Open, Working}
 use Rattle.celf_constraints.specs.Equated.{plain_equation, equations_in}
 use Rattle.metavars.specs.Stored.{Stored, constants, additions}
@@ -48,6 +49,12 @@ WorkStands cs before now es (gathered.Left left) = StillSolving cs before now es
 WorkStands cs before now es (gathered.Clash c) = ClashedAt cs before now es c
 WorkStands cs before now es (gathered.Step step rest) = (v : Instantiation) × Working cs before now es v (map plain_equation rest.items)
 
+-- What comes of a flat system is flat, and nothing of it is left.
+abbrev pub FlatStands : List SimpleType → List Addition → Gathered → Type 0
+FlatStands cs now (gathered.Left left) = FlatStore cs now × (equations_in left ≡ [])
+FlatStands cs now (gathered.Clash c) = FlatStore cs now
+FlatStands cs now (gathered.Step step rest) = FlatSystem cs now (map plain_equation rest.items)
+
 -- A step was taken. Whatever work it belongs to goes on.
 pub record Advances (s : Stored) (ws : List Equation) (t : Stored) (g : Gathered) : Type 0 where
   pub same : constants t ≡ constants s
@@ -55,6 +62,7 @@ pub record Advances (s : Stored) (ws : List Equation) (t : Stored) (g : Gathered
   pub lighter : store_weight (additions t) < store_weight (additions s)
   pub goes : (before : List Addition) (es : List Equation) (v : Instantiation) → IsReady s es → Working (constants s) before (additions s) es v ws
       → Ready (constants s) (additions t) es × WorkStands (constants s) before (additions t) es g
+  pub flat : FlatSystem (constants s) (additions s) ws → FlatStands (constants s) (additions t) g
 
 abbrev pub RunEnds : List SimpleType → List Addition → List Addition → List Equation → Option Clash → Type 0
 RunEnds cs before now es None = StillSolving cs before now es
@@ -66,6 +74,7 @@ pub record Runs (s : Stored) (first : Gathered) (t : Stored) (end : Option Clash
   pub lighter : store_weight (additions t) ≤ store_weight (additions s)
   pub goes : (before : List Addition) (es : List Equation) → IsReady s es → WorkStands (constants s) before (additions s) es first
       → Ready (constants s) (additions t) es × RunEnds (constants s) before (additions t) es end
+  pub flat : FlatStands (constants s) (additions s) first → FlatStore (constants s) (additions t)
 
 -- What a pass says of the work on the equations.
 abbrev pub PassAnswers : List SimpleType → List Addition → List Addition → List Equation → Pass → Type 0
@@ -73,12 +82,19 @@ PassAnswers cs before now es pass.Again = StillSolving cs before now es
 PassAnswers cs before now es (pass.Left left) = Unified (slice_get cs) (problem_of before es) (problem_of now es) (equations_in left)
 PassAnswers cs before now es (pass.Clash c) = ClashedAt cs before now es c
 
+-- what comes of a pass over a flat system
+abbrev pub FlatEnds : List SimpleType → List Addition → Pass → Type 0
+FlatEnds cs now pass.Again = FlatStore cs now
+FlatEnds cs now (pass.Left left) = FlatStore cs now × (equations_in left ≡ [])
+FlatEnds cs now (pass.Clash c) = FlatStore cs now
+
 -- The rest of a pass in which something was solved.
 pub record Works (s : Stored) (ws : List Equation) (t : Stored) (p : Pass) : Type 0 where
   pub same : constants t ≡ constants s
   pub lighter : store_weight (additions t) < store_weight (additions s)
   pub goes : (before : List Addition) (es : List Equation) (v : Instantiation) → IsReady s es → Working (constants s) before (additions s) es v ws
       → Ready (constants s) (additions t) es × PassAnswers (constants s) before (additions t) es p
+  pub flat : FlatSystem (constants s) (additions s) ws → FlatEnds (constants s) (additions t) p
 
 abbrev pub IsLighter : Stored → Pass → Stored → Type 0
 IsLighter s pass.Again t = store_weight (additions t) < store_weight (additions s)
@@ -90,5 +106,6 @@ pub record PassEnds (s : Stored) (es : List Equation) (t : Stored) (p : Pass) : 
   pub same : constants t ≡ constants s
   pub ready : Ready (constants s) (additions t) es
   pub lighter : IsLighter s p t
+  pub flat : FlatSystem (constants s) (additions s) es → FlatEnds (constants s) (additions t) p
   pub goes : (before : List Addition) (v : Instantiation) → Ready (constants s) before es → Solving (slice_get (constants s)) (problem_of before es) (problem_of (additions s) es) v
       → PassAnswers (constants s) before (additions t) es p

@@ -1,0 +1,4 @@
+pub mod Fewer
+pub mod Growing
+pub mod Absorbing
+pub mod Calls
