@@ -13,7 +13,7 @@ use Rattle.celf_implicit.proofs.Names.{same_name, name_same, first_named}
 
 -- ---- the first one of a name, and the others, with one more
 
-find_same : (z : PlainImplicit) (xs : List PlainImplicit) → find (has_name z.name) (with_one xs z) ≡ sooner start (find (has_name z.name) xs) (Some z)
+pub find_same : (z : PlainImplicit) (xs : List PlainImplicit) → find (has_name z.name) (with_one xs z) ≡ sooner start (find (has_name z.name) xs) (Some z)
 find_same z [] = rw (name_same z.name) refl
 find_same z (w ∷ ws) = by_test (find_same z ws) (has_name z.name w) (nat_lt z.start w.start) refl refl
   where
@@ -23,7 +23,7 @@ find_same z (w ∷ ws) = by_test (find_same z ws) (has_name z.name w) (nat_lt z.
     by_test same false c p q = rw (p, p) same
 
 -- a name that is not that of z
-find_other : (n : List ℕ) (z : PlainImplicit) → has_name n z ≡ false → (xs : List PlainImplicit) → find (has_name n) (with_one xs z) ≡ find (has_name n) xs
+pub find_other : (n : List ℕ) (z : PlainImplicit) → has_name n z ≡ false → (xs : List PlainImplicit) → find (has_name n) (with_one xs z) ≡ find (has_name n) xs
 find_other n z e [] = rw e refl
 find_other n z e (w ∷ ws) = by_test (find_other n z e ws) (has_name z.name w) (nat_lt z.start w.start) (has_name n w) refl refl refl
   where

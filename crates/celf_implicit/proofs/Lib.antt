@@ -4,6 +4,8 @@ pub mod Wider
 pub mod Names
 pub mod RoundLaws
 pub mod Replaced
+pub mod Appearances
 pub mod Firsts
 pub mod Walks
 pub mod Outcomes
+pub mod WorkedOrders

@@ -13,11 +13,11 @@ use Rattle.celf_implicit.proofs.Names.{same_name, name_same, among_append, first
 use Rattle.celf_implicit.proofs.Wider.{Below, below}
 
 -- the variable of an occurrence
-abbrev variable_of : Occurrence → List ℕ
+abbrev pub variable_of : Occurrence → List ℕ
 variable_of o = o.name.name
 
 -- what occurrences determine of those that are not among xs
-abbrev given_by : List PlainImplicit → List Occurrence → List PlainImplicit
+abbrev pub given_by : List PlainImplicit → List Occurrence → List PlainImplicit
 given_by xs os = filter_map determined_by (filter (is_open xs) os)
 
 -- ---- least
@@ -27,7 +27,7 @@ some_determined p None e = absurd (cc)
 some_determined p (Some as_) e = (determined_at p as_, refl)
 
 -- an occurrence that determines its variable
-determining : (o : Occurrence) (x : PlainImplicit) → determined_by o ≡ Some x → (x.name ≡ variable_of o) × (o.checked ≡ true) × (is_some o.at_locals ≡ true)
+pub determining : (o : Occurrence) (x : PlainImplicit) → determined_by o ≡ Some x → (x.name ≡ variable_of o) × (o.checked ≡ true) × (is_some o.at_locals ≡ true)
 determining o x e = by_test o.checked o.at_locals refl refl
   where
     by_test : (c : Bool) (l : Option (List AppliedLocal)) → o.checked ≡ c → o.at_locals ≡ l → (x.name ≡ variable_of o) × (o.checked ≡ true) × (is_some o.at_locals ≡ true)
@@ -80,7 +80,7 @@ contained xs ys (o ∷ os) (p ∷ ps) z e n a = by_test (λ there. contained xs 
     by_test further true None q r = let there : is_among (given_by xs os) n ≡ true = rw (q, r) at a in further there
     by_test further true (Some x) q r = let there : (has_name n x || is_among (given_by xs os) n) ≡ true = rw (q, r) at a in by_name further x r (has_name n x) refl there
 
-or_split : (a b : Bool) → (a || b) ≡ true → (a ≡ true) ⊎ (b ≡ true)
+pub or_split : (a b : Bool) → (a || b) ≡ true → (a ≡ true) ⊎ (b ≡ true)
 or_split true b e = inl refl
 or_split false b e = inr e
 
@@ -114,7 +114,7 @@ open_names xs (o ∷ os) = by_test (open_names xs os) (is_among xs (variable_of 
     by_test same true q = rw q same
     by_test same false q = rw q (ap (λ k. suc k) same)
 
-names_below : (os ps : List Occurrence) → AllZip Below os ps → map variable_of os ≡ map variable_of ps
+pub names_below : (os ps : List Occurrence) → AllZip Below os ps → map variable_of os ≡ map variable_of ps
 names_below [] [] z = refl
 names_below [] (p ∷ ps) z = absurd z
 names_below (o ∷ os) [] z = absurd z

@@ -10,6 +10,8 @@ pub mod Variables
 pub mod Occurrences
 pub mod Rounds
 pub mod Answers
+pub mod Appearance
+pub mod FirstBytes
 pub mod Noting
 pub mod Laws
 pub mod Worked

@@ -26,16 +26,17 @@ use Rattle.celf_implicit.specs.Occurrences.{AppliedLocal, applied_local, local_a
 use Rattle.celf_implicit.specs.Rounds.{begins, standing, argument_of, from_locals, determined_by}
 use Rattle.celf_implicit.specs.Answers.{plain_implicit}
 
--- the variables that a round determines so far, and the first one that is not among those before it
+-- the variables that a round determines so far, the first one that is not among those before it, and where each such one first appears
 pub record PlainNotes : Type 0 where
   pub determined : List PlainImplicit
   pub open_one : Option Variable
+  pub appeared : List PlainImplicit
 
 abbrev pub nothing_noted : PlainNotes
-nothing_noted = record { determined = []; open_one = None }
+nothing_noted = record { determined = []; open_one = None; appeared = [] }
 
 abbrev pub plain_notes : Notes → PlainNotes
-plain_notes ns = record { determined = map plain_implicit ns.determined; open_one = ns.open_one }
+plain_notes ns = record { determined = map plain_implicit ns.determined; open_one = ns.open_one; appeared = map plain_implicit ns.appeared }
 
 -- The earlier one of a variable stays.
 abbrev pub earlier : PlainImplicit → PlainImplicit → PlainImplicit
@@ -49,9 +50,17 @@ abbrev pub with_any : List PlainImplicit → Option PlainImplicit → List Plain
 with_any ys None = ys
 with_any ys (Some x) = with_one ys x
 
+-- an occurrence of which only its name and its byte are of interest
+abbrev pub appearing : PName → PlainImplicit
+appearing n = record { name = n.name; start = n.span.start; arguments = []; place = None }
+
 -- an occurrence of a variable that is not among xs
 abbrev pub note_open : PlainNotes → Occurrence → PlainNotes
-note_open ns o = record { determined = with_any ns.determined (determined_by o); open_one = sooner begins ns.open_one (Some (standing o)) }
+note_open ns o = record {
+  determined = with_any ns.determined (determined_by o);
+  open_one = sooner begins ns.open_one (Some (standing o));
+  appeared = with_one ns.appeared (appearing o.name);
+}
 
 abbrev pub note : List PlainImplicit → PlainNotes → Occurrence → PlainNotes
 note xs ns o = if is_among xs o.name.name then ns else note_open ns o

@@ -1,5 +1,6 @@
 -- Some items with their implicit variables, worked out by hand, over these entries, by their places:
 --   0 nat : type.  1 z : nat.  2 s : nat -> nat.  3 p : nat -> type.  4 f : (nat -> nat) -> type.  5 q : ((nat -> nat) -> nat) -> type.
+--   6 plus : nat -> nat -> nat -> type.
 use Rattle.std.specs.Prelude.{ℕ, ◌≡◌, false, List, [], ◌∷◌, map, None, Some, codes}
 use Rattle.clf_syntax.specs.declared.tree.Mode.{Mode}
 use Rattle.clf_syntax.specs.declared.tree.Mode.TheVariants.{Persistent, Affine, Linear}
@@ -14,6 +15,7 @@ use Rattle.celf_places.specs.Places.{Place}
 use Rattle.celf_implicit.specs.declared.variable.Argument.{Argument}
 use Rattle.celf_implicit.specs.Variables.{PlainImplicit}
 use Rattle.celf_implicit.specs.Rounds.{determined, undetermined}
+use Rattle.celf_implicit.specs.Appearance.{IsByAppearance}
 
 abbrev pub nat : core_type.PlainType
 nat = core_type.family 0 []
@@ -28,7 +30,7 @@ abbrev pub signature : PlainSignature
 signature =
     (codes "nat", record { implicit = 0; class = family_of [] }) ∷ (codes "z", of nat) ∷ (codes "s", of (to nat nat))
     ∷ (codes "p", record { implicit = 0; class = family_of (nat ∷ []) }) ∷ (codes "f", record { implicit = 0; class = family_of (to nat nat ∷ []) })
-    ∷ (codes "q", record { implicit = 0; class = family_of (to (to nat nat) nat ∷ []) }) ∷ []
+    ∷ (codes "q", record { implicit = 0; class = family_of (to (to nat nat) nat ∷ []) }) ∷ (codes "plus", record { implicit = 0; class = family_of (nat ∷ nat ∷ nat ∷ []) }) ∷ []
 
 -- ---- simple types
 
@@ -127,3 +129,26 @@ pub record WorkedVariables : Type 0 where
       (at X 20 (one Persistent) (Some numbers) ∷ at W 30 [] (Some number) ∷ [])
   -- f (\X. X): a local is no implicit variable
   pub bound : undetermined signature (constant (family_at (codes "f") (under_name X (word X 10) ∷ []))) ≡ None
+
+-- ---- the order in which variables first appear
+
+abbrev pub successor : DesugaredObject → DesugaredObject
+successor o = applied (codes "s") 0 (o ∷ [])
+
+abbrev pub plus_at : DesugaredObject → DesugaredObject → DesugaredObject → DesugaredType
+plus_at m n k = family_at (codes "plus") (m ∷ n ∷ k ∷ [])
+
+-- ps : plus (s M) N (s P) <- plus M N P.
+abbrev pub sum_of_successor : DesugaredBody
+sum_of_successor = constant (from (plus_at (word (codes "M") 32) (word (codes "N") 34) (word (codes "P") 36)) (plus_at (successor (word (codes "M") 13)) (word (codes "N") 16) (successor (word (codes "P") 21))))
+
+-- c : p W <- p X.
+abbrev pub conclusion_first : DesugaredBody
+conclusion_first = constant (from (family_at (codes "p") (word X 20 ∷ [])) (family_at (codes "p") (word W 10 ∷ [])))
+
+-- The numbers are those of the variables as they are determined: in one round by their places in the tree, where a premise comes before its conclusion.
+pub record WorkedOrders : Type 0 where
+  pub found_in_sum : IsFound sum_of_successor (at (codes "M") 13 [] (Some number) ∷ at (codes "N") 16 [] (Some number) ∷ at (codes "P") 21 [] (Some number) ∷ [])
+  pub order_in_sum : IsByAppearance signature sum_of_successor 3 (0 ∷ 1 ∷ 2 ∷ [])
+  pub found_in_premise : IsFound conclusion_first (at X 20 [] (Some number) ∷ at W 10 [] (Some number) ∷ [])
+  pub conclusion_appears_first : IsByAppearance signature conclusion_first 2 (1 ∷ 0 ∷ [])

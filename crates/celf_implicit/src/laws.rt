@@ -2,7 +2,7 @@
 ghost use Rattle.clf_sig.specs.Entry.{PlainSignature};
 ghost use Rattle.celf_sugar.specs.PlainTree.{DesugaredBody};
 ghost use Rattle.celf_implicit.specs.Laws.{LeastClosed};
-ghost use Rattle.celf_implicit.specs.Worked.{WorkedVariables};
+ghost use Rattle.celf_implicit.specs.Worked.{WorkedOrders, WorkedVariables};
 
 /// The determined variables of an item are the least closed set of variables.
 pub fn least_closed()
@@ -12,4 +12,9 @@ pub fn least_closed()
 /// Some items have the implicit variables that are worked out for them by hand.
 pub fn worked_variables()
     ensures { WorkedVariables }
+{}
+
+/// Some items have their variables in the order that is worked out for them by hand.
+pub fn worked_orders()
+    ensures { WorkedOrders }
 {}

@@ -42,6 +42,7 @@ fn rounds_of(
         let Notes {
             determined,
             open_one,
+            appeared: _,
         } = notes_of_item(alloc, sig, found.as_slice(), body)?;
         if determined.is_empty() {
             return Ok(outcome(found, open_one));

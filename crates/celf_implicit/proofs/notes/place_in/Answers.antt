@@ -4,7 +4,7 @@ use Rattle.celf_implicit.specs.declared.variable.Implicit.{Implicit}
 use Rattle.celf_implicit.specs.Variables.{has_name}
 use Rattle.celf_implicit.specs.Answers.{plain_implicit}
 use Rattle.celf_implicit.proofs.Replaced.{same_item}
-use Rattle.celf_implicit.proofs.notes.Notes.find.Goals as goal
+use Rattle.celf_implicit.proofs.notes.place_in.Goals as goal
 
 pub returns-then-same_name : goal.returns-then-same_name
 returns-then-same_name c =
