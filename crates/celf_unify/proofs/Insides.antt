@@ -1,8 +1,7 @@
 -- Equations whose sides have no metavariable as head.
-use Rattle.std.specs.Prelude.{ℕ, zero, suc, ◌<◌, ◌≡◌, ◌⊎◌, true, false, List, [], ◌∷◌, ◌++◌, length, map, Some, None, refl}
+use Rattle.std.specs.Prelude.{ℕ, zero, suc, ◌≡◌, ◌⊎◌, ◌↔◌, true, false, List, [], ◌∷◌, ◌++◌, map, Some, None, refl}
 use Rattle.std.proofs.Common.{ap, sym, subst, ◌∙◌, arith, inl, inr, ⊎_elim}
 use Rattle.std.proofs.lemmas.List.{reverse-append}
-use Rattle.std.proofs.lemmas.Option.{slice_get_within}
 use Rattle.std.specs.List.{slice_get}
 use Rattle.clf_syntax.specs.declared.tree.Mode.{Mode}
 use Rattle.clf_syntax.specs.declared.tree.Head.{Head}
@@ -10,9 +9,10 @@ use Rattle.clf_syntax.specs.declared.tree.Head.TheVariants.{Const, Var, Meta}
 use Rattle.clf_syntax.specs.declared.tree.SimpleEntry.{SimpleEntry}
 use Rattle.clf_syntax.specs.Tree.{PlainObject, lam, pair, unit, monadic, atomic, hole, PlainNeutral, PlainExpression, head_of}
 use Rattle.clf_syntax.specs.TypeTree.{SimpleType, base, arrow, simple_with, simple_top, lax, SimpleTelescope}
-use Rattle.clf_syntax.specs.PlainSimple.{plain_simple_entry}
+use Rattle.clf_syntax.specs.declared.tree.Simple.{Simple}
+use Rattle.clf_syntax.specs.PlainSimple.{plain_simple, plain_simple_entry}
 use Rattle.clf_syntax.specs.Simple.{Assignment, SimplyTyped}
-use Rattle.clf_syntax.proofs.OccursLaws.{not_both}
+use Rattle.clf_syntax.proofs.OccursLaws.{not_both, not_true}
 use Rattle.hered_subst.specs.TypedEnvironments.{is_metavariable}
 use Rattle.hered_subst.proofs.SimpleTyping.{to_typed, of_typed}
 use Rattle.trace_equal.specs.Exchange.{Joined, stop}
@@ -22,11 +22,11 @@ use Rattle.store_laws.specs.Additions.{meta_types}
 use Rattle.store_laws.specs.Mentions.{mentions}
 use Rattle.store_laws.proofs.Mentioned.{typed_where}
 use Rattle.pattern_laws.specs.Instantiations.{Types, closed}
-use Rattle.pattern_laws.specs.Equations.{Locals, Equation, Solves, scoped, Listed}
-use Rattle.pattern_laws.proofs.Instances.{scoped_meta}
+use Rattle.pattern_laws.specs.Equations.{Locals, Equation, Solves, scoped, Listed, TypedEquation}
 use Rattle.unify_laws.specs.Parts.{SameShape, shape_head, shape_app, shape_fst, shape_snd, PartAt}
 use Rattle.unify_laws.proofs.PutIn.{ground_clash}
 use Rattle.unify_laws.proofs.Steps.{neutral_clash}
+use Rattle.reach_laws.specs.Reach.{Stuck}
 use Rattle.reach_laws.specs.Rest.{down_listed, down_neutral, PartOf, part_itself, part_argument}
 use Rattle.solver_laws.specs.Reduced.{LeftOver, Clashes}
 use Rattle.solver_laws.specs.Steps.{flipped}
@@ -36,7 +36,7 @@ use Rattle.celf_unify.specs.declared.step.Step.{Step}
 use Rattle.celf_unify.specs.declared.step.Step.TheVariants.{Assign, Narrow}
 use Rattle.celf_unify.specs.Gathered.{consts_in, metas_in, StepOf}
 use Rattle.celf_unify.specs.Examined.{TakenApart}
-use Rattle.celf_unify.specs.Judged.{IsRigid, IsLambda, Matched, FindsSome}
+use Rattle.celf_unify.specs.Judged.{IsRigid, IsLambda, Matched}
 use Rattle.celf_unify.specs.Sided.{LacksMetaHead, IsPosed, StepOfLeft}
 use Rattle.celf_unify.proofs.Bodies.{reduced_one}
 
@@ -162,6 +162,12 @@ scoped_ordinary constants metas more (l ∷ ls) (Var zero) u n e = e
 scoped_ordinary constants metas more (l ∷ ls) (Var (suc i)) u n e = scoped_ordinary constants metas more ls (Var i) u n e
 scoped_ordinary constants metas more (l ∷ ls) (Meta m) u n e = absurd (cc)
 
+-- What a test by tables says, of the store that they are those of.
+pub stuck_there : (s : Stored) (e : Equation) (consts metas : List Simple) (T : Type 0) → map plain_simple consts ≡ constants s → map plain_simple metas ≡ meta_types (additions s) → TypedEquation (consts_in s) (metas_in s) e
+    → (TypedEquation (slice_get (map plain_simple consts)) (slice_get (map plain_simple metas)) e → T ↔ Stuck (slice_get (map plain_simple consts)) (slice_get (map plain_simple metas)) e) → T ↔ Stuck (consts_in s) (metas_in s) e
+stuck_there s e consts metas T f h typed says = subst (λ ts. T ↔ Stuck (consts_in s) (slice_get ts) e) h (subst (λ cs. T ↔ Stuck (slice_get cs) (slice_get (map plain_simple metas)) e) f (says
+    (subst (λ cs. TypedEquation (slice_get cs) (slice_get (map plain_simple metas)) e) (sym f) (subst (λ ts. TypedEquation (consts_in s) (slice_get ts) e) (sym h) typed))))
+
 module _ (s : Stored) (e : Equation) (rigid : IsRigid s e) where
   -- At the type of `<>` the sides are joined.
   pub no_top : e.type ≡ simple_top → ⊥
@@ -170,34 +176,35 @@ module _ (s : Stored) (e : Equation) (rigid : IsRigid s e) where
 
   -- ---- at a monad
 
-  pub stuck_monads : (ts : SimpleTelescope) → e.type ≡ lax ts → (k : ℕ) × ((mentions k e.left ≡ true) ⊎ (mentions k e.right ≡ true)) → LeftOver (consts_in s) (metas_in s) e
-  stuck_monads ts t m = record {
-    stuck = inr (record {
-      left = monadic_side (scoped e.locals (closed (consts_in s) (metas_in s))) e.left ts e.type rigid.typed.0 t rigid.left;
-      right = monadic_side (scoped e.locals (closed (consts_in s) (metas_in s))) e.right ts e.type rigid.typed.1 t rigid.right;
-      mentioned = m;
-    });
-    unjoined = rigid.unjoined;
-  }
+  -- What is stuck is left over.
+  pub stuck_monads : Stuck (consts_in s) (metas_in s) e → LeftOver (consts_in s) (metas_in s) e
+  stuck_monads h = record { stuck = h; unjoined = rigid.unjoined }
 
-  -- What mentions no metavariable of the store is typed without their types.
-  ground : (o : PlainObject) → SimplyTyped (scoped e.locals (closed (consts_in s) (metas_in s))) o e.type → ((k : ℕ) → k < length (meta_types (additions s)) → mentions k o ≡ false) → SimplyTyped (scoped e.locals (closed (consts_in s) (λ m. None))) o e.type
+  -- What mentions no metavariable is typed without their types.
+  ground : (o : PlainObject) → SimplyTyped (scoped e.locals (closed (consts_in s) (metas_in s))) o e.type → ((k : ℕ) → mentions k o ≡ false) → SimplyTyped (scoped e.locals (closed (consts_in s) (λ m. None))) o e.type
   ground o p f = of_typed (typed_where (scoped e.locals (closed (consts_in s) (λ m. None))) (to_typed true (scoped e.locals (closed (consts_in s) (metas_in s))) o e.type p)
       (λ h u n k. scoped_ordinary (consts_in s) (metas_in s) (λ m. None) e.locals h u n k)
-      (λ m u k i. absurd (not_both k (f m (slice_get_within (meta_types (additions s)) m u (sym (scoped_meta e.locals (closed (consts_in s) (metas_in s)) m) ∙ i))))))
+      (λ m u k i. absurd (not_both k (f m))))
 
-  pub clash_monads : (ts : SimpleTelescope) → e.type ≡ lax ts → FindsSome (length (meta_types (additions s))) e.left false → FindsSome (length (meta_types (additions s))) e.right false → Clashes (consts_in s) (metas_in s) e
-  clash_monads ts t l r =
-      let (x, f) = monadic_side (scoped e.locals (closed (consts_in s) (metas_in s))) e.left ts e.type rigid.typed.0 t rigid.left in
-      record {
-        no_further = record {
-          unjoined = rigid.unjoined;
-          no_lams = λ m k b c i j. mon_no_lam x m b (sym f ∙ i);
-          no_pairs = λ a b c d i j. mon_no_pair x a b (sym f ∙ i);
-          no_neutrals = λ n k i j h. mon_no_neutral x n (sym f ∙ i);
-        };
-        unsolved = λ parameters v i h. ground_clash (consts_in s) v e.locals e.left e.right e.type (ground e.left rigid.typed.0 l) (ground e.right rigid.typed.1 r) rigid.unjoined h;
-      }
+  -- At a monad, sides in which no metavariable is left clash.
+  pub clash_monads : (ts : SimpleTelescope) → e.type ≡ lax ts → (Stuck (consts_in s) (metas_in s) e → ⊥) → Clashes (consts_in s) (metas_in s) e
+  clash_monads ts t f = record {
+    no_further = record {
+      unjoined = rigid.unjoined;
+      no_lams = λ m k b c i j. mon_no_lam left.0 m b (sym left.1 ∙ i);
+      no_pairs = λ a b c d i j. mon_no_pair left.0 a b (sym left.1 ∙ i);
+      no_neutrals = λ n k i j h. mon_no_neutral left.0 n (sym left.1 ∙ i);
+    };
+    unsolved = λ parameters v i h. ground_clash (consts_in s) v e.locals e.left e.right e.type
+        (ground e.left rigid.typed.0 (λ k. not_true (mentions k e.left) (λ m. f (inr (record { left = left; right = right; mentioned = (k, inl m) })))))
+        (ground e.right rigid.typed.1 (λ k. not_true (mentions k e.right) (λ m. f (inr (record { left = left; right = right; mentioned = (k, inr m) }))))) rigid.unjoined h;
+  }
+    where
+      left : (x : PlainExpression) × (e.left ≡ monadic x)
+      left = monadic_side (scoped e.locals (closed (consts_in s) (metas_in s))) e.left ts e.type rigid.typed.0 t rigid.left
+
+      right : (x : PlainExpression) × (e.right ≡ monadic x)
+      right = monadic_side (scoped e.locals (closed (consts_in s) (metas_in s))) e.right ts e.type rigid.typed.1 t rigid.right
 
   -- ---- at a family
 

@@ -1,11 +1,10 @@
 -- Inner: what is judged of one equation while the store stays.
-use Rattle.std.specs.Prelude.{ℕ, ◌≡◌, ◌<◌, ◌+◌, Bool, true, false, List, map, Option, Some, None}
+use Rattle.std.specs.Prelude.{◌≡◌, ◌<◌, ◌+◌, List, map, Option, Some, None}
 use Rattle.clf_syntax.specs.declared.tree.Mode.{Mode}
 use Rattle.clf_syntax.specs.Tree.{PlainObject, lam, PlainNeutral, PlainElimination, eliminated}
 use Rattle.clf_syntax.specs.TypeTree.{SimpleType}
 use Rattle.clf_syntax.specs.Simple.{Assignment, SimplyTypedNeutral}
 use Rattle.trace_equal.specs.Exchange.{Joined}
-use Rattle.store_laws.specs.Mentions.{mentions}
 use Rattle.pattern_laws.specs.Instantiations.{closed}
 use Rattle.pattern_laws.specs.Equations.{Locals, Equation, Listed, TypedEquation}
 use Rattle.unify_laws.specs.Parts.{SameShape, PartAt}
@@ -39,11 +38,6 @@ pub record IsRigid (s : Stored) (e : Equation) : Type 0 where
 
 abbrev pub IsLambda : PlainObject → PlainObject → Type 0
 IsLambda o b = (m : Mode) × (o ≡ lam m b)
-
--- What a test of one object for metavariables says, where n of them are there.
-abbrev pub FindsSome : ℕ → PlainObject → Bool → Type 0
-FindsSome n o true = (k : ℕ) × (mentions k o ≡ true)
-FindsSome n o false = (k : ℕ) → k < n → mentions k o ≡ false
 
 -- Two neutrals of the same shape, the first of which has this type: the equations are those of their arguments.
 pub record Matched (g : Assignment) (ls : Locals) (r n : PlainNeutral) (t : SimpleType) (ds : List Equation) : Type 0 where

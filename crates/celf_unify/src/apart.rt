@@ -1,26 +1,24 @@
 //! Equations whose sides have no metavariable as head are taken apart.
-ghost use Rattle.std.specs.Prelude.{◌≡◌, ◌↔◌, ℕ, IfErr, IfOk, IsTrue, length, map};
+ghost use Rattle.std.specs.Prelude.{◌≡◌, ◌↔◌, ℕ, IfErr, IfOk, IsTrue, map};
 ghost use Rattle.std.specs.List.{slice_get};
 ghost use Rattle.std.specs.Option.{option_map};
-ghost use Rattle.clf_syntax.specs.Plain.{plain_obj};
 ghost use Rattle.clf_syntax.specs.PlainSimple.{plain_simple};
 ghost use Rattle.clf_syntax.specs.TypeTree.{SimpleTelescope, base, lax};
 ghost use Rattle.clf_syntax.specs.Wide.{IsWant};
-ghost use Rattle.store_laws.specs.Additions.{meta_types};
 ghost use Rattle.pattern_laws.specs.Equations.{Locals, scoped};
 ghost use Rattle.pattern_laws.specs.Instantiations.{closed};
 ghost use Rattle.clf_simple.specs.Scope.{scope};
 ghost use Rattle.celf_constraints.specs.Equated.{plain_equation};
-ghost use Rattle.metavars.specs.Stored.{additions};
 ghost use Rattle.celf_unify.specs.Gathered.{consts_in, metas_in};
-ghost use Rattle.celf_unify.specs.Judged.{FindsSome, IsRigid, Judges};
+ghost use Rattle.celf_unify.specs.Judged.{IsRigid, Judges};
 
 use crate::parts::{lambda_parts, neutral_of, pair_parts};
-use crate::places::numbered;
+use crate::places::want_of;
 use crate::spines::argument_parts;
 use crate::verdict::Verdict;
-use celf_constraints::{Equation, mentions, scope_of};
-use clf_syntax::{Head, Obj, Simple, Want};
+use celf_constraints::{Equation, scope_of};
+use celf_reach::stuck;
+use clf_syntax::{Head, Simple, Want};
 use metavars::Store;
 
 /// What comes of an equation whose sides have no metavariable as head.
@@ -48,35 +46,19 @@ pub fn take_apart(store: &Store, equation: &Equation) -> Result<Verdict, Want>
     }
 }
 
-/// The same at a monad.
+/// The same at a monad: where a metavariable is left, the equation is stuck.
 fn monads(store: &Store, equation: &Equation) -> Result<Verdict, Want>
     requires rigid { IsRigid store.now (plain_equation equation.now) }
     requires monad { (ts : SimpleTelescope) × (plain_simple equation.now.ty ≡ lax ts) }
     ensures judged { IfOk result (λ v. Judges store.now (plain_equation equation.now) v) }
     ensures wanting { IfErr result IsWant }
 {
-    if mentions_some(store, &equation.left)? {
-        return Ok(Verdict::Left);
-    }
-    if mentions_some(store, &equation.right)? {
-        return Ok(Verdict::Left);
-    }
-    Ok(Verdict::Clash)
-}
-
-/// Whether the object mentions a metavariable of the store.
-fn mentions_some(store: &Store, obj: &Obj) -> Result<bool, Want>
-    ensures some { IfOk result
-        (λ found. FindsSome (length (meta_types (additions store.now))) (plain_obj obj.now) found) }
-    ensures wanting { IfErr result IsWant }
-{
     let alloc = store.alloc();
-    for place in 0..store.metas().len() {
-        if mentions(numbered(alloc, place)?, obj) {
-            return Ok(true);
-        }
+    match stuck(alloc, store.consts(), store.metas(), equation) {
+        Ok(true) => Ok(Verdict::Left),
+        Ok(false) => Ok(Verdict::Clash),
+        Err(fault) => Err(want_of(alloc, fault)),
     }
-    Ok(false)
 }
 
 /// The same at a family.
