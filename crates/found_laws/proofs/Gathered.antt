@@ -26,7 +26,7 @@ use Rattle.gathered_laws.proofs.SameTypes.{store_types_the_same}
 use Rattle.gathered_laws.specs.Formed.{store_constants}
 use Rattle.found_laws.proofs.StoreTypes.{instantiates_item, instantiates_store}
 
-none_given : (t : Instantiation) → Agrees t (λ m. None)
+pub none_given : (t : Instantiation) → Agrees t (λ m. None)
 none_given t m s e = absurd (no_object e)
   where
     no_object : {o : PlainObject} → None ≡ Some o → ⊥

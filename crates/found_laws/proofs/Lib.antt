@@ -1,3 +1,4 @@
 pub mod StoreTypes
 pub mod Gathered
 pub mod Declarations
+pub mod DirectiveInstances

@@ -1,4 +1,5 @@
-//! Laws of what is found of a declaration, and of what clashes, stated by functions that do nothing.
+//! Laws of what is found of an item, and of what clashes, stated by functions that do nothing.
+ghost use Rattle.found_laws.specs.Directives.{ClashHasNoDirective, FoundDirectiveIsMostGeneral};
 ghost use Rattle.found_laws.specs.Laws.{ClashHasNoElaboration, ClashHasNoFamilyElaboration};
 ghost use Rattle.found_laws.specs.Laws.{FoundFamilyIsMostGeneral, FoundIsMostGeneral};
 
@@ -12,4 +13,10 @@ pub fn clashes()
 pub fn general()
     ensures constants { FoundIsMostGeneral }
     ensures families { FoundFamilyIsMostGeneral }
+{}
+
+/// A directive whose equations clash has no well-formed elaboration, and each is an instance of what is found.
+pub fn directives()
+    ensures clash { ClashHasNoDirective }
+    ensures general { FoundDirectiveIsMostGeneral }
 {}

@@ -1,6 +1,6 @@
-//! Laws of what is found of a declaration, and of what clashes.
+//! Laws of what is found of an item, and of what clashes.
 #![tactic(auto)]
 
 mod laws;
 
-pub use laws::{clashes, general};
+pub use laws::{clashes, directives, general};
