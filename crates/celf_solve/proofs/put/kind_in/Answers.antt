@@ -9,9 +9,5 @@ use Rattle.celf_solve.proofs.put.kind_in.Goals as goal
 pub returns-clause-put_in : goal.returns-clause-put_in
 returns-clause-put_in c =
     let zs = additions c.args.store.now in
-<<<<<<< HEAD
-    subst (λ (ks : List Ty). KindBecomes zs (map plain_ty ks) (map plain_ty c.in_ok-types_in.field-0)) c.as_slice.ensures (kind_becomes zs c.in_ok-types_in.ensures.put_in)
-=======
     subst (λ (ks : List Ty). KindBecomes zs (map plain_ty ks) (map plain_ty c.in_ok-types_in.field-0)) c.as_slice.ensures
     (kind_becomes zs c.in_ok-types_in.ensures.put_in)
->>>>>>> 306d982e6f12f9167f6209a55a8b23f8ff37e1cf
