@@ -1,4 +1,4 @@
--- Inner: what becomes of trees with all solutions of a store put in, and when they are typed in a store.
+-- What becomes of trees with all solutions of a store put in, and when they are typed in a store.
 use Rattle.std.specs.Prelude.{◌≡◌, List, [], ◌∷◌, map}
 use Rattle.clf_syntax.specs.declared.tree.Ty.{Ty}
 use Rattle.clf_syntax.specs.PlainTypes.{plain_ty}

@@ -9,5 +9,6 @@ mod settling;
 
 pub use laws::{posed_and_settled, settled_is_formed};
 pub use posing::pose;
+pub use put::put_in;
 pub use scene::{Found, Posed, Scene, Solved};
 pub use settling::settle;

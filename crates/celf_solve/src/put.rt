@@ -25,20 +25,21 @@ ghost use Rattle.celf_solve.specs.Puts.{
   TypeBecomes,
 };
 
-use crate::scene::{Found, Scene};
+use crate::scene::Found;
 use clf_sig::{Class, Core, Entry};
 use clf_syntax::{Kind, Obj, OrWide, Tele, Ty, Want};
 use metavars::Store;
 use sqlite_items::Items;
 use std::alloc::Global;
 
-/// The tree and the types with all solutions put in.
-pub fn put_in(alloc: Global, scene: Scene) -> Result<Found, Want>
-    requires formed { CanPutIn scene }
-    ensures found { IfOk result (IsPutInto scene.core scene.types scene.store) }
+/// A tree and types with all solutions of a store put in. The store stays.
+pub fn put_in(alloc: Global, core: Core, types: Items<Ty>, store: Store) -> Result<Found, Want>
+    requires solved { HasPutIn (additions store) }
+    requires tree { CoreIsFormedIn (additions store) (plain_core core) }
+    requires types { EachIsFormedIn (additions store) (map plain_ty types) }
+    ensures found { IfOk result (IsPutInto core types store) }
     ensures wanting { IfErr result IsWant }
 {
-    let Scene { core, types, store } = scene;
     match core_in(alloc, &store, core) {
         Ok(core) => with_types(alloc, core, types, store),
         Err(want) => {

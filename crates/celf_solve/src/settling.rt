@@ -36,7 +36,10 @@ fn ended(alloc: Global, scene: Scene, unified: Unified) -> Result<Solved, Want>
     ensures wanting { IfErr result IsWant }
 {
     match unified {
-        Unified::Solved => Ok(Solved::Found(put_in(alloc, scene)?)),
+        Unified::Solved => {
+            let Scene { core, types, store } = scene;
+            Ok(Solved::Found(put_in(alloc, core, types, store)?))
+        }
         Unified::Stuck(left) => {
             drop(scene);
             Ok(Solved::Stuck(left))
