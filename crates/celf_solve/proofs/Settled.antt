@@ -1,7 +1,8 @@
 -- The answers: what unification leaves is what is said of the scene.
-use Rattle.std.specs.Prelude.{ℕ, ◌≡◌, List, [], map, slice_get}
+use Rattle.std.specs.Prelude.{ℕ, ◌≡◌, List, [], map, slice_get, Result, Ok, Err, IfOk}
 use Rattle.std.proofs.Common.{ap, sym, subst, ◌∙◌}
 use Rattle.clf_syntax.specs.declared.tree.Head.TheVariants.{Const, Var, Meta}
+use Rattle.clf_syntax.specs.declared.fault.Want.{Want}
 use Rattle.clf_syntax.specs.TypeTree.{SimpleType}
 use Rattle.clf_syntax.specs.Simple.{Assignment}
 use Rattle.clf_syntax.specs.Tree.{PlainObject}
@@ -125,7 +126,7 @@ module _ (s : Scene) (q : List Equation) (may : MaySettle s q) (now : Stored) (r
   can_put_in = record { solved = has_put_in now q ready; tree = tree_there s q may now same ready grows; each = types_there s q may now same ready grows }
 
 -- What came of the equations is what is answered.
-pub ends : (s : Scene) (q : List Equation) → MaySettle s q → (now : Stored) → IsReady now q → IsPart s.store now → (u : Answer) → Answers s.store q now u
+ends : (s : Scene) (q : List Equation) → MaySettle s q → (now : Stored) → IsReady now q → IsPart s.store now → (u : Answer) → Answers s.store q now u
     → (r : Solved) → IsEnd (record s { store = now }) u r → Ends s q r
 ends s q may now ready part unified.Solved h (solved.Found f) e = settled s q may now (ap (map plain_simple) part.0) ready h f e
 ends s q may now ready part unified.Solved h (solved.Stuck ls) e = absurd e
@@ -138,3 +139,8 @@ ends s q may now ready part (unified.Clash c) h (solved.Found f) e = absurd e
 ends s q may now ready part (unified.Clash c) h (solved.Stuck ls) e = absurd e
 ends s q may now ready part (unified.Clash c) h (solved.Clash d) e =
     subst (λ (x : Clash). Ends s q (solved.Clash x)) (sym e) (has_clash s q may now c.under (plain_obj c.left) (plain_obj c.right) h)
+
+pub ends_so : (s : Scene) (q : List Equation) → MaySettle s q → (now : Stored) → IsReady now q → IsPart s.store now → (u : Answer) → Answers s.store q now u
+    → (r : Result Solved Want) → IfOk r (IsEnd (record s { store = now }) u) → IfOk r (Ends s q)
+ends_so s q may now ready part u h (Ok r) e = ends s q may now ready part u h r e
+ends_so s q may now ready part u h (Err w) e = tt

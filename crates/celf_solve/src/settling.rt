@@ -13,7 +13,6 @@ use clf_syntax::Want;
 use std::alloc::Global;
 
 /// Solves equations that are typed in the scene's store, and puts all solutions into the tree and the types.
-#[tactic(auto, using(crate::proofs::Settled::can_put_in, crate::proofs::Settled::ends))]
 pub fn settle(alloc: Global, scene: Scene, equations: &Equations) -> Result<Solved, Want>
     requires typed { MaySettle scene (equations_in equations.now) }
     ensures ends { IfOk result (Ends scene (equations_in equations.now)) }
