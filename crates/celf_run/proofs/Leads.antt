@@ -178,12 +178,12 @@ front-length n types [] front no_binder = refl
 front-length n types (x ∷ binders) z (one_binder {front = front} f a p) = let rest = front-length n types binders front f in omega (arith, rest)
 
 arguments-before : (front : Context) (k : PlainKind) → length (with_arguments front k) ≡ length front + length k
-arguments-before [] k = refl
+arguments-before [] k = omega arith
 arguments-before (e ∷ front) k = let rest = arguments-before front (e.1 ∷ k) in omega (arith, rest)
 
 functions-before : (n : ℕ) (types : List PlainType) (binders : List ℕ) (front : Context) (a : PlainType) → IsFront n types binders front
     → leading_persistent (with_binders front a) ≡ length front + leading_persistent a
-functions-before n types [] front a no_binder = refl
+functions-before n types [] front a no_binder = omega arith
 functions-before n types (x ∷ binders) z a (one_binder {front = front} {b = b} f t p) =
     let rest = functions-before n types binders front (function Persistent b a) f in omega (arith, rest)
 
