@@ -196,8 +196,8 @@ core-answers options old new item core (Err e) passes known h a = tt
 
 pub found-may-be-added : (sig : PlainSignature) (item : DesugaredItem) (core : PlainCore) → MayBeDeclared item → NamePasses sig item → Reconstructs sig item.body core → MayBeAdded sig core
 found-may-be-added sig item (declares name e) may passes (found_check c f n) = absurd c
-found-may-be-added sig item (declares name e) may passes (found_declaration {vs = vs} {unnamed = unnamed} {written = written} {class = class} {types = types} {binders = binders} f n b d) =
-    let is = declared-for sig item.body vs unnamed name written class types binders e f b d may.implicit in
+found-may-be-added sig item (declares name e) may passes (found_declaration {vs = vs} {unnamed = unnamed} {written = count} {class = class} {types = types} {binders = binders} f n b d) =
+    let is = declared-for sig item.body vs unnamed name count class types binders e f b d may.implicit in
     let new = passes-new sig item name passes is.0 in
     (new, (λ l. passes full (is_full is.0 new l)), may.name name is.0, is.1)
 found-may-be-added sig item (queries a) may passes r = tt

@@ -34,7 +34,9 @@ use Rattle.celf_front.specs.UnderFront.{IsFront, no_binder, one_binder, with_arg
 use Rattle.celf_front.specs.Fronted.{at_places, IsInOrder}
 use Rattle.front_laws.proofs.Orders.{placed_all, split_at}
 use Rattle.celf_solve.specs.Settled.{EachBecomes}
-use Rattle.celf_reconstruct.specs.Trees.{types_from}
+use Rattle.celf_filled.specs.TypedFrom.{new_in, indices_of}
+use Rattle.filled_laws.specs.FreshTypes.{types_from}
+use Rattle.celf_reconstruct.specs.Left.{naming, metavariables_with}
 use Rattle.celf_reconstruct.specs.Posed.{IsPosed, as_read, as_named}
 use Rattle.celf_reconstruct.specs.Reconstructed.{IsFound, AreBinders, IsDeclared}
 use Rattle.celf_run.specs.Allowed.{declared_name}
@@ -115,7 +117,7 @@ each-length s (a ∷ as_) [] e = absurd e
 
 from-length : (indices : ℕ → List SimpleType) (k : ℕ) (ts : List SimpleType) → length (types_from indices k ts) ≡ length ts
 from-length indices k [] = refl
-from-length indices k (t ∷ ts) = let rest = from-length indices _ ts in omega (arith, rest)
+from-length indices k (t ∷ ts) = let rest = from-length indices (k + length (new_in indices [] t)) ts in omega (arith, rest)
 
 posed-for : (sig : PlainSignature) (body : DesugaredBody) (vs : List TypedVariable) (unnamed : ℕ) (types : List PlainType) (metas : Types) (tree : PlainCore)
     → IsPosed sig body vs unnamed types metas tree → Stands body → IsFor body tree × (length types ≡ length vs + unnamed)
@@ -125,12 +127,14 @@ posed-for sig body vs unnamed types metas tree (as_read i) stand =
 posed-for sig body vs unnamed types metas tree (as_named {simples = simples} i) stand =
     let first = read-for sig (declared_heads sig) (map with_simple_type vs) body i.is_tree.fillings i.first_tree i.is_tree.reading stand in
     let core = becomes-for body (instant i.comes.settles.solutions) i.first_tree i.core i.comes.settles.core_becomes first in
+    let constants = naming (length sig + length i.after) i.now.metas (metavariables_with i.core i.after) in
     let named = length-map vs (λ (v : TypedVariable). v.type) in
     let after = each-length i.comes.settles.solutions (types_read vs) i.after i.comes.settles.types_become in
-    let again = each-length i.named.naming i.after i.named.named i.named.named_types in
-    let made = from-length _ 0 simples in
+    let again = each-length constants i.after i.named.named i.named.named_types in
+    let made = types_from (indices_of sig) (length i.named.old) simples in
+    let many = from-length (indices_of sig) (length i.named.old) simples in
     let all = ap (λ (ts : List PlainType). length ts) i.named.all_types in
-    (becomes-for body (instant i.named.naming) i.core tree i.named.named_core core, omega (arith, all, length-append i.named.named _, again, after, named, made))
+    (becomes-for body (instant constants) i.core tree i.named.named_core core, omega (arith, all, length-append i.named.named made, again, after, named, many))
 
 pub found-for : (sig : PlainSignature) (body : DesugaredBody) (vs : List TypedVariable) (unnamed : ℕ) (core : PlainCore) (types : List PlainType)
     → IsFound sig body vs unnamed core types → Stands body → IsFor body core × (length types ≡ length vs + unnamed)
@@ -174,12 +178,12 @@ front-length n types [] front no_binder = refl
 front-length n types (x ∷ binders) z (one_binder {front = front} f a p) = let rest = front-length n types binders front f in omega (arith, rest)
 
 arguments-before : (front : Context) (k : PlainKind) → length (with_arguments front k) ≡ length front + length k
-arguments-before [] k = refl
+arguments-before [] k = omega arith
 arguments-before (e ∷ front) k = let rest = arguments-before front (e.1 ∷ k) in omega (arith, rest)
 
 functions-before : (n : ℕ) (types : List PlainType) (binders : List ℕ) (front : Context) (a : PlainType) → IsFront n types binders front
     → leading_persistent (with_binders front a) ≡ length front + leading_persistent a
-functions-before n types [] front a no_binder = refl
+functions-before n types [] front a no_binder = omega arith
 functions-before n types (x ∷ binders) z a (one_binder {front = front} {b = b} f t p) =
     let rest = functions-before n types binders front (function Persistent b a) f in omega (arith, rest)
 

@@ -44,7 +44,7 @@ explicit-small sig item (checks n a) h = tt
 
 found-small : (sig : PlainSignature) (body : DesugaredBody) (core : PlainCore) → Reconstructs sig body core → IsSmall core
 found-small sig body (declares name e) (found_check c f n) = absurd c
-found-small sig body (declares name e) (found_declaration f n d) = d.counted
+found-small sig body (declares name e) (found_declaration f n b d) = d.counted
 found-small sig body (queries a) r = tt
 found-small sig body (traces t) r = tt
 found-small sig body (equates n o a) r = tt
