@@ -4,8 +4,7 @@ pub mod Placing
 pub mod PlacingSteps
 pub mod Replaced
 pub mod InFront
-pub mod Named
-pub mod Heads
+pub mod FrontHeads
 pub mod BinderTypes
 pub mod UnderFront
 pub mod Occurring

@@ -1,10 +1,9 @@
--- Heads replaced by others, with the number of binders on the way at hand; at the end the parts of that for one elimination, entry and step.
+-- Inner: heads replaced by others, with the number of binders on the way at hand, and the parts of that for one elimination, entry and step.
 use Rattle.std.specs.Prelude.{ℕ, ◌+◌, List, [], ◌∷◌, map, length}
 use Rattle.clf_syntax.specs.declared.tree.Mode.{Mode}
 use Rattle.clf_syntax.specs.Tree.{PlainObject, lam, pair, unit, monadic, atomic, hole, PlainNeutral, head_alone, app, fst, snd, PlainExpression, step, done, PlainTuple, empty, entry, PlainElimination, arg, first, second}
 use Rattle.clf_syntax.specs.TypeTree.{PlainType, family, function, both, top, monad, PlainTelescope, end, binding, PlainKind}
 use Rattle.clf_syntax.specs.declared.tree.Head.{Head}
-use Rattle.clf_sig.specs.Entry.{PlainClass, family_of, constant_of}
 
 abbrev mutual
   pub replaced : (ℕ → Head → Head) → ℕ → PlainObject → PlainObject
@@ -44,10 +43,6 @@ abbrev mutual
 abbrev pub replaced_kind : (ℕ → Head → Head) → ℕ → PlainKind → PlainKind
 replaced_kind g d [] = []
 replaced_kind g d (a ∷ k) = replaced_type g d a ∷ replaced_kind g (d + 1) k
-
-abbrev pub replaced_class : (ℕ → Head → Head) → ℕ → PlainClass → PlainClass
-replaced_class g d (family_of k) = family_of (replaced_kind g d k)
-replaced_class g d (constant_of a) = constant_of (replaced_type g d a)
 
 abbrev pub replaced_elimination : (ℕ → Head → Head) → ℕ → PlainElimination → PlainElimination
 replaced_elimination g d (arg m n) = arg m (replaced g d n)

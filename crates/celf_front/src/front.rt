@@ -3,14 +3,14 @@ ghost use Rattle.std.specs.Prelude.{◌≡◌, ◌<◌, ◌++◌, ℕ, map, leng
 ghost use Rattle.clf_syntax.specs.Wide.{IsWant};
 ghost use Rattle.clf_syntax.specs.PlainTypes.{plain_ty, plain_kind};
 ghost use Rattle.clf_sig.specs.Signature.{plain_class};
-ghost use Rattle.celf_front.specs.Heads.{front_heads};
+ghost use Rattle.celf_front.specs.FrontHeads.{heads_by};
 ghost use Rattle.celf_front.specs.Replaced.{replaced_type, replaced_kind};
 ghost use Rattle.celf_front.specs.BinderTypes.{binder_type as type_of_binder, binder_types as types_of_binders};
 ghost use Rattle.celf_front.specs.BinderTypes.{functions_to};
 ghost use Rattle.celf_front.specs.UnderFront.{IsUnderFront};
 
-use crate::heads::{Front, Heads};
-use crate::types::{replace_arguments, replace_type};
+use crate::heads::Front;
+use crate::types::{front_arguments, front_type};
 use clf_sig::Class;
 use clf_syntax::{Kind, Mode, Shortage, Ty, Want};
 use sqlite_items::{Boxed, Items};
@@ -72,10 +72,10 @@ fn type_under(alloc: Global, front: &Front<'_>, types: &[Ty], ty: &Ty) -> Result
         → slice_index front.now.binders.now k < length types.now }
     ensures { IfOk result (λ t. plain_ty t
         ≡ functions_to (types_of_binders front.now.first (map plain_ty types.now) front.now.binders.now)
-        (replaced_type (front_heads front.now) 0 (plain_ty ty.now))) }
+        (replaced_type (heads_by front.now) 0 (plain_ty ty.now))) }
 {
     let mut binders = binder_types(alloc, front, types)?;
-    let mut under = replace_type(alloc, ty, &Heads::InFront(*front), 0)?;
+    let mut under = front_type(alloc, ty, front, 0)?;
     while let Some(domain) = binders.pop() {
         under = function(alloc, domain, under)?;
     }
@@ -100,11 +100,10 @@ fn kind_under(alloc: Global, front: &Front<'_>, types: &[Ty], kind: &Kind) -> Re
         → slice_index front.now.binders.now k < length types.now }
     ensures { IfOk result (λ k. plain_kind k
         ≡ types_of_binders front.now.first (map plain_ty types.now) front.now.binders.now
-        ++ replaced_kind (front_heads front.now) 0 (plain_kind kind.now)) }
+        ++ replaced_kind (heads_by front.now) 0 (plain_kind kind.now)) }
 {
     let mut args = binder_types(alloc, front, types)?;
-    let own = replace_arguments(alloc, kind.args.as_slice(), &Heads::InFront(*front), 0)?;
-    args.append(own)?;
+    args.append(front_arguments(alloc, kind.args.as_slice(), front, 0)?)?;
     Ok(Kind { args })
 }
 
@@ -137,5 +136,5 @@ fn binder_type(
     ensures { IfOk result (λ t. plain_ty t
         ≡ type_of_binder earlier.now.first (map plain_ty types.now) binder earlier.now.binders.now) }
 {
-    replace_type(alloc, &types[binder as usize], &Heads::InFront(*earlier), 0)
+    front_type(alloc, &types[binder as usize], earlier, 0)
 }

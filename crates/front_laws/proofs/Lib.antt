@@ -4,4 +4,3 @@ pub mod Variables
 pub mod Orders
 pub mod Standing
 pub mod Stands
-pub mod Namings

@@ -1,3 +1,2 @@
 pub mod Replacements
 pub mod Laws
-pub mod Naming

@@ -1,6 +1,5 @@
 //! Laws of binders in front, stated by functions that do nothing.
 ghost use Rattle.front_laws.specs.Laws.{BindersHaveVariables, BindersStand};
-ghost use Rattle.front_laws.specs.Naming.{NamingIsInstantiation};
 
 /// Where a binder's type mentions neither itself nor a newer binder, its variable has the type that comes of it with
 /// variables put for all binders.
@@ -12,9 +11,4 @@ pub fn front_variables()
 /// comes of the binder's own.
 pub fn front_in_order()
     ensures { BindersStand }
-{}
-
-/// Where a metavariable's simple type ends in a family, to name it is to put the eta-long form of its constant for it.
-pub fn naming_puts_constants()
-    ensures { NamingIsInstantiation }
 {}

@@ -1,6 +1,6 @@
-//! Laws of binders in front, and of metavariables that are named.
+//! Laws of binders in front.
 #![tactic(auto)]
 
 mod laws;
 
-pub use laws::{front_in_order, front_variables, naming_puts_constants};
+pub use laws::{front_in_order, front_variables};
