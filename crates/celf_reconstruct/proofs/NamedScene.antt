@@ -1,5 +1,5 @@
 -- The scene in which what was left is constants.
-use Rattle.std.proofs.Common.{ℕ, zero, suc, ◌+◌, ◌-◌, ◌≡◌, ◌<◌, ◌≤◌, ◌++◌, ◌==◌, Bool, true, false, refl, sym, ap, subst, ◌∙◌, ⊎_elim, Option, Some, None, List, [], ◌∷◌, length, map, arith, slice_get, append_assoc}
+use Rattle.std.proofs.Common.{ℕ, zero, suc, ◌+◌, ◌-◌, ◌≡◌, ◌<◌, ◌≤◌, ◌++◌, ◌==◌, Bool, true, false, refl, sym, ap, subst, ◌∙◌, ◌⊎◌, ⊎_elim, Option, Some, None, List, [], ◌∷◌, length, map, arith, slice_get, append_assoc, Result, Ok, Err, IfOk}
 use Rattle.std.proofs.lemmas.List.{map-append}
 use Rattle.std.proofs.lemmas.List.Elements.{All-append, All-cons, All-nil}
 use Rattle.std.proofs.lemmas.Option.{slice_get_past}
@@ -8,6 +8,7 @@ use Rattle.clf_syntax.proofs.Lists.{get-front}
 use Rattle.clf_syntax.proofs.RenamingLaws.{ext}
 use Rattle.clf_syntax.specs.declared.tree.Head.TheVariants.{Const, Var, Meta}
 use Rattle.clf_syntax.specs.TypeTree.{PlainType, SimpleType}
+use Rattle.clf_syntax.specs.declared.fault.Want.{Want}
 use Rattle.clf_syntax.specs.PlainTypes.{plain_ty}
 use Rattle.clf_syntax.specs.Simple.{erase, Assignment, SimplyFormed}
 use Rattle.hered_subst.specs.Laws.{ResultsAreTyped}
@@ -51,7 +52,7 @@ use Rattle.celf_solve.specs.Settled.{EachBecomes}
 use Rattle.celf_solve.proofs.More.{HasMore, core_more, each_more}
 use Rattle.celf_solve.proofs.Puts.{each_becomes, core_formed_in, each_formed_in}
 use Rattle.celf_reconstruct.specs.Left.{metavariables_with, naming, named_at, IsNamed}
-use Rattle.celf_reconstruct.specs.Naming.{metas_of, types_in, IsUnsolvedWith, AreSimples, IsNamedScene}
+use Rattle.celf_reconstruct.specs.Naming.{HasNames, HasMadeTypes, NamesLeft, metas_of, types_in, IsUnsolvedWith, AreSimples, IsNamedScene}
 use Rattle.celf_reconstruct.specs.Steps.{IsFormedIn, heads_of_store}
 use Rattle.celf_reconstruct.proofs.NamedBy.{put_in, is_typed, is_closed, types-store, simple-at}
 use Rattle.celf_reconstruct.proofs.Reading.{all-at, map-append as new-append, is-fresh, metas-are}
@@ -60,13 +61,6 @@ use Rattle.celf_reconstruct.proofs.Reading.{all-at, map-append as new-append, is
 all_at : (P : SimpleType → Type 0) (ts : List SimpleType) → ((m : ℕ) (t : SimpleType) → slice_get ts m ≡ Some t → P t) → All P ts
 all_at P [] p = All-nil P
 all_at P (t ∷ ts) p = All-cons P t ts (p 0 t refl) (all_at P ts (λ m u e. p (suc m) u e))
-
--- What is at hand once the store is made in which what is left is solved by constants.
-pub record HasNames (f : Found) (first : ℕ) (left : List ℕ) (simples : List SimpleType) (names : Stored) : Type 0 where
-  pub constants_are : constants names ≡ constants f.store ++ simples
-  pub metas : metas_of names ≡ metas_of f.store
-  pub named : (m : ℕ) → m < length (metas_of f.store) → given (additions names) m ≡ naming first (types_in f.store) left m
-  pub later : (m : ℕ) → length (metas_of f.store) ≤ m → given (additions names) m ≡ None
 
 module _ (sig : PlainSignature) (f : Found) (formed_in : IsFormedIn sig (plain_core f.core) (map plain_ty f.types) f.store)
     (left : List ℕ) (are_left : left ≡ metavariables_with (plain_core f.core) (map plain_ty f.types))
@@ -86,7 +80,7 @@ module _ (sig : PlainSignature) (f : Found) (formed_in : IsFormedIn sig (plain_c
 
   lengths : {X Y : Type 0} (k : X → Y) (xs : List X) → length (map k xs) ≡ length xs
   lengths k [] = refl
-  lengths k (x ∷ xs) = ap (λ i. i + 1) (lengths k xs)
+  lengths k (x ∷ xs) = ap suc (lengths k xs)
 
   length_append : {X : Type 0} (xs ys : List X) → length (xs ++ ys) ≡ length xs + length ys
   length_append [] ys = omega arith
@@ -280,8 +274,8 @@ module _ (sig : PlainSignature) (f : Found) (formed_in : IsFormedIn sig (plain_c
       metavariables = metas-are scene (old ++ new_ones) additions_are;
     }
 
-    pub scene-named : IsNamedScene sig f simples scene
-    scene-named = record {
+    pub scene_named : IsNamedScene sig f simples scene
+    scene_named = record {
       named = is_named;
       is_scene = record {
         constants_are = are_constants;
@@ -289,5 +283,20 @@ module _ (sig : PlainSignature) (f : Found) (formed_in : IsFormedIn sig (plain_c
         read = read;
         no_hole = formed_core_has_no_hole (families_of sig) g (tree_of scene) (subst (λ (c : PlainCore). CoreIsFormed (families_of sig) g c) tree_is core_formed);
       };
-      families = λ m a e. all-at (old ++ new_ones) all_families m a (sym (metas-are scene (old ++ new_ones) additions_are m) ∙ e);
+      families = λ m a e. all-at (HasFamilies sig) (old ++ new_ones) all_families m a (sym (metas-are scene (old ++ new_ones) additions_are m) ∙ e);
     }
+
+-- What the calls answer, one after the other.
+pub named_so : (sig : PlainSignature) (f : Found) (simples : List SimpleType) (names : Stored) → NamesLeft sig f simples names → (put : Found) → IsPutInto f.core f.types names put
+    → (fresh : Stored) → IsUnsolvedWith f.store simples fresh → (r : Result Scene Want) → IfOk r (HasMadeTypes sig put fresh simples) → IfOk r (IsNamedScene sig f simples)
+named_so sig f simples names l put is_put fresh unsolved (Ok scene) m =
+    scene_named sig f l.formed l.left l.are_left l.signature simples l.are_simples l.first l.is_first names l.names put is_put fresh unsolved scene m.same_tree m.all_types m.grown
+named_so sig f simples names l put is_put fresh unsolved (Err w) m = tt
+
+pub may_put_in : (sig : PlainSignature) (f : Found) (simples : List SimpleType) (names : Stored) → NamesLeft sig f simples names
+    → HasPutIn (additions names) × CoreIsFormedIn (additions names) (plain_core f.core) × EachIsFormedIn (additions names) (map plain_ty f.types)
+may_put_in sig f simples names l = (
+  names-put-in sig f l.formed l.left l.are_left l.signature simples l.are_simples l.first l.is_first names l.names,
+  tree-in sig f l.formed l.left l.are_left l.signature simples l.are_simples l.first l.is_first names l.names,
+  types-in sig f l.formed l.left l.are_left l.signature simples l.are_simples l.first l.is_first names l.names,
+)

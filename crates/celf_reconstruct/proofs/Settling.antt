@@ -1,5 +1,5 @@
 -- What comes of a scene of an item, and why nothing comes of it.
-use Rattle.std.proofs.Common.{ℕ, suc, ◌≡◌, ◌++◌, refl, sym, ap, subst, ◌∙◌, ⊎_elim, Option, Some, None, List, [], ◌∷◌, length, map, slice_get}
+use Rattle.std.proofs.Common.{ℕ, suc, ◌≡◌, ◌++◌, refl, sym, ap, subst, ◌∙◌, ⊎_elim, Option, Some, None, List, [], ◌∷◌, length, map, slice_get, Result, Ok, Err, IfOk, IfErr}
 use Rattle.clf_syntax.specs.TypeTree.{PlainType, SimpleType, base, arrow, lax}
 use Rattle.clf_syntax.specs.Simple.{erase, Assignment, SimplyFormed}
 use Rattle.clf_syntax.specs.PlainTypes.{plain_ty}
@@ -24,13 +24,18 @@ use Rattle.filled_laws.proofs.NewFamilies.{traced_have_families}
 use Rattle.celf_sugar.specs.PlainTree.{DesugaredBody, DesugaredItem}
 use Rattle.celf_implicit.specs.declared.variable.Implicit.{Implicit}
 use Rattle.celf_replies.specs.declared.reply.Why.{Why}
-use Rattle.celf_replies.specs.Reply.{plain_why}
+use Rattle.celf_replies.specs.Reply.{PlainSides, PlainMismatch, plain_why, ill_typed, unresolved, index_differs}
 use Rattle.celf_solve.specs.declared.scene.Scene.{Scene}
 use Rattle.celf_solve.specs.declared.scene.Found.{Found}
 use Rattle.gathered_laws.specs.Formed.{CoreIsFormed}
-use Rattle.celf_solve.specs.Scenes.{EachIsFormed}
 use Rattle.celf_solve.specs.Laws.{AnswersGathered, IsFormedAfter}
-use Rattle.celf_solve.specs.Scenes.{tree_of, types_of, metas_in, constants_in, IsScene}
+use Rattle.celf_solve.specs.Scenes.{tree_of, types_of, metas_in, constants_in, start_of, EachIsFormed, IsScene, Gathered, AreLeft, IsMisfit}
+use Rattle.clf_syntax.specs.Tree.{PlainObject}
+use Rattle.reach_laws.specs.Unified.{Clashed}
+use Rattle.celf_conform.specs.declared.misfit.Misfit.{Misfit}
+use Rattle.celf_conform.specs.Known.{known_over}
+use Rattle.celf_conform.specs.Conforms.{IsFirstMisfit}
+use Rattle.celf_reconstruct.specs.Posed.{told, sides_of, Unsettled, no_fit, no_solution, stuck}
 use Rattle.celf_solve.specs.Settled.{constants_of}
 use Rattle.celf_solve.proofs.After.{settled_is_formed}
 use Rattle.celf_solve.proofs.Answers.{posed_and_settled}
@@ -87,8 +92,8 @@ module _ (sig : PlainSignature) (formed : WellFormedSignature sig) (body : Desug
       one : {o : Option SimpleType} {b c : SimpleType} → o ≡ Some b → o ≡ Some c → b ≡ c
       one p q = cc
 
-  pub found-of : HasFound sig body xs unnamed f
-  found-of = record {
+  pub found_of : HasFound sig body xs unnamed f
+  found_of = record {
     vs = h.vs;
     variables = h.variables;
     found = record {
@@ -111,8 +116,40 @@ module _ (sig : PlainSignature) (formed : WellFormedSignature sig) (body : Desug
 
 -- ---- why nothing does
 
-pub declined-of : (sig : PlainSignature) (item : DesugaredItem) (xs : List Implicit) (unnamed : ℕ) (scene : Scene) (fault : OrWide Why)
+pub declined_of : (sig : PlainSignature) (item : DesugaredItem) (xs : List Implicit) (unnamed : ℕ) (scene : Scene) (fault : OrWide Why)
     → UnsettledScene sig scene fault → HasScene sig item.body xs unnamed scene → Declined sig item fault
-declined-of sig item xs unnamed scene (Fault why) u h = unsettled h.posed u
-declined-of sig item xs unnamed scene NoMemory u h = tt
-declined-of sig item xs unnamed scene (TooFar w) u h = u
+declined_of sig item xs unnamed scene (Fault why) u h = unsettled h.posed u
+declined_of sig item xs unnamed scene NoMemory u h = tt
+declined_of sig item xs unnamed scene (TooFar w) u h = u
+
+-- ---- the answers of solving
+
+module _ (sig : PlainSignature) (scene : Scene) (is : IsScene sig scene) where
+  pub misfit_of : (w : Misfit) (m : PlainMismatch) → IsMisfit sig scene w → m ≡ told w → Unsettled sig (types_of scene) (metas_in scene) (tree_of scene) (ill_typed m)
+  misfit_of w m h e = subst (λ k. Unsettled sig (types_of scene) (metas_in scene) (tree_of scene) (ill_typed k)) (sym e) (no_fit (record {
+    nothing = h.nothing;
+    metavariables = meta_types (additions scene.store);
+    they = λ k. refl;
+    first = subst (λ (cs : List SimpleType). IsFirstMisfit (known_over sig cs (meta_types (additions scene.store))) (tree_of scene) w) is.constants_are h.first;
+  }))
+
+  module _ (q : List Equation) (gathers : Gathered sig scene q) where
+    answers : AnswersGathered sig scene q
+    answers = posed_and_settled sig scene q is gathers
+
+    pub stuck-of : (left : List Equation) (ss : List PlainSides) → AreLeft scene q left → ss ≡ map sides_of left → Unsettled sig (types_of scene) (metas_in scene) (tree_of scene) (unresolved ss)
+    stuck-of left ss h e = subst (λ k. Unsettled sig (types_of scene) (metas_in scene) (tree_of scene) (unresolved k)) (sym e) (stuck (answers.stuck left h))
+
+    pub clash-of : (now : Problem) (under : ℕ) (left right : PlainObject) (s : PlainSides) → Clashed (constants_in scene) (start_of scene q) now under left right
+        → s ≡ record { under = under; left = left; right = right } → Unsettled sig (types_of scene) (metas_in scene) (tree_of scene) (ill_typed (index_differs s))
+    clash-of now under left right s h e = subst (λ k. Unsettled sig (types_of scene) (metas_in scene) (tree_of scene) (ill_typed (index_differs k))) (sym e) (no_solution (answers.clash now under left right h))
+
+pub found_so : (sig : PlainSignature) → WellFormedSignature sig → (scene : Scene) (r : Result Found (OrWide Why)) → IfOk r (ComesOf sig scene)
+    → IfOk r (λ f. (body : DesugaredBody) (xs : List Implicit) (unnamed : ℕ) → HasScene sig body xs unnamed scene → HasFound sig body xs unnamed f)
+found_so sig formed scene (Ok f) c = λ body xs unnamed h. found_of sig formed body xs unnamed scene h f c
+found_so sig formed scene (Err e) c = tt
+
+pub declined_so : (sig : PlainSignature) (scene : Scene) (r : Result Found (OrWide Why)) → IfErr r (UnsettledScene sig scene)
+    → IfErr r (λ fault. (item : DesugaredItem) (xs : List Implicit) (unnamed : ℕ) → HasScene sig item.body xs unnamed scene → Declined sig item fault)
+declined_so sig scene (Ok f) c = tt
+declined_so sig scene (Err fault) c = λ item xs unnamed h. declined_of sig item xs unnamed scene fault c h

@@ -93,7 +93,6 @@ fn add_numbers(numbers: &mut Items<u32>, more: &[u32]) -> Result<(), AllocError>
 }
 
 /// So many numbers, from the first one on.
-#[tactic(auto, using(crate::proofs::Ranges::range_next))]
 fn numbers_from(alloc: Global, first: usize, count: usize) -> Result<Items<u32>, Want>
     ensures numbers { IfOk result (λ all. all ≡ range_with_len first count) }
     ensures wide { IfErr result IsWant }

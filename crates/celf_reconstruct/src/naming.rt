@@ -16,7 +16,7 @@ ghost use Rattle.metavars.specs.Stored.{additions, constants};
 ghost use Rattle.celf_filled.specs.States.{IsGrownBy};
 ghost use Rattle.celf_reconstruct.specs.Known.{HasSimple};
 ghost use Rattle.celf_reconstruct.specs.Left.{metavariables_with, naming};
-ghost use Rattle.celf_reconstruct.specs.Naming.{AreSimples, IsNamedScene, IsNamedUntil, IsSolvedBy, IsUnsolvedWith, NamesOne, metas_of, types_in};
+ghost use Rattle.celf_reconstruct.specs.Naming.{AreSimples, HasMadeTypes, IsNamedScene, IsNamedUntil, IsSolvedBy, IsUnsolvedWith, NamesLeft, NamesOne, metas_of, types_in};
 ghost use Rattle.celf_reconstruct.specs.Steps.{IsFormedIn};
 
 use crate::read::add_types;
@@ -67,22 +67,97 @@ pub fn named(
     ensures scene { IfOk result (IsNamedScene (plain_signature sig.now) found (map plain_simple simples.now)) }
     ensures wanting { IfErr result IsWant }
 {
+    let Some(first) = sig.len().checked_add(found.types.len()) else {
+        drop(found);
+        return Err(Want::too_far(alloc));
+    };
+    match with_names(alloc, &found.store, first, left, simples) {
+        Ok(names) => named_by(alloc, sig, found, names, simples),
+        Err(want) => {
+            drop(found);
+            Err(want)
+        }
+    }
+}
+
+/// The same, where this store solves what is left by constants.
+fn named_by(
+    alloc: Global,
+    sig: &Signature,
+    found: Found,
+    names: Store,
+    simples: &[Simple],
+) -> Result<Scene, Want>
+    requires names { NamesLeft (plain_signature sig.now) found (map plain_simple simples.now) names }
+    ensures scene { IfOk result (IsNamedScene (plain_signature sig.now) found (map plain_simple simples.now)) }
+    ensures wanting { IfErr result IsWant }
+{
+    match unsolved_with(alloc, &found.store, simples) {
+        Ok(fresh) => named_in(alloc, sig, found, names, fresh, simples),
+        Err(want) => {
+            drop(found);
+            drop(names);
+            Err(want)
+        }
+    }
+}
+
+/// The same, where this store has the constants and no solutions.
+fn named_in(
+    alloc: Global,
+    sig: &Signature,
+    found: Found,
+    names: Store,
+    fresh: Store,
+    simples: &[Simple],
+) -> Result<Scene, Want>
+    requires names { NamesLeft (plain_signature sig.now) found (map plain_simple simples.now) names }
+    requires fresh { IsUnsolvedWith found.store (map plain_simple simples.now) fresh }
+    ensures scene { IfOk result (IsNamedScene (plain_signature sig.now) found (map plain_simple simples.now)) }
+    ensures wanting { IfErr result IsWant }
+{
     let Found { core, types, store } = found;
-    let first = sig.len() + types.len();
-    let names = with_names(alloc, &store, first, left, simples)?;
-    let mut fresh = unsolved_with(alloc, &store, simples)?;
     drop(store);
+    match put_in(alloc, core, types, names) {
+        Ok(put) => with_made_types(sig, put, fresh, simples),
+        Err(want) => {
+            drop(fresh);
+            Err(want)
+        }
+    }
+}
+
+/// The core with its types, after which stand types that are made of these simple types.
+fn with_made_types(
+    sig: &Signature,
+    put: Found,
+    fresh: Store,
+    simples: &[Simple],
+) -> Result<Scene, Want>
+    ensures made { IfOk result
+        (HasMadeTypes (plain_signature sig.now) put fresh (map plain_simple simples.now)) }
+    ensures wanting { IfErr result IsWant }
+{
     let Found {
         core,
         mut types,
-        store: _,
-    } = put_in(alloc, core, types, names)?;
-    add_types(sig, &mut fresh, simples, &mut types)?;
-    Ok(Scene {
-        core,
-        types,
-        store: fresh,
-    })
+        store,
+    } = put;
+    drop(store);
+    let mut fresh = fresh;
+    match add_types(sig, &mut fresh, simples, &mut types) {
+        Ok(()) => Ok(Scene {
+            core,
+            types,
+            store: fresh,
+        }),
+        Err(want) => {
+            drop(core);
+            drop(types);
+            drop(fresh);
+            Err(want)
+        }
+    }
 }
 
 /// The store with constants of these simple types more, in which these metavariables are solved by them.
@@ -120,7 +195,7 @@ fn unsolved_with(alloc: Global, old: &Store, simples: &[Simple]) -> Result<Store
 }
 
 /// Adds metavariables of these simple types.
-fn add_metas(alloc: Global, store: &mut Store, simples: &[Simple]) -> Result<(), Want>
+pub fn add_metas(alloc: Global, store: &mut Store, simples: &[Simple]) -> Result<(), Want>
     ensures grown { OnOk result (IsGrownBy store.old store.new (map plain_simple simples.now)) }
     ensures wanting { IfErr result IsWant }
 {
@@ -131,6 +206,7 @@ fn add_metas(alloc: Global, store: &mut Store, simples: &[Simple]) -> Result<(),
 }
 
 /// Solves each of the metavariables that are left by its constant.
+#[tactic(auto, using(crate::proofs::NameSteps::until_start, crate::proofs::NameSteps::until_next))]
 fn name_each(store: &mut Store, first: usize, left: &[u32]) -> Result<(), Want>
     requires unsolved { (m : ℕ) → given (additions store.old) m ≡ None }
     ensures named { OnOk result (IsNamedUntil first left.now store.old (length (metas_of store.old)) store.new) }
@@ -146,6 +222,7 @@ fn name_each(store: &mut Store, first: usize, left: &[u32]) -> Result<(), Want>
 }
 
 /// Solves a metavariable by its constant, if it is among those that are left.
+#[tactic(auto, using(crate::proofs::NameSteps::named_one, crate::proofs::NameSteps::named_none))]
 fn name_one(store: &mut Store, first: usize, left: &[u32], meta: u32) -> Result<(), Want>
     requires there { meta < length (metas_of store.old) }
     requires unsolved { given (additions store.old) meta ≡ None }
@@ -175,7 +252,7 @@ fn solve_by(store: &mut Store, first: usize, place: usize, meta: u32) -> Result<
     let Some(number) = first.checked_add(place) else {
         return Err(Want::too_far(alloc));
     };
-    let obj = constant_form(alloc, &store.metas()[meta as usize], number)?;
+    let obj = constant_form(alloc, simple_of_meta(store, meta), number)?;
     store.solve(meta, obj)
 }
 

@@ -15,7 +15,7 @@ ghost use Rattle.celf_reconstruct.specs.Known.{simple_or_unit};
 ghost use Rattle.celf_reconstruct.specs.Steps.{Declined, HasScene};
 
 use crate::known::are_known;
-use crate::misfit::misfit;
+use crate::misfit::misfit_of;
 use celf_filled::{Filled, read_filled, typed_from};
 use celf_implicit::Implicit;
 use celf_replies::Why;
@@ -44,17 +44,11 @@ pub fn read(
     let mut store = Store::new(alloc, simples.as_slice())?;
     let Filled { core, whole } = read_filled(sig, variables, &mut store, &plain.body)?;
     if !whole || !are_known(variables) {
-        let why = misfit(alloc, sig, &store, &core);
+        let why = misfit_of(alloc, sig, &simples, &store, &core);
         drop(core);
         return Err(why);
     }
-    let mut types = Items::new(alloc);
-    add_types(
-        sig,
-        &mut store,
-        &simples.as_slice()[sig.len()..],
-        &mut types,
-    )?;
+    let types = types_of(alloc, sig, &mut store, &simples.as_slice()[sig.len()..])?;
     Ok(Scene { core, types, store })
 }
 
@@ -85,6 +79,25 @@ fn simple_of(alloc: Global, variable: &Implicit) -> Result<Simple, AllocError>
         Some(simple) => simple.get().copy(alloc),
         None => Ok(Simple::Top),
     }
+}
+
+/// Types of these simple types, whose indices are new metavariables.
+fn types_of(
+    alloc: Global,
+    sig: &Signature,
+    store: &mut Store,
+    simples: &[Simple],
+) -> Result<Items<Ty>, Want>
+    ensures made { IfOk result (λ types.
+        map plain_ty types
+        ≡ types_from (indices_of (plain_signature sig.now)) (count store.old) (map plain_simple simples.now)) }
+    ensures grown { OnOk result (IsGrownBy store.old store.new
+        (new_in_each (indices_of (plain_signature sig.now)) (map plain_simple simples.now))) }
+    ensures wanting { IfErr result IsWant }
+{
+    let mut types = Items::new(alloc);
+    add_types(sig, store, simples, &mut types)?;
+    Ok(types)
 }
 
 /// Adds types of these simple types, whose indices are new metavariables.
