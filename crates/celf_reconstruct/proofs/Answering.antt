@@ -5,7 +5,9 @@ use Rattle.std.proofs.lemmas.List.Elements.{Contains-append_cases}
 use Rattle.std.proofs.lemmas.List.FromFn.{length-range_with_len, get_or-range_with_len}
 use Rattle.clf_syntax.specs.TypeTree.{PlainType, SimpleType}
 use Rattle.clf_syntax.specs.PlainTypes.{plain_ty}
-use Rattle.clf_syntax.specs.declared.types.Ty.{Ty}
+use Rattle.clf_syntax.specs.declared.tree.Ty.{Ty}
+use Rattle.clf_syntax.specs.declared.tree.Simple.{Simple}
+use Rattle.clf_syntax.specs.PlainSimple.{plain_simple}
 use Rattle.clf_syntax.specs.declared.fault.OrWide.{OrWide}
 use Rattle.clf_syntax.specs.declared.fault.OrWide.TheVariants.{Fault, NoMemory, TooFar}
 use Rattle.subst_laws.specs.Environments.{Instantiation, instant}
@@ -56,7 +58,7 @@ append-length : {X : Type 0} (xs ys : List X) → length (xs ++ ys) ≡ length x
 append-length [] ys = omega arith
 append-length (x ∷ xs) ys = let e = append-length xs ys in omega arith
 
-nothing-in : {X : Type 0} (xs : List X) → length xs ≡ 0 → xs ≡ []
+pub nothing-in : {X : Type 0} (xs : List X) → length xs ≡ 0 → xs ≡ []
 nothing-in [] e = refl
 nothing-in (x ∷ xs) e = absurd (omega arith)
 
@@ -289,3 +291,17 @@ pub circular_as : (sig : PlainSignature) (xs : List Implicit) (types slice : Lis
     → IsFor (IsCircular sig xs (map plain_ty slice) numbers) fault → IsFor (IsCircular sig xs (map plain_ty types) binders) fault
 circular_as sig xs types slice e binders numbers i fault h =
     subst (λ (ts : List Ty). IsFor (IsCircular sig xs (map plain_ty ts) binders) fault) e (subst (λ (ns : List ℕ). IsFor (IsCircular sig xs (map plain_ty slice) ns) fault) i h)
+
+-- ---- once more
+
+-- What comes of a named tree is a declaration.
+pub still_declared : {sig : PlainSignature} {body : DesugaredBody} {vs : List TypedVariable} {unnamed : ℕ} {core : PlainCore} {types : List PlainType}
+    → (unnamed ≡ 0 → ⊥) → IsFound sig body vs unnamed core types → IsDeclaration core
+still_declared {core = core} some f = by some f.posed f.comes.settles.core_becomes
+  where
+    by : {k : ℕ} {before : List PlainType} {metas : Types} {tree : PlainCore} → (k ≡ 0 → ⊥) → IsPosed _ _ _ k before metas tree → SubstitutedCore (instant f.comes.settles.solutions) tree core → IsDeclaration core
+    by none (as_read t) h = absurd (none refl)
+    by none (as_named {tree = tree} n) h = declares-after _ tree core h (declares-after _ n.core tree n.named.named_core n.declaration)
+
+pub plain_length : (ss : List Simple) → length (map plain_simple ss) ≡ length ss
+plain_length ss = map-length plain_simple ss

@@ -290,13 +290,13 @@ module _ (sig : PlainSignature) (f : Found) (formed_in : IsFormedIn sig (plain_c
 pub named_so : (sig : PlainSignature) (f : Found) (simples : List SimpleType) (names : Stored) → NamesLeft sig f simples names → (put : Found) → IsPutInto f.core f.types names put
     → (fresh : Stored) → IsUnsolvedWith f.store simples fresh → (r : Result Scene Want) → IfOk r (HasMadeTypes sig put fresh simples) → IfOk r (IsNamedScene sig f simples)
 named_so sig f simples names l put is_put fresh unsolved (Ok scene) m =
-    scene_named sig f l.formed l.left l.are_left l.signature simples l.are_simples l.first l.is_first names l.names put is_put fresh unsolved scene m.same_tree m.all_types m.grown
+    scene_named sig f l.formed l.left l.are_left l.signature simples l.are_simples l.first l.is_first names l.has_names put is_put fresh unsolved scene m.same_tree m.all_types m.grown
 named_so sig f simples names l put is_put fresh unsolved (Err w) m = tt
 
 pub may_put_in : (sig : PlainSignature) (f : Found) (simples : List SimpleType) (names : Stored) → NamesLeft sig f simples names
     → HasPutIn (additions names) × CoreIsFormedIn (additions names) (plain_core f.core) × EachIsFormedIn (additions names) (map plain_ty f.types)
 may_put_in sig f simples names l = (
-  names-put-in sig f l.formed l.left l.are_left l.signature simples l.are_simples l.first l.is_first names l.names,
-  tree-in sig f l.formed l.left l.are_left l.signature simples l.are_simples l.first l.is_first names l.names,
-  types-in sig f l.formed l.left l.are_left l.signature simples l.are_simples l.first l.is_first names l.names,
+  names-put-in sig f l.formed l.left l.are_left l.signature simples l.are_simples l.first l.is_first names l.has_names,
+  tree-in sig f l.formed l.left l.are_left l.signature simples l.are_simples l.first l.is_first names l.has_names,
+  types-in sig f l.formed l.left l.are_left l.signature simples l.are_simples l.first l.is_first names l.has_names,
 )

@@ -212,15 +212,3 @@ dropped [] ys zero e = refl
 dropped [] ys (suc n) e = absurd (omega arith)
 dropped (x ∷ xs) ys zero e = absurd (omega arith)
 dropped (x ∷ xs) ys (suc n) e = dropped xs ys n (omega arith)
-
-map_drop : {X Y : Type 0} (f : X → Y) (n : ℕ) (xs : List X) → map f (drop n xs) ≡ drop n (map f xs)
-map_drop f zero xs = refl
-map_drop f (suc n) [] = refl
-map_drop f (suc n) (x ∷ xs) = map_drop f n xs
-
-simples_length : (entries : List _) → length (simple_types (plain_signature entries)) ≡ length entries
-simples_length [] = refl
-simples_length (e ∷ entries) = ap suc (simples_length entries)
-
-pub drop_simples : (entries : List _) (ss : List Simple) (us : List SimpleType) (n : ℕ) → n ≡ length entries → map plain_simple ss ≡ simple_types (plain_signature entries) ++ us → map plain_simple (drop n ss) ≡ us
-drop_simples entries ss us n e h = map_drop plain_simple n ss ∙ ap (drop n) h ∙ dropped (simple_types (plain_signature entries)) us n (e ∙ sym (simples_length entries))

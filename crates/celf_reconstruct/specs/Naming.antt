@@ -80,7 +80,7 @@ pub record NamesLeft (sig : PlainSignature) (f : Found) (simples : List SimpleTy
   pub are_simples : AreSimples (types_in f.store) left simples
   pub first : ℕ
   pub is_first : first ≡ length sig + length (map plain_ty f.types)
-  pub names : HasNames f first left simples names
+  pub has_names : HasNames f first left simples names
 
 -- The core with its types, and after these types made of simple types, whose indices are new metavariables of the store.
 pub record HasMadeTypes (sig : PlainSignature) (put : Found) (fresh : Stored) (simples : List SimpleType) (scene : Scene) : Type 0 where

@@ -1,5 +1,5 @@
 //! What is answered of what is found.
-ghost use Rattle.std.specs.Prelude.{◌≡◌, [], false, true, length, map};
+ghost use Rattle.std.specs.Prelude.{◌≡◌, ⊥, [], false, true, length, map};
 ghost use Rattle.clf_syntax.specs.PlainTypes.{plain_ty};
 ghost use Rattle.clf_sig.specs.Core.{plain_core};
 ghost use Rattle.clf_sig.specs.Signature.{plain_signature};
@@ -146,12 +146,58 @@ fn again_with(
     ensures { IsReconstruction (plain_signature sig.now) (desugared_item plain.now) result }
 {
     let scene = named(alloc, sig, found, left, simples)?;
-    let found = settled(alloc, sig, scene)?;
+    match settled(alloc, sig, scene) {
+        Ok(found) => last(alloc, sig, plain, variables, simples.len(), found),
+        Err(fault) => Err(fault),
+    }
+}
+
+/// The answer of a declaration with so many unnamed binders.
+fn last(
+    alloc: Global,
+    sig: &Signature,
+    plain: &Plain,
+    variables: &[Implicit],
+    unnamed: usize,
+    found: Found,
+) -> Result<Core, OrWide<Why>>
+    requires all { AreAll (plain_signature sig.now) (desugared_item plain.now).body variables.now }
+    requires found { HasFound (plain_signature sig.now) (desugared_item plain.now).body variables.now unnamed found }
+    requires unnamed { unnamed ≡ 0 → ⊥ }
+    ensures { IsReconstruction (plain_signature sig.now) (desugared_item plain.now) result }
+{
     let rest = metavariables(alloc, &found.core, found.types.as_slice())?;
     if rest.is_empty() {
-        declare(alloc, sig, plain, variables, simples.len(), found)
+        declare(alloc, sig, plain, variables, unnamed, found)
     } else {
-        drop(found);
-        Err(loose(alloc, rest.len()))
+        left_open(
+            alloc,
+            sig,
+            plain,
+            variables,
+            unnamed,
+            found,
+            rest.as_slice(),
+        )
     }
+}
+
+/// The same where metavariables are left in it still.
+fn left_open(
+    alloc: Global,
+    _sig: &Signature,
+    _plain: &Plain,
+    _variables: &[Implicit],
+    _unnamed: usize,
+    found: Found,
+    rest: &[u32],
+) -> Result<Core, OrWide<Why>>
+    requires found { HasFound (plain_signature _sig.now) (desugared_item _plain.now).body _variables.now _unnamed found }
+    requires unnamed { _unnamed ≡ 0 → ⊥ }
+    requires rest { rest.now ≡ metavariables_with (plain_core found.core) (map plain_ty found.types) }
+    requires some { rest.now ≡ [] → ⊥ }
+    ensures { IsReconstruction (plain_signature _sig.now) (desugared_item _plain.now) result }
+{
+    drop(found);
+    Err(loose(alloc, rest.len()))
 }

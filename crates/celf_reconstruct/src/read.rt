@@ -48,7 +48,8 @@ pub fn read(
         drop(core);
         return Err(why);
     }
-    let types = types_of(alloc, sig, &mut store, &simples.as_slice()[sig.len()..])?;
+    let own = own_simples(alloc, variables)?;
+    let types = types_of(alloc, sig, &mut store, own.as_slice())?;
     Ok(Scene { core, types, store })
 }
 
@@ -68,6 +69,17 @@ fn simples_of(
         simples.push(simple_of(alloc, variable)?)?;
     }
     Ok(simples)
+}
+
+/// Those of the implicit variables alone.
+fn own_simples(alloc: Global, variables: &[Implicit]) -> Result<Items<Simple>, AllocError>
+    ensures { IfOk result (λ own. map plain_simple own ≡ map simple_or_unit (map plain_implicit variables.now)) }
+{
+    let mut own = Items::new(alloc);
+    for variable in variables {
+        own.push(simple_of(alloc, variable)?)?;
+    }
+    Ok(own)
 }
 
 /// The simple type of an implicit variable.

@@ -89,6 +89,8 @@ fn find(
     ensures { IsReconstruction (plain_signature sig.now) (desugared_item plain.now) result }
 {
     let scene = read(alloc, sig, plain, variables)?;
-    let found = settled(alloc, sig, scene)?;
-    answer(alloc, sig, plain, variables, found)
+    match settled(alloc, sig, scene) {
+        Ok(found) => answer(alloc, sig, plain, variables, found),
+        Err(fault) => Err(fault),
+    }
 }

@@ -1,6 +1,6 @@
 use Rattle.std.proofs.Common.{ℕ, List, ap, sym, subst, map}
 use Rattle.clf_syntax.specs.PlainTypes.{plain_ty}
-use Rattle.clf_syntax.specs.declared.types.Ty.{Ty}
+use Rattle.clf_syntax.specs.declared.tree.Ty.{Ty}
 use Rattle.clf_sig.specs.Core.{plain_core}
 use Rattle.clf_sig.specs.Signature.{plain_class, plain_entry, plain_signature}
 use Rattle.celf_sugar.specs.Plain.{desugared_item}

@@ -1,4 +1,4 @@
-use Rattle.std.proofs.Common.{◌≡◌, ◌∙◌, true, ap, drop, map, subst, arith}
+use Rattle.std.proofs.Common.{◌≡◌, ◌∙◌, true, ap, map, subst, arith}
 use Rattle.clf_sig.specs.Core.{plain_core}
 use Rattle.clf_sig.specs.Signature.{plain_signature}
 use Rattle.celf_sugar.specs.Plain.{desugared_item}
@@ -12,7 +12,7 @@ use Rattle.clf_syntax.specs.PlainSimple.{plain_simple}
 use Rattle.celf_filled.specs.States.{IsGrownBy, count}
 use Rattle.celf_filled.specs.TypedFrom.{indices_of}
 use Rattle.filled_laws.specs.FreshTypes.{types_from, new_in_each}
-use Rattle.celf_reconstruct.proofs.Reading.{scene_read, drop_simples}
+use Rattle.celf_reconstruct.proofs.Reading.{scene_read}
 use Rattle.celf_reconstruct.proofs.read.read.Goals.{then-not-whole-via-then-not-whole, then-not-whole-via-else-not-whole+then-not-are_known}
 use Rattle.celf_reconstruct.proofs.read.read.Goals as goal
 
@@ -22,9 +22,9 @@ returns-then-not-whole-clause-declined c =
     let item = desugared_item c.args.plain.now in
     let xs = c.args.variables.now in
     let none : HasNoTree sig item.body = elim c.then-not-whole.branch [
-      then-not-whole-via-then-not-whole w ↦ place_done sig item xs c.requires.all c.in_ok-store.store c.read_filled.new.store (plain_core c.in_ok-core.field-0.core) c.in_ok-core.field-0.whole
+      | then-not-whole-via-then-not-whole w ↦ place_done sig item xs c.requires.all c.in_ok-store.store c.read_filled.new.store (plain_core c.in_ok-core.field-0.core) c.in_ok-core.field-0.whole
           c.in_ok-store.ensures.additions c.in_ok-core.ensures.made (grind (arith, w.if-not-whole.true, c.in_ok-core.whole-is))
-    | then-not-whole-via-else-not-whole+then-not-are_known w ↦ variable_done sig item xs c.requires.all (one-untyped xs (grind (arith, w.if-not-are_known.true, w.are_known.ensures)))
+      | then-not-whole-via-else-not-whole+then-not-are_known w ↦ variable_done sig item xs c.requires.all (one-untyped xs (grind (arith, w.if-not-are_known.true, w.are_known.ensures)))
     ] in
     ill_typed_for sig item xs c.misfit_of-why.result none c.misfit_of-why.ensures
 
@@ -36,7 +36,7 @@ returns-clause-scene c =
     let us = map simple_or_unit (map plain_implicit xs) in
     let whole : c.in_ok-core.field-0.whole ≡ true = grind (arith, c.if-not-whole.false, c.in_ok-core.whole-is) in
     let known : are_known xs ≡ true = grind (arith, c.if-not-are_known.false, c.are_known.ensures) in
-    let rest : map plain_simple (drop c.len.result c.as_slice-2.result.now) ≡ us = drop_simples c.args.sig.now c.as_slice-2.result.now us c.len.result c.len.ensures.len (ap (map plain_simple) c.as_slice-2.ensures ∙ c.in_ok-simples.ensures) in
+    let rest : map plain_simple c.as_slice-2.result.now ≡ us = ap (map plain_simple) c.as_slice-2.ensures ∙ c.in_ok-own.ensures in
     let scene : Scene = record { core = c.in_ok-core.field-0.core; types = c.in_ok-types.types; store = c.types_of.new.store } in
     scene_read sig c.requires.formed body xs c.requires.all scene (record {
       old = c.in_ok-store.store;
