@@ -297,9 +297,9 @@ circular_as sig xs types slice e binders numbers i fault h =
 -- What comes of a named tree is a declaration.
 pub still_declared : {sig : PlainSignature} {body : DesugaredBody} {vs : List TypedVariable} {unnamed : ℕ} {core : PlainCore} {types : List PlainType}
     → (unnamed ≡ 0 → ⊥) → IsFound sig body vs unnamed core types → IsDeclaration core
-still_declared {core = core} some f = by some f.posed f.comes.settles.core_becomes
+still_declared {sig = sig} {body = body} {vs = vs} {core = core} some f = by some f.posed f.comes.settles.core_becomes
   where
-    by : {k : ℕ} {before : List PlainType} {metas : Types} {tree : PlainCore} → (k ≡ 0 → ⊥) → IsPosed _ _ _ k before metas tree → SubstitutedCore (instant f.comes.settles.solutions) tree core → IsDeclaration core
+    by : {k : ℕ} {before : List PlainType} {metas : Types} {tree : PlainCore} → (k ≡ 0 → ⊥) → IsPosed sig body vs k before metas tree → SubstitutedCore (instant f.comes.settles.solutions) tree core → IsDeclaration core
     by none (as_read t) h = absurd (none refl)
     by none (as_named {tree = tree} n) h = declares-after _ tree core h (declares-after _ n.core tree n.named.named_core n.declaration)
 

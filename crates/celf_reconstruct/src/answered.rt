@@ -1,5 +1,5 @@
 //! What is answered of what is found.
-ghost use Rattle.std.specs.Prelude.{◌≡◌, ⊥, [], false, true, length, map};
+ghost use Rattle.std.specs.Prelude.{◌≡◌, [], false, true, length, map};
 ghost use Rattle.clf_syntax.specs.PlainTypes.{plain_ty};
 ghost use Rattle.clf_sig.specs.Core.{plain_core};
 ghost use Rattle.clf_sig.specs.Signature.{plain_signature};
