@@ -131,7 +131,17 @@ declares-after s tree core (in_trace h) d = d
 declares-after s tree core (in_equation h i j) d = d
 declares-after s tree core (in_check h i) d = d
 
--- A check or an equation within reach has no implicit variable.
+-- What is read of an item within reach, and is no declaration, is a check or an equation; and that has no implicit variable.
+of_reading : {sig : PlainSignature} {b : DesugaredBody} {fs : Fillings} {us : List ImplicitVariable} {tree core : PlainCore} (s : Environment) → IsWithinReach sig b → ReadsBody sig (declared_heads sig) us b fs tree
+    → SubstitutedCore s tree core → (IsDeclaration core → ⊥) → IsCheck core × (determined sig b ≡ [])
+of_reading s reach (reads_family_declaration r) (in_declaration h) not = absurd (not tt)
+of_reading s reach (reads_constant_declaration r) (in_declaration h) not = absurd (not tt)
+of_reading s reach (reads_query r) h not = absurd (reach.no_search tt)
+of_reading s reach (reads_trace r) h not = absurd (reach.no_search tt)
+of_reading s reach (reads_equation r q p) (in_equation h i j) not = (tt, reach.no_variables tt)
+of_reading s reach (reads_check r q) (in_check h i) not = (tt, reach.no_variables tt)
+
+-- So is what is found.
 module _ (sig : PlainSignature) (body : DesugaredBody) (reach : IsWithinReach sig body) (vs : List TypedVariable) (core : PlainCore) (types : List PlainType) (not : IsDeclaration core → ⊥) where
   no_variable : map determined_name (determined sig body) ≡ map read_name vs → determined sig body ≡ [] → vs ≡ []
   no_variable e d = by vs (sym (ap (map determined_name) d) ∙ e)
@@ -139,15 +149,6 @@ module _ (sig : PlainSignature) (body : DesugaredBody) (reach : IsWithinReach si
       by : (us : List TypedVariable) → [] ≡ map read_name us → us ≡ []
       by [] e = refl
       by (u ∷ us) e = absurd (cc)
-
-  of_reading : {b : DesugaredBody} {fs : Fillings} {us : List ImplicitVariable} {tree : PlainCore} (s : Environment) → ReadsBody sig (declared_heads sig) us b fs tree → SubstitutedCore s tree core
-      → b ≡ body → (determined sig body ≡ [] → vs ≡ []) → IsCheck core × (vs ≡ [])
-  of_reading s (reads_family_declaration r) (in_declaration h) e k = absurd (not tt)
-  of_reading s (reads_constant_declaration r) (in_declaration h) e k = absurd (not tt)
-  of_reading s (reads_query r) h e k = absurd (reach.no_search (subst IsSearch e tt))
-  of_reading s (reads_trace r) h e k = absurd (reach.no_search (subst IsSearch e tt))
-  of_reading s (reads_equation r q p) (in_equation h i j) e k = (tt, k (reach.no_variables (subst IsTest e tt)))
-  of_reading s (reads_check r q) (in_check h i) e k = (tt, k (reach.no_variables (subst IsTest e tt)))
 
   nothing_becomes : (s : Instantiation) (us : List TypedVariable) → us ≡ [] → EachBecomes s (types_read us) types → types ≡ []
   nothing_becomes s us e h = nothing-in types (becomes-length s (types_read us) types h ∙ ap (λ (l : List TypedVariable). length (types_read l)) e)
@@ -157,7 +158,7 @@ module _ (sig : PlainSignature) (body : DesugaredBody) (reach : IsWithinReach si
     where
       by : {k : ℕ} {before : List PlainType} {metas : Types} {tree : PlainCore} → IsPosed sig body vs k before metas tree → SubstitutedCore (instant f.comes.settles.solutions) tree core
           → EachBecomes f.comes.settles.solutions before types → IsCheck core × (vs ≡ []) × (types ≡ [])
-      by (as_read t) h each = let (c, n) = of_reading (instant f.comes.settles.solutions) t.reading h refl (no_variable t.these) in (c, n, nothing_becomes f.comes.settles.solutions vs n each)
+      by (as_read t) h each = let (c, d) = of_reading (instant f.comes.settles.solutions) reach t.reading h not in let n = no_variable t.these d in (c, n, nothing_becomes f.comes.settles.solutions vs n each)
       by (as_named {tree = tree} n) h each = absurd (not (declares-after _ tree core h (declares-after _ n.core tree n.named.named_core n.declaration)))
 
 -- ---- the answers
@@ -174,7 +175,7 @@ module _ (sig : PlainSignature) (item : DesugaredItem) (xs : List Implicit) wher
   -- The walk from a store without metavariables did not fill in all.
   pub place-done : AreAll sig item.body xs → (old between : Stored) (core : PlainCore) (whole : Bool) → additions old ≡ []
       → (core, state_of between whole) ≡ fill_body sig (map plain_named xs) item.body (state_of old true) → whole ≡ false → HasNoTree sig item.body
-  place-done all old between core whole nothing made e = untyped_place {constants = constants old} (sym (ap (λ (v : PlainCore × State). v.1.whole) start) ∙ e)
+  place-done all old between core whole nothing made e = untyped_place (constants old) (sym (ap (λ (v : PlainCore × State). v.1.whole) start) ∙ e)
     where
       from : state_of old true ≡ nothing_filled (constants old)
       from = ap (λ (zs : List Addition). let s : State = record { constants = constants old; added = zs; whole = true } in s) nothing

@@ -38,10 +38,11 @@ no_place : (p : Place) → is_place p ≡ false → p ≡ None
 no_place None e = refl
 no_place (Some t) e = absurd (cc)
 
+first-untyped : (x : Implicit) (xs : List Implicit) (b : Bool) → is_known x ≡ b → b && are_known xs ≡ false → (are_known xs ≡ false → HasUntypedOne (map plain_implicit xs)) → HasUntypedOne (map plain_implicit (x ∷ xs))
+first-untyped x xs true h f rest = later (plain_implicit x) (map plain_implicit xs) (rest f)
+first-untyped x xs false h f rest =
+    (plain_implicit x, Contains-append_left (plain_implicit x ∷ []) (map plain_implicit xs) (plain_implicit x) (Contains-push [] (plain_implicit x)), no_place (plain_implicit x).place h)
+
 pub one-untyped : (xs : List Implicit) → are_known xs ≡ false → HasUntypedOne (map plain_implicit xs)
 one-untyped [] e = absurd (cc)
-one-untyped (x ∷ xs) e = by (is_known x) refl e
-  where
-    by : (b : Bool) → is_known x ≡ b → b && are_known xs ≡ false → HasUntypedOne (map plain_implicit (x ∷ xs))
-    by true h f = later (plain_implicit x) (map plain_implicit xs) (one-untyped xs f)
-    by false h f = (plain_implicit x, Contains-append_left (plain_implicit x ∷ []) (map plain_implicit xs) (plain_implicit x) (Contains-push [] (plain_implicit x)), no_place (plain_implicit x).place h)
+one-untyped (x ∷ xs) e = first-untyped x xs (is_known x) refl e (one-untyped xs)
