@@ -165,9 +165,9 @@ module _ (sig : PlainSignature) (body : DesugaredBody) (reach : IsWithinReach si
 
 module _ (sig : PlainSignature) (item : DesugaredItem) (xs : List Implicit) where
   pub ill-typed-for : (fault : OrWide Why) → HasNoTree sig item.body → IsFor IsIllTyped fault → Declined sig item fault
-  ill-typed-for (Fault why) no h = let (m, e) = h in subst (Declines sig item.body) (sym e) (no_tree (no-tree sig item.body no))
-  ill-typed-for NoMemory no h = tt
-  ill-typed-for (TooFar w) no h = h
+  ill-typed-for (Fault why) none h = let (m, e) = h in subst (Declines sig item.body) (sym e) (no_tree (no-tree sig item.body none))
+  ill-typed-for NoMemory none h = tt
+  ill-typed-for (TooFar w) none h = h
 
   pub variable-done : AreAll sig item.body xs → HasUntypedOne (map plain_implicit xs) → HasNoTree sig item.body
   variable-done all u = let (y, there, none) = u in untyped_variable (subst (λ ys. Contains ys y) all.found there) none

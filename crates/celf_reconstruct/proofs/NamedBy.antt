@@ -104,7 +104,7 @@ pub simple-at : (metas : Types) (left : List ℕ) (simples : List SimpleType) �
     → metas m ≡ Some t → position (λ k. k == m) left ≡ Some i → slice_get simples i ≡ Some t
 simple-at metas left simples e m i t h p =
     let there = position-Some (λ k. k == m) left i 0 p in
-    by left simples e i there.0 there.1.0
+    by left simples e i there.0 there.1
   where
     same_number : (k j : ℕ) → k == j ≡ true → k ≡ j
     same_number k j q = grind arith

@@ -1,5 +1,5 @@
 -- The scene in which what was left is constants.
-use Rattle.std.proofs.Common.{ℕ, zero, suc, ◌+◌, ◌-◌, ◌≡◌, ◌<◌, ◌≤◌, ◌++◌, ◌==◌, Bool, true, false, refl, sym, ap, subst, ◌∙◌, ⊎_elim, Option, Some, None, List, [], ◌∷◌, length, map, arith, slice_get, append_assoc}
+use Rattle.std.proofs.Common.{ℕ, zero, suc, ◌+◌, ◌-◌, ◌≡◌, ◌<◌, ◌≤◌, ◌++◌, ◌==◌, Bool, true, false, refl, sym, ap, subst, ◌∙◌, ◌⊎◌, ⊎_elim, Option, Some, None, List, [], ◌∷◌, length, map, arith, slice_get, append_assoc}
 use Rattle.std.proofs.lemmas.List.{map-append}
 use Rattle.std.proofs.lemmas.List.Elements.{All-append, All-cons, All-nil}
 use Rattle.std.proofs.lemmas.Option.{slice_get_past}
@@ -86,7 +86,7 @@ module _ (sig : PlainSignature) (f : Found) (formed_in : IsFormedIn sig (plain_c
 
   lengths : {X Y : Type 0} (k : X → Y) (xs : List X) → length (map k xs) ≡ length xs
   lengths k [] = refl
-  lengths k (x ∷ xs) = ap (λ i. i + 1) (lengths k xs)
+  lengths k (x ∷ xs) = ap suc (lengths k xs)
 
   length_append : {X : Type 0} (xs ys : List X) → length (xs ++ ys) ≡ length xs + length ys
   length_append [] ys = omega arith
@@ -289,5 +289,5 @@ module _ (sig : PlainSignature) (f : Found) (formed_in : IsFormedIn sig (plain_c
         read = read;
         no_hole = formed_core_has_no_hole (families_of sig) g (tree_of scene) (subst (λ (c : PlainCore). CoreIsFormed (families_of sig) g c) tree_is core_formed);
       };
-      families = λ m a e. all-at (old ++ new_ones) all_families m a (sym (metas-are scene (old ++ new_ones) additions_are m) ∙ e);
+      families = λ m a e. all-at (HasFamilies sig) (old ++ new_ones) all_families m a (sym (metas-are scene (old ++ new_ones) additions_are m) ∙ e);
     }

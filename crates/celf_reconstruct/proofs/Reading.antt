@@ -61,8 +61,8 @@ map-append [] us = refl
 map-append (t ∷ ts) us = ap (λ (l : List Addition). new t ∷ l) (map-append ts us)
 
 -- What holds of each of a list holds at each number.
-pub all-at : {P : SimpleType → Type 0} (ts : List SimpleType) → All P ts → (m : ℕ) (a : SimpleType) → slice_get ts m ≡ Some a → P a
-all-at {P = P} ts all m a e = subst P (get_or_from_slice_get ts m a a e) (All-get_or P ts m a (slice_get_within ts m a e) all)
+pub all-at : (P : SimpleType → Type 0) (ts : List SimpleType) → All P ts → (m : ℕ) (a : SimpleType) → slice_get ts m ≡ Some a → P a
+all-at P ts all m a e = subst P (get_or_from_slice_get ts m a a e) (All-get_or P ts m a (slice_get_within ts m a e) all)
 
 -- A scene whose store has these metavariables alone, with final results, is fresh.
 pub is-fresh : (scene : Scene) (ts : List SimpleType) → additions scene.store ≡ map new ts → All HasFinalResult ts → IsFresh scene
@@ -199,5 +199,5 @@ module _ (sig : PlainSignature) (formed : WellFormedSignature sig) (body : Desug
     variables = vs_names;
     posed = subst (λ (as_ : List PlainType). IsPosed sig body vs 0 as_ (metas_in scene) (tree_of scene)) (vs_types ∙ sym types_are) (as_read tree);
     is_scene = is_scene;
-    families = λ m a e. all-at (fs ++ more) all_families m a (sym (metas-are scene (fs ++ more) additions_are m) ∙ e);
+    families = λ m a e. all-at (HasFamilies sig) (fs ++ more) all_families m a (sym (metas-are scene (fs ++ more) additions_are m) ∙ e);
   }
