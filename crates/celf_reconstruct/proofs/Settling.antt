@@ -24,13 +24,18 @@ use Rattle.filled_laws.proofs.NewFamilies.{traced_have_families}
 use Rattle.celf_sugar.specs.PlainTree.{DesugaredBody, DesugaredItem}
 use Rattle.celf_implicit.specs.declared.variable.Implicit.{Implicit}
 use Rattle.celf_replies.specs.declared.reply.Why.{Why}
-use Rattle.celf_replies.specs.Reply.{plain_why}
+use Rattle.celf_replies.specs.Reply.{PlainSides, PlainMismatch, plain_why, ill_typed, unresolved, index_differs}
 use Rattle.celf_solve.specs.declared.scene.Scene.{Scene}
 use Rattle.celf_solve.specs.declared.scene.Found.{Found}
 use Rattle.gathered_laws.specs.Formed.{CoreIsFormed}
-use Rattle.celf_solve.specs.Scenes.{EachIsFormed}
 use Rattle.celf_solve.specs.Laws.{AnswersGathered, IsFormedAfter}
-use Rattle.celf_solve.specs.Scenes.{tree_of, types_of, metas_in, constants_in, IsScene}
+use Rattle.celf_solve.specs.Scenes.{tree_of, types_of, metas_in, constants_in, start_of, EachIsFormed, IsScene, Gathered, AreLeft, IsMisfit}
+use Rattle.clf_syntax.specs.Tree.{PlainObject}
+use Rattle.reach_laws.specs.Unified.{Clashed}
+use Rattle.celf_conform.specs.declared.misfit.Misfit.{Misfit}
+use Rattle.celf_conform.specs.Known.{known_over}
+use Rattle.celf_conform.specs.Conforms.{IsFirstMisfit}
+use Rattle.celf_reconstruct.specs.Posed.{told, sides_of, Unsettled, no_fit, no_solution, stuck}
 use Rattle.celf_solve.specs.Settled.{constants_of}
 use Rattle.celf_solve.proofs.After.{settled_is_formed}
 use Rattle.celf_solve.proofs.Answers.{posed_and_settled}
@@ -116,3 +121,25 @@ pub declined-of : (sig : PlainSignature) (item : DesugaredItem) (xs : List Impli
 declined-of sig item xs unnamed scene (Fault why) u h = unsettled h.posed u
 declined-of sig item xs unnamed scene NoMemory u h = tt
 declined-of sig item xs unnamed scene (TooFar w) u h = u
+
+-- ---- the answers of solving
+
+module _ (sig : PlainSignature) (scene : Scene) (is : IsScene sig scene) where
+  pub misfit-of : (w : Misfit) (m : PlainMismatch) → IsMisfit sig scene w → m ≡ told w → Unsettled sig (types_of scene) (metas_in scene) (tree_of scene) (ill_typed m)
+  misfit-of w m h e = subst (λ k. Unsettled sig (types_of scene) (metas_in scene) (tree_of scene) (ill_typed k)) (sym e) (no_fit (record {
+    nothing = h.nothing;
+    metavariables = meta_types (additions scene.store);
+    they = λ k. refl;
+    first = subst (λ (cs : List SimpleType). IsFirstMisfit (known_over sig cs (meta_types (additions scene.store))) (tree_of scene) w) is.constants_are h.first;
+  }))
+
+  module _ (q : List Equation) (gathers : Gathered sig scene q) where
+    answers : AnswersGathered sig scene q
+    answers = posed_and_settled sig scene q is gathers
+
+    pub stuck-of : (left : List Equation) (ss : List PlainSides) → AreLeft scene q left → ss ≡ map sides_of left → Unsettled sig (types_of scene) (metas_in scene) (tree_of scene) (unresolved ss)
+    stuck-of left ss h e = subst (λ k. Unsettled sig (types_of scene) (metas_in scene) (tree_of scene) (unresolved k)) (sym e) (stuck (answers.stuck left h))
+
+    pub clash-of : (now : Problem) (under : ℕ) (left right : PlainObject) (s : PlainSides) → Clashed (constants_in scene) (start_of scene q) now under left right
+        → s ≡ record { under = under; left = left; right = right } → Unsettled sig (types_of scene) (metas_in scene) (tree_of scene) (ill_typed (index_differs s))
+    clash-of now under left right s h e = subst (λ k. Unsettled sig (types_of scene) (metas_in scene) (tree_of scene) (ill_typed (index_differs k))) (sym e) (no_solution (answers.clash now under left right h))
