@@ -4,6 +4,7 @@ pub mod Variables
 pub mod Reading
 pub mod Settling
 pub mod Appearing
+pub mod NameSteps
 pub mod NamedBy
 pub mod NamedScene
 pub mod WholeObjects
