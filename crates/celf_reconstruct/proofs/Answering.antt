@@ -164,18 +164,18 @@ module _ (sig : PlainSignature) (body : DesugaredBody) (reach : IsWithinReach si
 -- ---- the answers
 
 module _ (sig : PlainSignature) (item : DesugaredItem) (xs : List Implicit) where
-  pub ill-typed-for : (fault : OrWide Why) → HasNoTree sig item.body → IsFor IsIllTyped fault → Declined sig item fault
-  ill-typed-for (Fault why) none h = let (m, e) = h in subst (Declines sig item.body) (sym e) (no_tree (no-tree sig item.body none))
-  ill-typed-for NoMemory none h = tt
-  ill-typed-for (TooFar w) none h = h
+  pub ill_typed_for : (fault : OrWide Why) → HasNoTree sig item.body → IsFor IsIllTyped fault → Declined sig item fault
+  ill_typed_for (Fault why) none h = let (m, e) = h in subst (Declines sig item.body) (sym e) (no_tree (no-tree sig item.body none))
+  ill_typed_for NoMemory none h = tt
+  ill_typed_for (TooFar w) none h = h
 
-  pub variable-done : AreAll sig item.body xs → HasUntypedOne (map plain_implicit xs) → HasNoTree sig item.body
-  variable-done all u = let (y, there, none) = u in untyped_variable (subst (λ ys. Contains ys y) all.found there) none
+  pub variable_done : AreAll sig item.body xs → HasUntypedOne (map plain_implicit xs) → HasNoTree sig item.body
+  variable_done all u = let (y, there, none) = u in untyped_variable (subst (λ ys. Contains ys y) all.found there) none
 
   -- The walk from a store without metavariables did not fill in all.
-  pub place-done : AreAll sig item.body xs → (old between : Stored) (core : PlainCore) (whole : Bool) → additions old ≡ []
+  pub place_done : AreAll sig item.body xs → (old between : Stored) (core : PlainCore) (whole : Bool) → additions old ≡ []
       → (core, state_of between whole) ≡ fill_body sig (map plain_named xs) item.body (state_of old true) → whole ≡ false → HasNoTree sig item.body
-  place-done all old between core whole nothing made e = untyped_place (constants old) (sym (ap (λ (v : PlainCore × State). v.1.whole) start) ∙ e)
+  place_done all old between core whole nothing made e = untyped_place (constants old) (sym (ap (λ (v : PlainCore × State). v.1.whole) start) ∙ e)
     where
       from : state_of old true ≡ nothing_filled (constants old)
       from = ap (λ (zs : List Addition). let s : State = record { constants = constants old; added = zs; whole = true } in s) nothing
@@ -191,15 +191,15 @@ module _ (sig : PlainSignature) (item : DesugaredItem) (xs : List Implicit) wher
   loose-for count NoMemory h d = tt
   loose-for count (TooFar w) h d = h
 
-  pub loose-done : (unnamed : ℕ) (f : Found) → HasFound sig item.body xs unnamed f → (IsDeclaration (plain_core f.core) → unnamed ≡ 0 → ⊥)
+  pub loose_done : (unnamed : ℕ) (f : Found) → HasFound sig item.body xs unnamed f → (IsDeclaration (plain_core f.core) → unnamed ≡ 0 → ⊥)
       → (count : ℕ) → count ≡ length (metavariables_with (plain_core f.core) (map plain_ty f.types)) → (count ≡ 0 → ⊥)
       → (fault : OrWide Why) → IsFor (λ why. why ≡ loose count) fault → Declined sig item fault
-  loose-done unnamed f h last count e some fault l = loose-for count fault l
+  loose_done unnamed f h last count e some fault l = loose-for count fault l
       (left_loose (record { vs = h.vs; unnamed = unnamed; core = plain_core f.core; types = map plain_ty f.types; found = h.found; last = last; counted = e; some_left = some }))
 
-  pub check-done : IsWithinReach sig item.body → (f : Found) → HasFound sig item.body xs 0 f → (IsDeclaration (plain_core f.core) → ⊥)
+  pub check_done : IsWithinReach sig item.body → (f : Found) → HasFound sig item.body xs 0 f → (IsDeclaration (plain_core f.core) → ⊥)
       → 0 ≡ length (metavariables_with (plain_core f.core) (map plain_ty f.types)) → Reconstructs sig item.body (plain_core f.core)
-  check-done reach f h not e =
+  check_done reach f h not e =
       let (c, v, t) = check-found sig item.body reach h.vs (plain_core f.core) (map plain_ty f.types) not 0 h.found in
       let found : IsFound sig item.body [] 0 (plain_core f.core) [] = subst (λ us. IsFound sig item.body us 0 (plain_core f.core) []) v (subst (λ as_. IsFound sig item.body h.vs 0 (plain_core f.core) as_) t h.found) in
       let none : metavariables_with (plain_core f.core) [] ≡ [] = nothing-in (metavariables_with (plain_core f.core) []) (ap (λ as_. length (metavariables_with (plain_core f.core) as_)) (sym t) ∙ sym e) in
@@ -207,9 +207,9 @@ module _ (sig : PlainSignature) (item : DesugaredItem) (xs : List Implicit) wher
 
   -- ---- once more
 
-  pub again-scene : (f : Found) → HasFound sig item.body xs 0 f → IsDeclaration (plain_core f.core) → (metavariables_with (plain_core f.core) (map plain_ty f.types) ≡ [] → ⊥)
+  pub again_scene : (f : Found) → HasFound sig item.body xs 0 f → IsDeclaration (plain_core f.core) → (metavariables_with (plain_core f.core) (map plain_ty f.types) ≡ [] → ⊥)
       → (simples : List SimpleType) (scene : Scene) → IsNamedScene sig f simples scene → HasScene sig item.body xs (length simples) scene
-  again-scene f h d some simples scene n = record {
+  again_scene f h d some simples scene n = record {
     vs = h.vs;
     variables = h.variables;
     posed = by refl h.found.posed h.found.comes;
@@ -233,24 +233,24 @@ module _ (sig : PlainSignature) (item : DesugaredItem) (xs : List Implicit) wher
       })
       by z (as_named {simples = ts} m) c = absurd (m.some_left (nothing-in (metavariables_with m.core m.after) (sym (simples-length m.now.metas (metavariables_with m.core m.after) ts m.named.simple) ∙ z)))
 
-  pub some-unnamed : (f : Found) (left : List ℕ) (simples : List SimpleType) → AreSimples (types_in f.store) left simples → (left ≡ [] → ⊥) → length simples ≡ 0 → ⊥
-  some-unnamed f left simples are some e = some (nothing-in left (sym (simples-length (types_in f.store) left simples are) ∙ e))
+  pub some_unnamed : (f : Found) (left : List ℕ) (simples : List SimpleType) → AreSimples (types_in f.store) left simples → (left ≡ [] → ⊥) → length simples ≡ 0 → ⊥
+  some_unnamed f left simples are some e = some (nothing-in left (sym (simples-length (types_in f.store) left simples are) ∙ e))
 
   -- ---- declarations
 
-  pub declared-done : (unnamed : ℕ) (f : Found) → HasFound sig item.body xs unnamed f → (name : List ℕ) (written : ℕ) (class : PlainClass)
+  pub declared_done : (unnamed : ℕ) (f : Found) → HasFound sig item.body xs unnamed f → (name : List ℕ) (written : ℕ) (class : PlainClass)
       → plain_core f.core ≡ declares name (entry_of written class) → metavariables_with (plain_core f.core) (map plain_ty f.types) ≡ []
       → (binders : List ℕ) → AreBinders sig item.body (length xs) unnamed binders → (e : PlainEntry) → IsDeclared sig (map plain_ty f.types) binders written class e
       → Reconstructs sig item.body (declares name e)
-  declared-done unnamed f h name written class is none binders b e d = found_declaration
+  declared_done unnamed f h name written class is none binders b e d = found_declaration
       (subst (λ c. IsFound sig item.body h.vs unnamed c (map plain_ty f.types)) is h.found)
       (subst (λ c. metavariables_with c (map plain_ty f.types) ≡ []) is none)
       (subst (λ k. AreBinders sig item.body k unnamed binders) (sym (variables-length xs h.vs h.variables)) b) d
 
-  pub circle-done : (unnamed : ℕ) (f : Found) → HasFound sig item.body xs unnamed f → metavariables_with (plain_core f.core) (map plain_ty f.types) ≡ []
+  pub circle_done : (unnamed : ℕ) (f : Found) → HasFound sig item.body xs unnamed f → metavariables_with (plain_core f.core) (map plain_ty f.types) ≡ []
       → (binders : List ℕ) → AreBinders sig item.body (length xs) unnamed binders
       → (fault : OrWide Why) → IsFor (IsCircular sig xs (map plain_ty f.types) binders) fault → Declined sig item fault
-  circle-done unnamed f h none binders b (Fault why) c = let (circle, is, e) = c in subst (Declines sig item.body) (sym e) (in_a_circle (record {
+  circle_done unnamed f h none binders b (Fault why) c = let (circle, is, e) = c in subst (Declines sig item.body) (sym e) (in_a_circle (record {
     vs = h.vs;
     unnamed = unnamed;
     core = plain_core f.core;
@@ -263,11 +263,11 @@ module _ (sig : PlainSignature) (item : DesugaredItem) (xs : List Implicit) wher
     is_circle = is;
     named = names-same xs h.vs h.variables circle;
   }))
-  circle-done unnamed f h none binders b NoMemory c = tt
-  circle-done unnamed f h none binders b (TooFar w) c = c
+  circle_done unnamed f h none binders b NoMemory c = tt
+  circle_done unnamed f h none binders b (TooFar w) c = c
 
-  pub within-done : (unnamed : ℕ) (f : Found) → HasFound sig item.body xs unnamed f → (binders : List ℕ) → AreBinders sig item.body (length xs) unnamed binders → AreWithin (length f.types) binders
-  within-done unnamed f h binders b k there =
+  pub within_done : (unnamed : ℕ) (f : Found) → HasFound sig item.body xs unnamed f → (binders : List ℕ) → AreBinders sig item.body (length xs) unnamed binders → AreWithin (length f.types) binders
+  within_done unnamed f h binders b k there =
       let l = binders-within sig item.body (length xs) unnamed binders b k there in
       let one = types-length sig item.body h.vs unnamed (plain_core f.core) (map plain_ty f.types) h.found in
       let two = variables-length xs h.vs h.variables in

@@ -102,5 +102,5 @@ module _ (metas : Types) where
         object (to_typed true g n (erase b) p.2) has (appearing (appearing_type [] b) m) (object (to_typed true g m (erase b) p.1) has (appearing_type [] b) (type g b p.0 has [] (All-nil P)))
     core g (checks n b) p has = object (to_typed true g n (erase b) p.1) has (appearing_type [] b) (type g b p.0 has [] (All-nil P))
 
-    pub each-has-simple : (g : Assignment) (c : PlainCore) (types : List PlainType) → CoreIsFormed arguments g c → EachIsFormed arguments g types → Has g → All P (metavariables_with c types)
-    each-has-simple g c types p q has = each g types q has (metavariables_in c) (core g c p has)
+    pub each_has_simple : (g : Assignment) (c : PlainCore) (types : List PlainType) → CoreIsFormed arguments g c → EachIsFormed arguments g types → Has g → All P (metavariables_with c types)
+    each_has_simple g c types p q has = each g types q has (metavariables_in c) (core g c p has)

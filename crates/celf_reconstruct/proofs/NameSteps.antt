@@ -26,9 +26,9 @@ other_number k m n false e = e
 one : {X : Type 0} {o : Option X} {x y : X} → o ≡ Some x → o ≡ Some y → x ≡ y
 one p q = cc
 
-pub solved-by : (old : Stored) (m number : ℕ) (o : Obj) (new_one : Stored) (t : SimpleType) → new_one ≡ with_addition old (added_solved m o) → types_in old m ≡ Some t
+pub solved_by : (old : Stored) (m number : ℕ) (o : Obj) (new_one : Stored) (t : SimpleType) → new_one ≡ with_addition old (added_solved m o) → types_in old m ≡ Some t
     → plain_obj o ≡ expansion t (head_alone (Const number)) → given (additions old) m ≡ None → IsSolvedBy old m number new_one
-solved-by old m number o new_one t e known form unsolved = record {
+solved_by old m number o new_one t e known form unsolved = record {
   part = (ap (λ (s : Stored). s.constants) e, (added_solved m o ∷ [], ap (λ (s : Stored). s.added) e));
   metas = ap meta_types after ∙ types-append (additions old) (solved m (plain_obj o) ∷ []) ∙ append-nil (meta_types (additions old));
   simple = t;
@@ -41,8 +41,8 @@ solved-by old m number o new_one t e known form unsolved = record {
     after : additions new_one ≡ additions old ++ solved m (plain_obj o) ∷ []
     after = ap additions e ∙ map-append plain_added old.added (added_solved m o ∷ [])
 
-pub named-one : (first : ℕ) (left : List ℕ) (m place : ℕ) (old new_one : Stored) → position (λ k. k == m) left ≡ Some place → IsSolvedBy old m (first + place) new_one → NamesOne first left m old new_one
-named-one first left m place old new_one p h = record {
+pub named_one : (first : ℕ) (left : List ℕ) (m place : ℕ) (old new_one : Stored) → position (λ k. k == m) left ≡ Some place → IsSolvedBy old m (first + place) new_one → NamesOne first left m old new_one
+named_one first left m place old new_one p h = record {
   part = h.part;
   metas = h.metas;
   named = h.solution ∙ sym (ap (λ t. named_at first t (position (λ k. k == m) left)) h.known ∙ ap (named_at first (Some h.simple)) p);
@@ -54,24 +54,24 @@ known_at [] m l = absurd (omega arith)
 known_at (t ∷ ts) zero l = (t, refl)
 known_at (t ∷ ts) (suc m) l = known_at ts m (omega arith)
 
-pub named-none : (first : ℕ) (left : List ℕ) (m : ℕ) (old : Stored) → m < length (metas_of old) → given (additions old) m ≡ None → position (λ k. k == m) left ≡ None → NamesOne first left m old old
-named-none first left m old l unsolved p = record {
+pub named_none : (first : ℕ) (left : List ℕ) (m : ℕ) (old : Stored) → m < length (metas_of old) → given (additions old) m ≡ None → position (λ k. k == m) left ≡ None → NamesOne first left m old old
+named_none first left m old l unsolved p = record {
   part = (refl, ([], sym (append-nil old.added)));
   metas = refl;
   named = let (t, e) = known_at (metas_of old) m l in unsolved ∙ sym (ap (λ u. named_at first u (position (λ k. k == m) left)) e ∙ ap (named_at first (Some t)) p);
   others = λ k n. refl;
 }
 
-pub until-start : (first : ℕ) (left : List ℕ) (old : Stored) → ((m : ℕ) → given (additions old) m ≡ None) → IsNamedUntil first left old 0 old
-until-start first left old unsolved = record {
+pub until_start : (first : ℕ) (left : List ℕ) (old : Stored) → ((m : ℕ) → given (additions old) m ≡ None) → IsNamedUntil first left old 0 old
+until_start first left old unsolved = record {
   part = (refl, ([], sym (append-nil old.added)));
   metas = refl;
   named = λ m l. absurd (omega arith);
   later = λ m l. unsolved m;
 }
 
-pub until-next : (first : ℕ) (left : List ℕ) (old : Stored) (m : ℕ) (now later : Stored) → IsNamedUntil first left old m now → NamesOne first left m now later → IsNamedUntil first left old (m + 1) later
-until-next first left old m now later h n = record {
+pub until_next : (first : ℕ) (left : List ℕ) (old : Stored) (m : ℕ) (now later : Stored) → IsNamedUntil first left old m now → NamesOne first left m now later → IsNamedUntil first left old (m + 1) later
+until_next first left old m now later h n = record {
   part = (n.part.0 ∙ h.part.0, (h.part.1.0 ++ n.part.1.0, n.part.1.1 ∙ ap (λ (xs : List Added). xs ++ n.part.1.0) h.part.1.1 ∙ append_assoc old.added h.part.1.0 n.part.1.0));
   metas = n.metas ∙ h.metas;
   named = λ k l. ⊎_elim (λ below. n.others k (λ e. absurd (omega arith)) ∙ h.named k below) (λ same. here k same) (split k l);

@@ -280,8 +280,8 @@ module _ (sig : PlainSignature) (f : Found) (formed_in : IsFormedIn sig (plain_c
       metavariables = metas-are scene (old ++ new_ones) additions_are;
     }
 
-    pub scene-named : IsNamedScene sig f simples scene
-    scene-named = record {
+    pub scene_named : IsNamedScene sig f simples scene
+    scene_named = record {
       named = is_named;
       is_scene = record {
         constants_are = are_constants;

@@ -193,8 +193,8 @@ module _ (sig : PlainSignature) (formed : WellFormedSignature sig) (body : Desug
     no_hole = reading_has_no_hole sig (declared_heads sig) vs0 body read.fillings (tree_of scene) (count h.old) read.numbered read.reading;
   }
 
-  pub scene-read : HasScene sig body xs 0 scene
-  scene-read = record {
+  pub scene_read : HasScene sig body xs 0 scene
+  scene_read = record {
     vs = vs;
     variables = vs_names;
     posed = subst (λ (as_ : List PlainType). IsPosed sig body vs 0 as_ (metas_in scene) (tree_of scene)) (vs_types ∙ sym types_are) (as_read tree);

@@ -92,8 +92,8 @@ module _ (sig : PlainSignature) (formed : WellFormedSignature sig) (body : Desug
       one : {o : Option SimpleType} {b c : SimpleType} → o ≡ Some b → o ≡ Some c → b ≡ c
       one p q = cc
 
-  pub found-of : HasFound sig body xs unnamed f
-  found-of = record {
+  pub found_of : HasFound sig body xs unnamed f
+  found_of = record {
     vs = h.vs;
     variables = h.variables;
     found = record {
@@ -116,17 +116,17 @@ module _ (sig : PlainSignature) (formed : WellFormedSignature sig) (body : Desug
 
 -- ---- why nothing does
 
-pub declined-of : (sig : PlainSignature) (item : DesugaredItem) (xs : List Implicit) (unnamed : ℕ) (scene : Scene) (fault : OrWide Why)
+pub declined_of : (sig : PlainSignature) (item : DesugaredItem) (xs : List Implicit) (unnamed : ℕ) (scene : Scene) (fault : OrWide Why)
     → UnsettledScene sig scene fault → HasScene sig item.body xs unnamed scene → Declined sig item fault
-declined-of sig item xs unnamed scene (Fault why) u h = unsettled h.posed u
-declined-of sig item xs unnamed scene NoMemory u h = tt
-declined-of sig item xs unnamed scene (TooFar w) u h = u
+declined_of sig item xs unnamed scene (Fault why) u h = unsettled h.posed u
+declined_of sig item xs unnamed scene NoMemory u h = tt
+declined_of sig item xs unnamed scene (TooFar w) u h = u
 
 -- ---- the answers of solving
 
 module _ (sig : PlainSignature) (scene : Scene) (is : IsScene sig scene) where
-  pub misfit-of : (w : Misfit) (m : PlainMismatch) → IsMisfit sig scene w → m ≡ told w → Unsettled sig (types_of scene) (metas_in scene) (tree_of scene) (ill_typed m)
-  misfit-of w m h e = subst (λ k. Unsettled sig (types_of scene) (metas_in scene) (tree_of scene) (ill_typed k)) (sym e) (no_fit (record {
+  pub misfit_of : (w : Misfit) (m : PlainMismatch) → IsMisfit sig scene w → m ≡ told w → Unsettled sig (types_of scene) (metas_in scene) (tree_of scene) (ill_typed m)
+  misfit_of w m h e = subst (λ k. Unsettled sig (types_of scene) (metas_in scene) (tree_of scene) (ill_typed k)) (sym e) (no_fit (record {
     nothing = h.nothing;
     metavariables = meta_types (additions scene.store);
     they = λ k. refl;

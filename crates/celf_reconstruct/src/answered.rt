@@ -62,6 +62,7 @@ fn is_declaration(core: &Core) -> bool
 }
 
 /// The answer of a check or an equation, in which so many metavariables are left.
+#[tactic(auto, using(crate::proofs::Answering::check_done, crate::proofs::Answering::loose_done))]
 fn checked(
     alloc: Global,
     sig: &Signature,

@@ -131,6 +131,7 @@ fn add_metas(alloc: Global, store: &mut Store, simples: &[Simple]) -> Result<(),
 }
 
 /// Solves each of the metavariables that are left by its constant.
+#[tactic(auto, using(crate::proofs::NameSteps::until_start, crate::proofs::NameSteps::until_next))]
 fn name_each(store: &mut Store, first: usize, left: &[u32]) -> Result<(), Want>
     requires unsolved { (m : ℕ) → given (additions store.old) m ≡ None }
     ensures named { OnOk result (IsNamedUntil first left.now store.old (length (metas_of store.old)) store.new) }
@@ -146,6 +147,7 @@ fn name_each(store: &mut Store, first: usize, left: &[u32]) -> Result<(), Want>
 }
 
 /// Solves a metavariable by its constant, if it is among those that are left.
+#[tactic(auto, using(crate::proofs::NameSteps::named_one, crate::proofs::NameSteps::named_none))]
 fn name_one(store: &mut Store, first: usize, left: &[u32], meta: u32) -> Result<(), Want>
     requires there { meta < length (metas_of store.old) }
     requires unsolved { given (additions store.old) meta ≡ None }
@@ -165,6 +167,7 @@ fn place_of(left: &[u32], meta: u32) -> Option<usize>
 }
 
 /// Solves a metavariable by the constant of this number past the first.
+#[tactic(auto, using(crate::proofs::NameSteps::solved_by))]
 fn solve_by(store: &mut Store, first: usize, place: usize, meta: u32) -> Result<(), Want>
     requires there { meta < length (metas_of store.old) }
     requires unsolved { given (additions store.old) meta ≡ None }

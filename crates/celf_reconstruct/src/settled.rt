@@ -17,6 +17,7 @@ use clf_syntax::OrWide;
 use std::alloc::Global;
 
 /// Solves what is gathered of a tree, and puts the solutions in.
+#[tactic(auto, using(crate::proofs::Settling::found_of, crate::proofs::Settling::declined_of))]
 pub fn settled(alloc: Global, sig: &Signature, scene: Scene) -> Result<Found, OrWide<Why>>
     requires formed { WellFormedSignature (plain_signature sig.now) }
     requires scene { IsScene (plain_signature sig.now) scene }
@@ -30,6 +31,7 @@ pub fn settled(alloc: Global, sig: &Signature, scene: Scene) -> Result<Found, Or
 }
 
 /// The same of the scene alone.
+#[tactic(auto, using(crate::proofs::Settling::misfit_of))]
 fn solved(alloc: Global, sig: &Signature, scene: Scene) -> Result<Found, OrWide<Why>>
     requires formed { WellFormedSignature (plain_signature sig.now) }
     requires scene { IsScene (plain_signature sig.now) scene }
