@@ -1,6 +1,6 @@
 pub mod More
 pub mod Puts
-pub mod Posed
+pub mod Gathered
 pub mod Starts
 pub mod Settled
 pub mod After

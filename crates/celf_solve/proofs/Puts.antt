@@ -9,7 +9,7 @@ use Rattle.clf_syntax.specs.PlainTypes.{plain_ty, plain-Fam, plain-Fun, plain-Wi
 use Rattle.clf_syntax.specs.TypeTree.{PlainType, family, function, both, top, monad, PlainTelescope, PlainKind}
 use Rattle.clf_syntax.specs.Simple.{Assignment, Families, erase, extended, SimplyFormedKind}
 use Rattle.hered_subst.specs.Substitution.{Environment, SubstitutedType, in_monad, SubstitutedTelescope, SubstitutedKind, in_no_argument, in_argument}
-use Rattle.subst_laws.specs.Environments.{Instantiation, instant}
+use Rattle.subst_laws.specs.Environments.{Instantiation}
 use Rattle.store_laws.specs.Additions.{Addition, given}
 use Rattle.store_laws.specs.PutIn.{PutIn, IsClosed}
 use Rattle.clf_sig.specs.Entry.{PlainClass, family_of, constant_of}
@@ -33,7 +33,8 @@ module _ (zs : List Addition) where
 
   pub kind_becomes : {as_ bs : List PlainType} → Each (TypeBecomes zs) as_ bs → KindBecomes zs as_ bs
   kind_becomes none s p c = in_no_argument
-  kind_becomes (next {xs = as_} {ys = bs} h hs) s p c = in_argument (h s p c) (subst (λ (z : Environment). SubstitutedKind z as_ bs) (sym (under-closed s c 1)) (kind_becomes hs s p c))
+  kind_becomes (next {xs = as_} {ys = bs} h hs) s p c = in_argument (h s p c)
+      (subst (λ (z : Environment). SubstitutedKind z as_ bs) (sym (under-closed s c 1)) (kind_becomes hs s p c))
 
   pub each_becomes : (s : Instantiation) → PutIn (given zs) s → IsClosed s → {as_ bs : List PlainType} → Each (TypeBecomes zs) as_ bs → EachBecomes s as_ bs
   each_becomes s p c none = tt
@@ -77,7 +78,10 @@ module _ (zs : List Addition) (arguments : Families) where
 
   kind_formed_in : (g : Assignment) → TypesStore g zs → (k : PlainKind) → SimplyFormedKind arguments g k → EachIsFormedIn zs k
   kind_formed_in g w [] p = tt
-  kind_formed_in g w (a ∷ k) p = (record { arguments = arguments; assignment = g; store = w; formed = p.0 }, kind_formed_in (extended (erase a) g) (types-extended (erase a) g zs w) k p.1)
+  kind_formed_in g w (a ∷ k) p = (
+    record { arguments = arguments; assignment = g; store = w; formed = p.0 },
+    kind_formed_in (extended (erase a) g) (types-extended (erase a) g zs w) k p.1,
+  )
 
   class_formed_in : (g : Assignment) → TypesStore g zs → (c : PlainClass) → ClassIsFormed arguments g c → ClassIsFormedIn zs c
   class_formed_in g w (family_of k) p = kind_formed_in g w k p
@@ -92,4 +96,7 @@ module _ (zs : List Addition) (arguments : Families) where
     record { assignment = g; type = erase a; store = w; typed = p.1 },
     record { assignment = g; type = erase a; store = w; typed = p.2 },
   )
-  core_formed_in g w (checks n a) p = (record { arguments = arguments; assignment = g; store = w; formed = p.0 }, record { assignment = g; type = erase a; store = w; typed = p.1 })
+  core_formed_in g w (checks n a) p = (
+    record { arguments = arguments; assignment = g; store = w; formed = p.0 },
+    record { assignment = g; type = erase a; store = w; typed = p.1 },
+  )

@@ -21,7 +21,10 @@ later false u x e = e
 
 -- Where a solution was added, one is given.
 is_given : (before after : List Addition) (m : ℕ) (o : PlainObject) → given (before ++ solved m o ∷ after) m ≡ None → ⊥
-is_given [] after m o e = let same : nat_eq m m ≡ true = grind arith in let there : (if nat_eq m m then Some o else given after m) ≡ Some o = rw same in absurd (cc)
+is_given [] after m o e =
+    let same : nat_eq m m ≡ true = grind arith in
+    let there : (if nat_eq m m then Some o else given after m) ≡ Some o = rw same in
+    absurd (cc)
 is_given (new t ∷ before) after m o e = is_given before after m o e
 is_given (solved k u ∷ before) after m o e = is_given before after m o (later (nat_eq m k) u _ e)
 

@@ -20,7 +20,8 @@ use Rattle.celf_solve.specs.Scenes.{constants_in, metas_in, tree_of, types_of, I
 
 -- Of a scene whose tree gathers these equations.
 pub record AnswersGathered (sig : PlainSignature) (s : Scene) (q : List Equation) : Type 0 where
-  pub found : (f : Found) → IsSettled s q f → Comes sig (types_of s) (metas_in s) (tree_of s) (problem_of (additions f.store) q) (plain_core f.core) (map plain_ty f.types)
+  pub found : (f : Found) → IsSettled s q f
+      → Comes sig (types_of s) (metas_in s) (tree_of s) (problem_of (additions f.store) q) (plain_core f.core) (map plain_ty f.types)
   pub stuck : (left : List Equation) (h : AreLeft s q left) → Sticks sig (types_of s) (metas_in s) (tree_of s) h.now left
   pub clash : (now : Problem) (under : ℕ) (left right : PlainObject) → Clashed (constants_in s) (start_of s q) now under left right
       → Clashes sig (types_of s) (metas_in s) (tree_of s) now under left right
@@ -37,6 +38,8 @@ pub record IsFormedAfter (arguments : Families) (constants : Types) (types : Lis
 
 -- What is simply formed stays so with all solutions put in.
 abbrev pub SettledIsFormed : Type 0
-SettledIsFormed = (arguments : Families) (constants metas : Types) (q : List Equation) (tree : PlainCore) (types : List PlainType) (now : Problem) (core : PlainCore) (after : List PlainType)
-    → Settles constants metas q tree types now core after → CoreIsFormed arguments (closed constants metas) tree → EachIsFormed arguments (closed constants metas) types
+SettledIsFormed = (arguments : Families) (constants metas : Types) (q : List Equation) (tree : PlainCore) (types : List PlainType)
+    (now : Problem) (core : PlainCore) (after : List PlainType)
+    → Settles constants metas q tree types now core after → CoreIsFormed arguments (closed constants metas) tree
+    → EachIsFormed arguments (closed constants metas) types
     → IsFormedAfter arguments constants types now core after

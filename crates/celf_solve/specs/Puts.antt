@@ -1,4 +1,4 @@
--- Inner: what becomes of trees with all solutions of a store put in, and when they are typed in a store.
+-- What becomes of trees with all solutions of a store put in, and when they are typed in a store.
 use Rattle.std.specs.Prelude.{◌≡◌, List, [], ◌∷◌, map}
 use Rattle.clf_syntax.specs.declared.tree.Ty.{Ty}
 use Rattle.clf_syntax.specs.PlainTypes.{plain_ty}
@@ -16,7 +16,12 @@ use Rattle.metavars.specs.Becoming.{Each}
 use Rattle.metavars.specs.Stored.{Stored, additions}
 use Rattle.metavars.specs.Typed.{TypesStore}
 use Rattle.celf_elaboration.specs.Items.{SubstitutedClass, SubstitutedCore}
+use Rattle.celf_unify.specs.declared.answer.Unified.{Unified}
+use Rattle.celf_unify.specs.declared.answer.Unified.TheVariants as unified
+use Rattle.celf_solve.specs.declared.scene.Scene.{Scene}
 use Rattle.celf_solve.specs.declared.scene.Found.{Found}
+use Rattle.celf_solve.specs.declared.scene.Solved.{Solved}
+use Rattle.celf_solve.specs.declared.scene.Solved.TheVariants as solved
 
 -- All solutions can be put in.
 pub record HasPutIn (zs : List Addition) : Type 0 where
@@ -76,3 +81,21 @@ pub record IsPutInto (core : Core) (types : List Ty) (store : Stored) (f : Found
   pub same : f.store ≡ store
   pub tree : CoreBecomes (additions store) (plain_core core) (plain_core f.core)
   pub each : Each (TypeBecomes (additions store)) (map plain_ty types) (map plain_ty f.types)
+
+-- All solutions can be put in, and the tree and the types are formed in the store.
+pub record CanPutIn (s : Scene) : Type 0 where
+  pub solved : HasPutIn (additions s.store)
+  pub tree : CoreIsFormedIn (additions s.store) (plain_core s.core)
+  pub each : EachIsFormedIn (additions s.store) (map plain_ty s.types)
+
+-- what is answered where unification answered this
+abbrev pub IsEnd : Scene → Unified → Solved → Type 0
+IsEnd s unified.Solved (solved.Found f) = IsPutInto s.core s.types s.store f
+IsEnd s (unified.Stuck left) (solved.Stuck ls) = ls ≡ left
+IsEnd s (unified.Clash c) (solved.Clash d) = d ≡ c
+IsEnd s unified.Solved (solved.Stuck ls) = ⊥
+IsEnd s unified.Solved (solved.Clash d) = ⊥
+IsEnd s (unified.Stuck left) (solved.Found f) = ⊥
+IsEnd s (unified.Stuck left) (solved.Clash d) = ⊥
+IsEnd s (unified.Clash c) (solved.Found f) = ⊥
+IsEnd s (unified.Clash c) (solved.Stuck ls) = ⊥

@@ -33,6 +33,7 @@ pub fn pose(alloc: Global, sig: &Signature, scene: &Scene) -> Result<Posed, Want
 
 /// What is wrong with a tree of which nothing is gathered. What conforms to simple types is gathered, so there is
 /// something.
+#[tactic(auto, using(crate::proofs::Gathered::is_over, crate::proofs::Gathered::some_misfit))]
 fn misfit(alloc: Global, sig: &Signature, scene: &Scene) -> Result<Misfit, AllocError>
     requires formed { WellFormedSignature (plain_signature sig.now) }
     requires scene { IsScene (plain_signature sig.now) scene.now }

@@ -8,9 +8,22 @@ ghost use Rattle.clf_sig.specs.Core.{plain_core};
 ghost use Rattle.clf_sig.specs.Signature.{plain_class};
 ghost use Rattle.metavars.specs.Becoming.{Each};
 ghost use Rattle.metavars.specs.Stored.{additions};
-ghost use Rattle.celf_solve.specs.Puts.{ClassBecomes, ClassIsFormedIn, CoreBecomes, CoreIsFormedIn,
-    EachIsFormedIn, HasPutIn, IsFormedIn, IsPutInto, IsTypedIn, KindBecomes, ObjectBecomes, TelescopeBecomes,
-    TypeBecomes};
+ghost use Rattle.celf_solve.specs.Puts.{
+  CanPutIn,
+  ClassBecomes,
+  ClassIsFormedIn,
+  CoreBecomes,
+  CoreIsFormedIn,
+  EachIsFormedIn,
+  HasPutIn,
+  IsFormedIn,
+  IsPutInto,
+  IsTypedIn,
+  KindBecomes,
+  ObjectBecomes,
+  TelescopeBecomes,
+  TypeBecomes,
+};
 
 use crate::scene::Found;
 use clf_sig::{Class, Core, Entry};
@@ -19,7 +32,7 @@ use metavars::Store;
 use sqlite_items::Items;
 use std::alloc::Global;
 
-/// The tree and the types with all solutions put in.
+/// A tree and types with all solutions of a store put in. The store stays.
 pub fn put_in(alloc: Global, core: Core, types: Items<Ty>, store: Store) -> Result<Found, Want>
     requires solved { HasPutIn (additions store) }
     requires tree { CoreIsFormedIn (additions store) (plain_core core) }
@@ -27,9 +40,41 @@ pub fn put_in(alloc: Global, core: Core, types: Items<Ty>, store: Store) -> Resu
     ensures found { IfOk result (IsPutInto core types store) }
     ensures wanting { IfErr result IsWant }
 {
-    let core = core_in(alloc, &store, core)?;
-    let types = types_in(alloc, &store, types.as_slice())?;
-    Ok(Found { core, types, store })
+    match core_in(alloc, &store, core) {
+        Ok(core) => with_types(alloc, core, types, store),
+        Err(want) => {
+            drop(types);
+            drop(store);
+            Err(want)
+        }
+    }
+}
+
+/// What is found, with the types after all solutions are put in.
+fn with_types(alloc: Global, core: Core, types: Items<Ty>, store: Store) -> Result<Found, Want>
+    requires formed { EachIsFormedIn (additions store) (map plain_ty types) }
+    ensures core { IfOk result (λ f. f.core ≡ core) }
+    ensures store { IfOk result (λ f. f.store ≡ store) }
+    ensures types { IfOk result (λ f.
+        Each (TypeBecomes (additions store)) (map plain_ty types) (map plain_ty f.types)) }
+    ensures wanting { IfErr result IsWant }
+{
+    match types_in(alloc, &store, types.as_slice()) {
+        Ok(after) => {
+            drop(types);
+            Ok(Found {
+                core,
+                types: after,
+                store,
+            })
+        }
+        Err(want) => {
+            drop(core);
+            drop(types);
+            drop(store);
+            Err(want)
+        }
+    }
 }
 
 /// Types one by one. A solution has no free variable, so each may stand under the binders of those before it.

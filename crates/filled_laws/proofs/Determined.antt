@@ -97,7 +97,8 @@ module _ (sig : PlainSignature) where
 
   -- ---- scopes
 
-  pattern_over : (ps : List (Mode × SimpleType)) (bs : List PBinder) (b : Binders) → EntriesOver sig ps → LocalsOver sig b.locals → LocalsOver sig (bind_pattern ps bs b).locals
+  pattern_over : (ps : List (Mode × SimpleType)) (bs : List PBinder) (b : Binders) → EntriesOver sig ps → LocalsOver sig b.locals
+      → LocalsOver sig (bind_pattern ps bs b).locals
   pattern_over ps [] b h k = k
   pattern_over ps (p ∷ bs) b h k = let (x, y) = next_over sig ps h in
       pattern_over (next_part ps).later bs (bind (marked p.mode (next_part ps).mode) (p.name, (next_part ps).place) b) y (x, k)
@@ -129,7 +130,8 @@ module _ (sig : PlainSignature) where
         here : (b : Bool) → IsOver sig (if b then constant_or sig true (constant_named sig n.name) None
             else local_or (local_from 0 n.name ls) (constant_or sig false (constant_named sig n.name) (variable_place xs n.name)))
         here true = constant_place_over true (constant_named sig n.name) None tt
-        here false = local_place_over (local_from 0 n.name ls) (constant_or sig false (constant_named sig n.name) (variable_place xs n.name)) (local_from_over sig 0 n.name ls h)
+        here false = local_place_over (local_from 0 n.name ls) (constant_or sig false (constant_named sig n.name) (variable_place xs n.name))
+            (local_from_over sig 0 n.name ls h)
             (constant_place_over false (constant_named sig n.name) (variable_place xs n.name) (variable_over xs n.name known))
 
     step_over : (s : Scope) (p : List PBinder) (h : PName) (es : DesugaredSpine) → ScopeOver s → ScopeOver (after_step sig xs s p h es)
@@ -154,20 +156,23 @@ module _ (sig : PlainSignature) where
 
     mutual
       object_over : (s : Scope) (t : Place) (o : DesugaredObject) → ScopeOver s → IsOver sig t → OccurrencesOver (in_object sig xs s t o)
-      object_over s t (lam p m n b) h k = object_over (under (marked m (function_parts t).mode) (n, (function_parts t).domain) s) (function_parts t).codomain b (domain_over sig t k, h) (codomain_over sig t k)
+      object_over s t (lam p m n b) h k = object_over (under (marked m (function_parts t).mode) (n, (function_parts t).domain) s)
+          (function_parts t).codomain b (domain_over sig t k, h) (codomain_over sig t k)
       object_over s t (pair p l r) h k = both_over (in_object sig xs s (pair_parts t).left l) (in_object sig xs s (pair_parts t).right r)
           (object_over s (pair_parts t).left l h (left_over sig t k)) (object_over s (pair_parts t).right r h (right_over sig t k))
       object_over s t (unit p) h k = tt
       object_over s t (monadic p ss u) h k = both_over (in_steps sig xs s ss) (in_tuple sig xs (after_steps sig xs s ss) (entries_at t) u)
           (in_steps_over s ss h) (tuple_over (after_steps sig xs s ss) (entries_at t) u (steps_over s ss h) (entries_over sig t k))
-      object_over s t (atomic p n es) h k = both_over (at_head sig xs s (distinct_locals s.binders es) t n) (in_spine sig xs (inside sig xs s n) (head_place sig xs s.binders.locals n) es)
+      object_over s t (atomic p n es) h k = both_over (at_head sig xs s (distinct_locals s.binders es) t n)
+          (in_spine sig xs (inside sig xs s n) (head_place sig xs s.binders.locals n) es)
           (here_over s (distinct_locals s.binders es) t n (distinct_over (locals_applied_to s.binders es) (applied_over s.binders es h)) k)
           (acts_over (inside sig xs s n) (head_place sig xs s.binders.locals n) es h (head_over s.binders.locals n h))
       object_over s t (hole p) h k = tt
 
       acts_over : (s : Scope) (t : Place) (es : DesugaredSpine) → ScopeOver s → IsOver sig t → OccurrencesOver (in_spine sig xs s t es)
       acts_over s t end_of_spine h k = tt
-      acts_over s t (and_then a es) h k = both_over (in_act sig xs s t a) (in_spine sig xs s (behind_act t a) es) (one_act_over s t a h k) (acts_over s (behind_act t a) es h (behind_over t a k))
+      acts_over s t (and_then a es) h k = both_over (in_act sig xs s t a) (in_spine sig xs s (behind_act t a) es) (one_act_over s t a h k)
+          (acts_over s (behind_act t a) es h (behind_over t a k))
 
       one_act_over : (s : Scope) (t : Place) (a : DesugaredAct) → ScopeOver s → IsOver sig t → OccurrencesOver (in_act sig xs s t a)
       one_act_over s t (argument m o) h k = object_over s (function_parts t).domain o h (domain_over sig t k)
@@ -177,20 +182,25 @@ module _ (sig : PlainSignature) where
       in_steps_over : (s : Scope) (ss : DesugaredSteps) → ScopeOver s → OccurrencesOver (in_steps sig xs s ss)
       in_steps_over s no_steps h = tt
       in_steps_over s (step p n es ss) h =
-          both_over (at_head sig xs s None None n ++ in_spine sig xs (inside sig xs s n) (head_place sig xs s.binders.locals n) es) (in_steps sig xs (after_step sig xs s p n es) ss)
+          both_over (at_head sig xs s None None n ++ in_spine sig xs (inside sig xs s n) (head_place sig xs s.binders.locals n) es)
+          (in_steps sig xs (after_step sig xs s p n es) ss)
           (both_over (at_head sig xs s None None n) (in_spine sig xs (inside sig xs s n) (head_place sig xs s.binders.locals n) es) (here_over s None None n tt tt)
           (acts_over (inside sig xs s n) (head_place sig xs s.binders.locals n) es h (head_over s.binders.locals n h)))
           (in_steps_over (after_step sig xs s p n es) ss (step_over s p n es h))
 
-      tuple_over : (s : Scope) (ps : List (Mode × SimpleType)) (u : DesugaredTuple) → ScopeOver s → EntriesOver sig ps → OccurrencesOver (in_tuple sig xs s ps u)
+      tuple_over : (s : Scope) (ps : List (Mode × SimpleType)) (u : DesugaredTuple) → ScopeOver s → EntriesOver sig ps
+          → OccurrencesOver (in_tuple sig xs s ps u)
       tuple_over s ps end_of_tuple h k = tt
       tuple_over s ps (entry m o u) h k = let (x, y) = next_over sig ps k in
-          both_over (in_object sig xs s (next_part ps).place o) (in_tuple sig xs s (next_part ps).later u) (object_over s (next_part ps).place o h x) (tuple_over s (next_part ps).later u h y)
+          both_over (in_object sig xs s (next_part ps).place o) (in_tuple sig xs s (next_part ps).later u) (object_over s (next_part ps).place o h x)
+          (tuple_over s (next_part ps).later u h y)
 
-    indices_over : (s : Scope) (ps : List (Mode × SimpleType)) (os : List DesugaredObject) → ScopeOver s → EntriesOver sig ps → OccurrencesOver (in_indices sig xs s ps os)
+    indices_over : (s : Scope) (ps : List (Mode × SimpleType)) (os : List DesugaredObject) → ScopeOver s → EntriesOver sig ps
+        → OccurrencesOver (in_indices sig xs s ps os)
     indices_over s ps [] h k = tt
     indices_over s ps (o ∷ os) h k = let (x, y) = next_over sig ps k in
-        both_over (in_object sig xs s (next_part ps).place o) (in_indices sig xs s (next_part ps).later os) (object_over s (next_part ps).place o h x) (indices_over s (next_part ps).later os h y)
+        both_over (in_object sig xs s (next_part ps).place o) (in_indices sig xs s (next_part ps).later os) (object_over s (next_part ps).place o h x)
+        (indices_over s (next_part ps).later os h y)
 
     written_over : (dollar : Bool) (f : Option ℕ) → EntriesOver sig (written_parts sig dollar f)
     written_over dollar None = tt
@@ -198,15 +208,18 @@ module _ (sig : PlainSignature) where
 
     mutual
       in_type_over : (s : Scope) (t : DesugaredType) → ScopeOver s → OccurrencesOver (in_type sig xs s t)
-      in_type_over s (family p n is) h = indices_over s (written_parts sig n.dollar (family_named sig n.name)) is h (written_over n.dollar (family_named sig n.name))
-      in_type_over s (function p m n a b) h = both_over (in_type sig xs s a) (in_type sig xs (under m (local_of sig n a) s) b) (in_type_over s a h) (in_type_over (under m (local_of sig n a) s) b (local_over sig n a, h))
+      in_type_over s (family p n is) h = indices_over s (written_parts sig n.dollar (family_named sig n.name)) is h
+          (written_over n.dollar (family_named sig n.name))
+      in_type_over s (function p m n a b) h = both_over (in_type sig xs s a) (in_type sig xs (under m (local_of sig n a) s) b) (in_type_over s a h)
+          (in_type_over (under m (local_of sig n a) s) b (local_over sig n a, h))
       in_type_over s (both p a b) h = both_over (in_type sig xs s a) (in_type sig xs s b) (in_type_over s a h) (in_type_over s b h)
       in_type_over s (top p) h = tt
       in_type_over s (monad p t) h = in_telescope_over s t h
 
       in_telescope_over : (s : Scope) (t : DesugaredTelescope) → ScopeOver s → OccurrencesOver (in_telescope sig xs s t)
       in_telescope_over s end h = tt
-      in_telescope_over s (binding m n a t) h = both_over (in_type sig xs s a) (in_telescope sig xs (under m (local_of sig n a) s) t) (in_type_over s a h) (in_telescope_over (under m (local_of sig n a) s) t (local_over sig n a, h))
+      in_telescope_over s (binding m n a t) h = both_over (in_type sig xs s a) (in_telescope sig xs (under m (local_of sig n a) s) t) (in_type_over s a h)
+          (in_telescope_over (under m (local_of sig n a) s) t (local_over sig n a, h))
 
     class_over : (c : DesugaredClass) → OccurrencesOver (in_class sig xs c)
     class_over (of_family t) = in_telescope_over outermost t tt
@@ -216,7 +229,8 @@ module _ (sig : PlainSignature) where
     occurrences_over (declare n i c) = class_over c
     occurrences_over (query d e l a t) = in_type_over outermost t tt
     occurrences_over (trace n t) = in_telescope_over outermost t tt
-    occurrences_over (equal l r t) = both_over (in_object sig xs outermost (simple_type sig t) l) (in_object sig xs outermost (simple_type sig t) r ++ in_type sig xs outermost t)
+    occurrences_over (equal l r t) = both_over (in_object sig xs outermost (simple_type sig t) l)
+        (in_object sig xs outermost (simple_type sig t) r ++ in_type sig xs outermost t)
         (object_over outermost (simple_type sig t) l tt (type_over sig t))
         (both_over (in_object sig xs outermost (simple_type sig t) r) (in_type sig xs outermost t) (object_over outermost (simple_type sig t) r tt (type_over sig t)) (in_type_over outermost t tt))
     occurrences_over (check o t) = both_over (in_object sig xs outermost (simple_type sig t) o) (in_type sig xs outermost t)

@@ -33,7 +33,8 @@ module _ (sig : PlainSignature) where
     in_type g top p = tt
     in_type g (monad s) p = in_telescope g s p
 
-    in_telescope : (g : Assignment) (s : PlainTelescope) → SimplyFormedTelescope (families_of sig) g s → EachHasIndices (families_of sig) (indices_of sig) (erase_telescope s)
+    in_telescope : (g : Assignment) (s : PlainTelescope) → SimplyFormedTelescope (families_of sig) g s
+        → EachHasIndices (families_of sig) (indices_of sig) (erase_telescope s)
     in_telescope g end p = tt
     in_telescope g (binding m a s) p = (in_type g a p.0, in_telescope (extended (erase a) g) s p.1)
 

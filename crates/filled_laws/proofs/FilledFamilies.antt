@@ -56,13 +56,15 @@ module _ (sig : PlainSignature) where
 
   types_have : (fs : Fillings) → FillingsOver fs → All (HasFamilies sig) (types_of_new fs)
   types_have [] h = All-nil (HasFamilies sig)
-  types_have (f ∷ fs) h = All-append (HasFamilies sig) (new_types (scope_of f.locals) f.type) (types_of_new fs) (new_at sig f.locals f.type h.0.0 h.0.1) (types_have fs h.1)
+  types_have (f ∷ fs) h = All-append (HasFamilies sig) (new_types (scope_of f.locals) f.type) (types_of_new fs) (new_at sig f.locals f.type h.0.0 h.0.1)
+      (types_have fs h.1)
 
   known_over : (ls : List Scoped) (l : Locals) → KnownLocals ls l → ScopedOver ls → LocalsHave sig l
   known_over [] l p h = subst (LocalsHave sig) (sym p) tt
   known_over (x ∷ ls) l p h = let (t, k, e, f, q) = p in subst (LocalsHave sig) (sym f) (subst (IsOver sig) e h.0, known_over ls k q h.1)
 
-  pattern_over : (ps : List (Mode × SimpleType)) (bs : List PBinder) (ls : List Scoped) → EntriesOver sig ps → ScopedOver ls → ScopedOver (with_pattern ls ps bs)
+  pattern_over : (ps : List (Mode × SimpleType)) (bs : List PBinder) (ls : List Scoped) → EntriesOver sig ps → ScopedOver ls
+      → ScopedOver (with_pattern ls ps bs)
   pattern_over ps [] ls h k = k
   pattern_over ps (b ∷ bs) ls h k = let (x, y) = next_over sig ps h in
       pattern_over (next_part ps).later bs (record { mode = marked b.mode (next_part ps).mode; name = b.name; place = (next_part ps).place } ∷ ls) y (x, k)
@@ -90,7 +92,8 @@ module _ (sig : PlainSignature) where
     as_implicit x name [] h = tt
     as_implicit x name (v ∷ ws) h = here (same_bytes name v.name) (as_implicit (x + 1) name ws (All-tail (λ v. HasFamilies sig v.type) v ws h))
       where
-        here : (b : Bool) → MeaningOver (implicit_from heads (x + 1) name ws) → MeaningOver (if b then Some (record { head = heads x; place = Some v.type; implicit = 0 }) else implicit_from heads (x + 1) name ws)
+        here : (b : Bool) → MeaningOver (implicit_from heads (x + 1) name ws)
+            → MeaningOver (if b then Some (record { head = heads x; place = Some v.type; implicit = 0 }) else implicit_from heads (x + 1) name ws)
         here true k = All-head (λ v. HasFamilies sig v.type) v ws h
         here false k = k
 
@@ -98,56 +101,72 @@ module _ (sig : PlainSignature) where
     meaning_over ls n h = here n.dollar
       where
         here : (b : Bool) → MeaningOver (if b then option_map (constant_meaning sig true) (constant_named sig n.name)
-            else option_or (option_map all_arguments (local_from 0 n.name (map as_local ls))) (option_or (option_map (constant_meaning sig false) (constant_named sig n.name)) (implicit_from heads 0 n.name vs)))
+            else option_or (option_map all_arguments (local_from 0 n.name (map as_local ls)))
+            (option_or (option_map (constant_meaning sig false) (constant_named sig n.name)) (implicit_from heads 0 n.name vs)))
         here true = as_constant true (constant_named sig n.name)
-        here false = one_of (option_map all_arguments (local_from 0 n.name (map as_local ls))) (option_or (option_map (constant_meaning sig false) (constant_named sig n.name)) (implicit_from heads 0 n.name vs))
+        here false = one_of (option_map all_arguments (local_from 0 n.name (map as_local ls)))
+            (option_or (option_map (constant_meaning sig false) (constant_named sig n.name)) (implicit_from heads 0 n.name vs))
             (as_head (local_from 0 n.name (map as_local ls)) (local_from_over sig 0 n.name (map as_local ls) (local_places ls h)))
             (one_of (option_map (constant_meaning sig false) (constant_named sig n.name)) (implicit_from heads 0 n.name vs) (as_constant false (constant_named sig n.name)) (as_implicit 0 n.name vs have))
 
     -- ---- readings
 
-    implicit_over : {ls : List Scoped} {i : ℕ} {r x : PlainNeutral} {p u : Place} {fs : Fillings} → ReadsImplicit sig heads vs ls i r p fs x u → ScopedOver ls → IsOver sig p → FillingsOver fs × IsOver sig u
+    implicit_over : {ls : List Scoped} {i : ℕ} {r x : PlainNeutral} {p u : Place} {fs : Fillings} → ReadsImplicit sig heads vs ls i r p fs x u
+        → ScopedOver ls → IsOver sig p → FillingsOver fs × IsOver sig u
     implicit_over implicit_none h k = (tt, k)
     implicit_over {ls = ls} (implicit_next {l = l} known p) h k = let (x, y) = implicit_over p h k.1 in (((known_over ls l known h, k.0), x), y)
 
-    head_over : {ls : List Scoped} {n : PName} {fs : Fillings} {r : PlainNeutral} {p : Place} → ReadsHead sig heads vs ls n fs r p → ScopedOver ls → FillingsOver fs × IsOver sig p
+    head_over : {ls : List Scoped} {n : PName} {fs : Fillings} {r : PlainNeutral} {p : Place} → ReadsHead sig heads vs ls n fs r p → ScopedOver ls
+        → FillingsOver fs × IsOver sig p
     head_over {ls = ls} {n = n} (reads_head e p) h = implicit_over p h (subst MeaningOver e (meaning_over ls n h))
 
     mutual
-      object_over : {ls : List Scoped} {t : Place} {o : DesugaredObject} {fs : Fillings} {n : PlainObject} → ReadsObject sig heads vs ls t o fs n → ScopedOver ls → IsOver sig t → FillingsOver fs
+      object_over : {ls : List Scoped} {t : Place} {o : DesugaredObject} {fs : Fillings} {n : PlainObject} → ReadsObject sig heads vs ls t o fs n
+          → ScopedOver ls → IsOver sig t → FillingsOver fs
       object_over (reads_lam {t = t} p) h k = object_over p (domain_over sig t k, h) (codomain_over sig t k)
-      object_over (reads_pair {t = t} {fs = fs} {gs = gs} {hs = hs} p q e) h k = both_over fs gs hs e (object_over p h (left_over sig t k)) (object_over q h (right_over sig t k))
+      object_over (reads_pair {t = t} {fs = fs} {gs = gs} {hs = hs} p q e) h k = both_over fs gs hs e (object_over p h (left_over sig t k))
+          (object_over q h (right_over sig t k))
       object_over reads_unit h k = tt
-      object_over (reads_monadic {t = t} {fs = fs} {gs = gs} {hs = hs} p q e) h k = let (x, y) = steps_over p h in both_over fs gs hs e x (tuple_over q y (entries_over sig t k))
+      object_over (reads_monadic {t = t} {fs = fs} {gs = gs} {hs = hs} p q e) h k = let (x, y) = steps_over p h in
+          both_over fs gs hs e x (tuple_over q y (entries_over sig t k))
       object_over (reads_atomic {fs = fs} {gs = gs} {hs = hs} b p q e) h k = let (x, y) = head_over p h in both_over fs gs hs e x (spine_over q h y).0
       object_over (reads_dropped b) h k = tt
       object_over {ls = ls} (reads_hole {l = l} known) h k = ((known_over ls l known h, k), tt)
 
-      spine_over : {ls : List Scoped} {r x : PlainNeutral} {p u : Place} {es : DesugaredSpine} {fs : Fillings} → ReadsSpine sig heads vs ls r p es fs x u → ScopedOver ls → IsOver sig p → FillingsOver fs × IsOver sig u
+      spine_over : {ls : List Scoped} {r x : PlainNeutral} {p u : Place} {es : DesugaredSpine} {fs : Fillings} → ReadsSpine sig heads vs ls r p es fs x u
+          → ScopedOver ls → IsOver sig p → FillingsOver fs × IsOver sig u
       spine_over spine_end h k = (tt, k)
-      spine_over (spine_argument {p = p} {fs = fs} {gs = gs} {hs = hs} r q e) h k = let (x, y) = spine_over q h (codomain_over sig p k) in (both_over fs gs hs e (object_over r h (domain_over sig p k)) x, y)
+      spine_over (spine_argument {p = p} {fs = fs} {gs = gs} {hs = hs} r q e) h k = let (x, y) = spine_over q h (codomain_over sig p k) in
+          (both_over fs gs hs e (object_over r h (domain_over sig p k)) x, y)
       spine_over (spine_first {p = p} q) h k = spine_over q h (left_over sig p k)
       spine_over (spine_second {p = p} q) h k = spine_over q h (right_over sig p k)
 
-      steps_over : {ls ks : List Scoped} {ss : DesugaredSteps} {fs : Fillings} {xs : List (List Mode × PlainNeutral)} → ReadsSteps sig heads vs ls ss fs xs ks → ScopedOver ls → FillingsOver fs × ScopedOver ks
+      steps_over : {ls ks : List Scoped} {ss : DesugaredSteps} {fs : Fillings} {xs : List (List Mode × PlainNeutral)}
+          → ReadsSteps sig heads vs ls ss fs xs ks → ScopedOver ls → FillingsOver fs × ScopedOver ks
       steps_over steps_none h = (tt, h)
       steps_over {ls = ls} (steps_next {u = u} {b = b} {fs = fs} {gs = gs} {ks' = ks'} {hs = hs} p q r e) h =
           let (x1, y1) = head_over p h in let (x2, y2) = spine_over q h y1 in
           let (x3, y3) = steps_over r (pattern_over (entries_at u) b ls (entries_over sig u y2) h) in
           (both_over (fs ++ gs) ks' hs e (both_over fs gs (fs ++ gs) refl x1 x2) x3, y3)
 
-      tuple_over : {ls : List Scoped} {ps : List (Mode × SimpleType)} {u : DesugaredTuple} {fs : Fillings} {es : List (Mode × PlainObject)} → ReadsTuple sig heads vs ls ps u fs es → ScopedOver ls → EntriesOver sig ps → FillingsOver fs
+      tuple_over : {ls : List Scoped} {ps : List (Mode × SimpleType)} {u : DesugaredTuple} {fs : Fillings} {es : List (Mode × PlainObject)}
+          → ReadsTuple sig heads vs ls ps u fs es → ScopedOver ls → EntriesOver sig ps → FillingsOver fs
       tuple_over tuple_end h k = tt
-      tuple_over (tuple_entry {ps = ps} {fs = fs} {gs = gs} {hs = hs} p q e) h k = let (x, y) = next_over sig ps k in both_over fs gs hs e (object_over p h x) (tuple_over q h y)
+      tuple_over (tuple_entry {ps = ps} {fs = fs} {gs = gs} {hs = hs} p q e) h k = let (x, y) = next_over sig ps k in
+          both_over fs gs hs e (object_over p h x) (tuple_over q h y)
 
-    filled_over : {ls : List Scoped} {i : ℕ} {ts us : List SimpleType} {fs : Fillings} {ns : List PlainObject} → ReadsFilled sig heads vs ls i ts fs ns us → ScopedOver ls → All (HasFamilies sig) ts
+    filled_over : {ls : List Scoped} {i : ℕ} {ts us : List SimpleType} {fs : Fillings} {ns : List PlainObject} → ReadsFilled sig heads vs ls i ts fs ns us
+        → ScopedOver ls → All (HasFamilies sig) ts
         → FillingsOver fs × All (HasFamilies sig) us
     filled_over filled_none h k = (tt, k)
-    filled_over {ls = ls} (filled_next {t = t} {ts = ts} {l = l} known p) h k = let (x, y) = filled_over p h (All-tail (HasFamilies sig) t ts k) in (((known_over ls l known h, All-head (HasFamilies sig) t ts k), x), y)
+    filled_over {ls = ls} (filled_next {t = t} {ts = ts} {l = l} known p) h k = let (x, y) = filled_over p h (All-tail (HasFamilies sig) t ts k) in
+        (((known_over ls l known h, All-head (HasFamilies sig) t ts k), x), y)
 
-    indices_over : {ls : List Scoped} {ts : List SimpleType} {os : List DesugaredObject} {fs : Fillings} {ns : List PlainObject} → ReadsIndices sig heads vs ls ts os fs ns → ScopedOver ls → All (HasFamilies sig) ts → FillingsOver fs
+    indices_over : {ls : List Scoped} {ts : List SimpleType} {os : List DesugaredObject} {fs : Fillings} {ns : List PlainObject}
+        → ReadsIndices sig heads vs ls ts os fs ns → ScopedOver ls → All (HasFamilies sig) ts → FillingsOver fs
     indices_over indices_none h k = tt
-    indices_over (indices_next {t = t} {ts = ts} {fs = fs} {gs = gs} {hs = hs} p q e) h k = both_over fs gs hs e (object_over p h (All-head (HasFamilies sig) t ts k)) (indices_over q h (All-tail (HasFamilies sig) t ts k))
+    indices_over (indices_next {t = t} {ts = ts} {fs = fs} {gs = gs} {hs = hs} p q e) h k = both_over fs gs hs e
+        (object_over p h (All-head (HasFamilies sig) t ts k)) (indices_over q h (All-tail (HasFamilies sig) t ts k))
     indices_over (indices_beyond {fs = fs} {gs = gs} {hs = hs} p q e) h k = both_over fs gs hs e (object_over p h tt) (indices_over q h k)
 
     kind_have : (f : ℕ) (k : PlainKind) → family_kind sig f ≡ Some k → All (HasFamilies sig) (map erase k)
@@ -160,18 +179,22 @@ module _ (sig : PlainSignature) where
         the_types e = cc
 
     mutual
-      type_over : {ls : List Scoped} {t : DesugaredType} {fs : Fillings} {a : PlainType} → ReadsType sig heads vs ls t fs a → ScopedOver ls → FillingsOver fs × HasFamilies sig (erase a)
+      type_over : {ls : List Scoped} {t : DesugaredType} {fs : Fillings} {a : PlainType} → ReadsType sig heads vs ls t fs a → ScopedOver ls
+          → FillingsOver fs × HasFamilies sig (erase a)
       type_over (reads_family {f = f} {k = k} {fs = fs} {gs = gs} {hs = hs} i j p q e) h = let (x, y) = filled_over p h (kind_have f k j) in
           (both_over fs gs hs e x (indices_over q h y), has_indices sig f (map erase k) (ap (option_map (map erase)) j))
-      type_over (reads_function {fs = fs} {gs = gs} {hs = hs} p q e) h = let (x1, y1) = type_over p h in let (x2, y2) = type_over q (y1, h) in (both_over fs gs hs e x1 x2, (y1, y2))
-      type_over (reads_both {fs = fs} {gs = gs} {hs = hs} p q e) h = let (x1, y1) = type_over p h in let (x2, y2) = type_over q h in (both_over fs gs hs e x1 x2, (y1, y2))
+      type_over (reads_function {fs = fs} {gs = gs} {hs = hs} p q e) h = let (x1, y1) = type_over p h in let (x2, y2) = type_over q (y1, h) in
+          (both_over fs gs hs e x1 x2, (y1, y2))
+      type_over (reads_both {fs = fs} {gs = gs} {hs = hs} p q e) h = let (x1, y1) = type_over p h in let (x2, y2) = type_over q h in
+          (both_over fs gs hs e x1 x2, (y1, y2))
       type_over reads_top h = (tt, tt)
       type_over (reads_monad p) h = telescope_over p h
 
       telescope_over : {ls : List Scoped} {t : DesugaredTelescope} {fs : Fillings} {s : PlainTelescope} → ReadsTelescope sig heads vs ls t fs s → ScopedOver ls
           → FillingsOver fs × EachHasIndices (families_of sig) (indices_of sig) (erase_telescope s)
       telescope_over reads_end h = (tt, tt)
-      telescope_over (reads_binding {fs = fs} {gs = gs} {hs = hs} p q e) h = let (x1, y1) = type_over p h in let (x2, y2) = telescope_over q (y1, h) in (both_over fs gs hs e x1 x2, (y1, y2))
+      telescope_over (reads_binding {fs = fs} {gs = gs} {hs = hs} p q e) h = let (x1, y1) = type_over p h in let (x2, y2) = telescope_over q (y1, h) in
+          (both_over fs gs hs e x1 x2, (y1, y2))
 
     body_over : {body : DesugaredBody} {fs : Fillings} {c : PlainCore} → ReadsBody sig heads vs body fs c → FillingsOver fs
     body_over (reads_family_declaration p) = (telescope_over p tt).0

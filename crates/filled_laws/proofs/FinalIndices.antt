@@ -27,7 +27,8 @@ module _ (indices : ℕ → List SimpleType) where
 
     in_telescope : (ls : Locals) (s : SimpleTelescope) → All HasFinalResult (new_in_telescope indices ls s)
     in_telescope ls simple_end = All-nil HasFinalResult
-    in_telescope ls (simple_binding m t s) = All-append HasFinalResult (new_in indices ls t) (new_in_telescope indices ((m, t) ∷ ls) s) (in_type ls t) (in_telescope ((m, t) ∷ ls) s)
+    in_telescope ls (simple_binding m t s) = All-append HasFinalResult (new_in indices ls t) (new_in_telescope indices ((m, t) ∷ ls) s) (in_type ls t)
+        (in_telescope ((m, t) ∷ ls) s)
 
   in_each : (ts : List SimpleType) → All HasFinalResult (new_in_each indices ts)
   in_each [] = All-nil HasFinalResult

@@ -31,7 +31,8 @@ the_type : {a b : PlainType} → Some a ≡ Some b → a ≡ b
 the_type e = cc
 
 module _ (sig : PlainSignature) (xs : List PlainType) (metas : Types) where
-  one_read : (k : ℕ) (t : SimpleType) → HasFamilies sig t → TypesFrom metas k (new_in (indices_of sig) [] t) → ReadType sig xs metas (typed_from (indices_of sig) k [] t)
+  one_read : (k : ℕ) (t : SimpleType) → HasFamilies sig t → TypesFrom metas k (new_in (indices_of sig) [] t)
+      → ReadType sig xs metas (typed_from (indices_of sig) k [] t)
   one_read k t h n = record { formed = formed; closed_type = formed_type_has_no_variables (families_of sig) (item_constants sig xs) metas (typed_from (indices_of sig) k [] t) formed }
     where
       formed : SimplyFormed (families_of sig) (closed (item_constants sig xs) metas) (typed_from (indices_of sig) k [] t)

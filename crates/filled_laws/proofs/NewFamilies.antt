@@ -59,7 +59,8 @@ module _ (sig : PlainSignature) where
 
   of_each : (s : Scope) (ts : List SimpleType) → ScopeOver s → All (HasFamilies sig) ts → All (HasFamilies sig) (new_of_each s ts)
   of_each s [] h k = All-nil (HasFamilies sig)
-  of_each s (t ∷ ts) h k = All-append (HasFamilies sig) (new_types s t) (new_of_each s ts) (new_over s t h (All-head (HasFamilies sig) t ts k)) (of_each s ts h (All-tail (HasFamilies sig) t ts k))
+  of_each s (t ∷ ts) h k = All-append (HasFamilies sig) (new_types s t) (new_of_each s ts) (new_over s t h (All-head (HasFamilies sig) t ts k))
+      (of_each s ts h (All-tail (HasFamilies sig) t ts k))
 
   types_over : (es : List (Mode × SimpleType)) → EntriesOver sig es → All (HasFamilies sig) (map type_of_entry es)
   types_over [] h = All-nil (HasFamilies sig)
@@ -72,18 +73,23 @@ module _ (sig : PlainSignature) where
     mutual
       in_type : (ls : Locals) (t : SimpleType) → LocalsHave ls → HasFamilies sig t → All (HasFamilies sig) (new_in (indices_of sig) ls t)
       in_type ls (base f) h k = of_each (scope_of ls) (indices_of sig f) (scope_over ls h) (indices_have f)
-      in_type ls (arrow m d c) h k = All-append (HasFamilies sig) (new_in (indices_of sig) ls d) (new_in (indices_of sig) ((m, d) ∷ ls) c) (in_type ls d h k.0) (in_type ((m, d) ∷ ls) c (k.0, h) k.1)
-      in_type ls (simple_with c d) h k = All-append (HasFamilies sig) (new_in (indices_of sig) ls c) (new_in (indices_of sig) ls d) (in_type ls c h k.0) (in_type ls d h k.1)
+      in_type ls (arrow m d c) h k = All-append (HasFamilies sig) (new_in (indices_of sig) ls d) (new_in (indices_of sig) ((m, d) ∷ ls) c)
+          (in_type ls d h k.0) (in_type ((m, d) ∷ ls) c (k.0, h) k.1)
+      in_type ls (simple_with c d) h k = All-append (HasFamilies sig) (new_in (indices_of sig) ls c) (new_in (indices_of sig) ls d) (in_type ls c h k.0)
+          (in_type ls d h k.1)
       in_type ls simple_top h k = All-nil (HasFamilies sig)
       in_type ls (lax s) h k = in_telescope ls s h k
 
-      in_telescope : (ls : Locals) (s : SimpleTelescope) → LocalsHave ls → EachHasIndices (families_of sig) (indices_of sig) s → All (HasFamilies sig) (new_in_telescope (indices_of sig) ls s)
+      in_telescope : (ls : Locals) (s : SimpleTelescope) → LocalsHave ls → EachHasIndices (families_of sig) (indices_of sig) s
+          → All (HasFamilies sig) (new_in_telescope (indices_of sig) ls s)
       in_telescope ls simple_end h k = All-nil (HasFamilies sig)
-      in_telescope ls (simple_binding m t s) h k = All-append (HasFamilies sig) (new_in (indices_of sig) ls t) (new_in_telescope (indices_of sig) ((m, t) ∷ ls) s) (in_type ls t h k.0) (in_telescope ((m, t) ∷ ls) s (k.0, h) k.1)
+      in_telescope ls (simple_binding m t s) h k = All-append (HasFamilies sig) (new_in (indices_of sig) ls t)
+          (new_in_telescope (indices_of sig) ((m, t) ∷ ls) s) (in_type ls t h k.0) (in_telescope ((m, t) ∷ ls) s (k.0, h) k.1)
 
     in_each : (ts : List SimpleType) → All (HasFamilies sig) ts → All (HasFamilies sig) (new_in_each (indices_of sig) ts)
     in_each [] h = All-nil (HasFamilies sig)
-    in_each (t ∷ ts) h = All-append (HasFamilies sig) (new_in (indices_of sig) [] t) (new_in_each (indices_of sig) ts) (in_type [] t tt (All-head (HasFamilies sig) t ts h)) (in_each ts (All-tail (HasFamilies sig) t ts h))
+    in_each (t ∷ ts) h = All-append (HasFamilies sig) (new_in (indices_of sig) [] t) (new_in_each (indices_of sig) ts)
+        (in_type [] t tt (All-head (HasFamilies sig) t ts h)) (in_each ts (All-tail (HasFamilies sig) t ts h))
 
   -- ---- fewer arguments
 
@@ -108,7 +114,8 @@ module _ (sig : PlainSignature) where
   the_type : {a b : SimpleType} → Some a ≡ Some b → a ≡ b
   the_type e = cc
 
-  module _ (start metas : Types) (given : Instantiation) (traced : Traced start metas given) (grows : Grows start metas) (have : (m : ℕ) (a : SimpleType) → start m ≡ Some a → HasFamilies sig a) where
+  module _ (start metas : Types) (given : Instantiation) (traced : Traced start metas given) (grows : Grows start metas)
+      (have : (m : ℕ) (a : SimpleType) → start m ≡ Some a → HasFamilies sig a) where
     -- the metavariables before a number
     traced_below : (n k : ℕ) → k < n → (a : SimpleType) → metas k ≡ Some a → HasFamilies sig a
     traced_below zero k l a e = absurd (omega (arith, l))

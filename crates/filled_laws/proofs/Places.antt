@@ -181,5 +181,6 @@ module _ (sig : PlainSignature) where
           where
             nothing : (y : Place) → IsSame y None → IsOver y
             nothing y s = ⊎_elim (λ i. subst IsOver (sym i) tt) (λ i. subst IsOver (sym i.0) tt) s
-        of_type (Some a) e y s = ⊎_elim (λ i. subst IsOver (sym i) (in_type sig (simple_of sig []) a ((well_formed_is_simply_formed sig []).types true a ((entries_well_formed sig formed).1 c a e))))
+        of_type (Some a) e y s = ⊎_elim
+            (λ i. subst IsOver (sym i) (in_type sig (simple_of sig []) a ((well_formed_is_simply_formed sig []).types true a ((entries_well_formed sig formed).1 c a e))))
             (λ i. subst IsOver (sym i.0) tt) s

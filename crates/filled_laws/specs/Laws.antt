@@ -44,10 +44,12 @@ DeterminedHaveFamilies = (sig : PlainSignature) (body : DesugaredBody) (ts : Lis
 
 -- And so are those in the simple types of new metavariables: in types made of simple types, and in what is filled in;
 abbrev pub NewHaveFamilies : Type 0
-NewHaveFamilies = (sig : PlainSignature) → WellFormedSignature sig → (ts : List SimpleType) → All (HasFamilies sig) ts → All (HasFamilies sig) (new_in_each (indices_of sig) ts)
+NewHaveFamilies = (sig : PlainSignature) → WellFormedSignature sig → (ts : List SimpleType) → All (HasFamilies sig) ts
+    → All (HasFamilies sig) (new_in_each (indices_of sig) ts)
 
 abbrev pub FillingsHaveFamilies : Type 0
-FillingsHaveFamilies = (sig : PlainSignature) (heads : ℕ → Head) (vs : List ImplicitVariable) (body : DesugaredBody) (fs : Fillings) (core : PlainCore) → WellFormedSignature sig
+FillingsHaveFamilies = (sig : PlainSignature) (heads : ℕ → Head) (vs : List ImplicitVariable) (body : DesugaredBody) (fs : Fillings) (core : PlainCore)
+    → WellFormedSignature sig
     → All (λ v. HasFamilies sig v.type) vs → ReadsBody sig heads vs body fs core → All (HasFamilies sig) (types_of_new fs)
 
 -- and in those of the metavariables that unification makes.
@@ -61,5 +63,6 @@ TypesFrom metas k ts = (j : ℕ) (u : SimpleType) → slice_get ts j ≡ Some u 
 
 -- The types made of simple types are such as may be read for implicit variables, whatever the types of the others.
 abbrev pub FreshTypesAreRead : Type 0
-FreshTypesAreRead = (sig : PlainSignature) (xs : List PlainType) (metas : Types) (k : ℕ) (ts : List SimpleType) → All (HasFamilies sig) ts → TypesFrom metas k (new_in_each (indices_of sig) ts)
+FreshTypesAreRead = (sig : PlainSignature) (xs : List PlainType) (metas : Types) (k : ℕ) (ts : List SimpleType) → All (HasFamilies sig) ts
+    → TypesFrom metas k (new_in_each (indices_of sig) ts)
     → (x : ℕ) (a : PlainType) → slice_get (types_from (indices_of sig) k ts) x ≡ Some a → ReadType sig xs metas a

@@ -18,7 +18,7 @@ use Rattle.typing_laws.proofs.Erased.{put_type}
 use Rattle.gathering.specs.Becoming.{BecomeEach}
 use Rattle.gathering.specs.Complete.{ExpressionHasNoHole, HasNoHole, NeutralHasNoHole, TupleHasNoHole}
 use Rattle.celf_elaboration.specs.Items.{SubstitutedClass, SubstitutedCore, in_check, in_constant_class, in_declaration, in_equation, in_family_class, in_query, in_trace}
-use Rattle.celf_gather.specs.Holes.{ClassHasNoHole, CoreHasNoHole, EachHasNoHole, KindHasNoHole, TelescopeHasNoHole, TypeHasNoHole}
+use Rattle.celf_gather.specs.Holes.{ClassHasNoHole, EachHasNoHole, KindHasNoHole, TelescopeHasNoHole, TypeHasNoHole}
 use Rattle.gathered_laws.specs.Formed.{ClassIsFormed, CoreIsFormed}
 use Rattle.gathered_laws.specs.Laws.{CoreStaysFormed, EquationsStayTyped, FormedCoreHasNoHole}
 

@@ -15,7 +15,8 @@ returns-in_ok-entry-in-Declare-clause-put_in c = λ s p k.
     let here = c.in-Declare.entry in
     let there = c.in_ok-entry-in-Declare.entry in
     subst (λ (x : Core). SubstitutedCore (instant s) (plain_core x) (declares name (plain_entry there))) (sym c.in-Declare.is)
-    (subst (λ (n : ℕ). SubstitutedCore (instant s) (declares name (plain_entry here)) (declares name (entry_of n (plain_class there.class)))) (sym c.in_ok-entry-in-Declare.ensures.implicit)
+    (subst (λ (n : ℕ). SubstitutedCore (instant s) (declares name (plain_entry here)) (declares name (entry_of n (plain_class there.class))))
+    (sym c.in_ok-entry-in-Declare.ensures.implicit)
     (in_declaration (c.in_ok-entry-in-Declare.ensures.put_in s p k)))
 
 pub returns-in_ok-type_in-in-Query-clause-put_in : goal.returns-in_ok-type_in-in-Query-clause-put_in
@@ -31,10 +32,12 @@ returns-in_ok-telescope_in-in-Trace-clause-put_in c = λ s p k.
 pub returns-in_ok-object_in-in-Equal-2-clause-put_in : goal.returns-in_ok-object_in-in-Equal-2-clause-put_in
 returns-in_ok-object_in-in-Equal-2-clause-put_in c = λ s p k.
     subst (λ (x : Core). SubstitutedCore (instant s) (plain_core x)
-    (equates (plain_obj c.in_ok-object_in-in-Equal.field-0) (plain_obj c.in_ok-object_in-in-Equal-2.field-0) (plain_ty c.in_ok-type_in-in-Equal.field-0))) (sym c.in-Equal.is)
+    (equates (plain_obj c.in_ok-object_in-in-Equal.field-0) (plain_obj c.in_ok-object_in-in-Equal-2.field-0) (plain_ty c.in_ok-type_in-in-Equal.field-0)))
+    (sym c.in-Equal.is)
     (in_equation (c.in_ok-object_in-in-Equal.ensures.put_in s p k) (c.in_ok-object_in-in-Equal-2.ensures.put_in s p k) (c.in_ok-type_in-in-Equal.ensures.put_in s p k))
 
 pub returns-in_ok-object_in-in-Check-clause-put_in : goal.returns-in_ok-object_in-in-Check-clause-put_in
 returns-in_ok-object_in-in-Check-clause-put_in c = λ s p k.
-    subst (λ (x : Core). SubstitutedCore (instant s) (plain_core x) (checks (plain_obj c.in_ok-object_in-in-Check.field-0) (plain_ty c.in_ok-type_in-in-Check.field-0))) (sym c.in-Check.is)
+    subst (λ (x : Core). SubstitutedCore (instant s) (plain_core x) (checks (plain_obj c.in_ok-object_in-in-Check.field-0) (plain_ty c.in_ok-type_in-in-Check.field-0)))
+    (sym c.in-Check.is)
     (in_check (c.in_ok-object_in-in-Check.ensures.put_in s p k) (c.in_ok-type_in-in-Check.ensures.put_in s p k))

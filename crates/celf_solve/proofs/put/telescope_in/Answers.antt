@@ -1,6 +1,6 @@
 use Rattle.std.proofs.Common.{sym, subst, ⊎_elim}
 use Rattle.clf_syntax.specs.TypeTree.{PlainType, monad}
-use Rattle.clf_syntax.specs.declared.tree.Ty.{Ty, Monad}
+use Rattle.clf_syntax.specs.declared.tree.Ty.{Ty}
 use Rattle.clf_syntax.specs.PlainTypes.{plain_ty, plain_tele, plain-Monad}
 use Rattle.metavars.specs.Stored.{additions}
 use Rattle.celf_solve.specs.Puts.{IsFormedIn, TypeBecomes}
@@ -15,8 +15,10 @@ unreachable-requires c =
     let zs = additions c.args.store.now in
     let x = c.in_ok-tele.field-0 in
     let t = plain_tele c.args.tele in
-    let (u, e) = stays_monad zs c.requires.solved t (plain_ty x) (subst (λ (a : PlainType). TypeBecomes zs a (plain_ty x)) (plain-Monad c.args.tele) c.in_ok-tele.ensures.put_in) in
-    ⊎_elim (λ h. no_family x u e h.0 h.1 h.2) (λ r. ⊎_elim (λ h. no_function x u e h.0 h.1 h.2 h.3) (λ q. ⊎_elim (λ h. no_pair x u e h.0 h.1 h.2) (λ h. no_top x u e h) q) r) c.in-Fam.is
+    let (u, e) = stays_monad zs c.requires.solved t (plain_ty x)
+    (subst (λ (a : PlainType). TypeBecomes zs a (plain_ty x)) (plain-Monad c.args.tele) c.in_ok-tele.ensures.put_in) in
+    ⊎_elim (λ h. no_family x u e h.0 h.1 h.2)
+    (λ r. ⊎_elim (λ h. no_function x u e h.0 h.1 h.2 h.3) (λ q. ⊎_elim (λ h. no_pair x u e h.0 h.1 h.2) (λ h. no_top x u e h) q) r) c.in-Fam.is
 
 pub returns-clause-put_in : goal.returns-clause-put_in
 returns-clause-put_in c =

@@ -1,0 +1,4 @@
+pub mod StoreTypes
+pub mod Gathered
+pub mod Declarations
+pub mod DirectiveInstances
