@@ -1,5 +1,5 @@
 -- The scene that is read of an item.
-use Rattle.std.proofs.Common.{ℕ, ◌+◌, ◌≡◌, ◌++◌, true, false, refl, sym, ap, subst, ◌∙◌, Option, Some, None, List, [], ◌∷◌, length, map, slice_get}
+use Rattle.std.proofs.Common.{ℕ, zero, suc, drop, arith, ◌+◌, ◌≡◌, ◌++◌, true, false, refl, sym, ap, subst, ◌∙◌, Option, Some, None, List, [], ◌∷◌, length, map, slice_get}
 use Rattle.std.proofs.lemmas.List.Elements.{All-append, All-cons, All-get_or, All-head, All-nil, All-tail}
 use Rattle.std.proofs.lemmas.Option.{get_or_from_slice_get, slice_get_within}
 use Rattle.std.specs.List.{All}
@@ -7,6 +7,9 @@ use Rattle.clf_syntax.specs.TypeTree.{PlainType, SimpleType}
 use Rattle.clf_syntax.specs.Simple.{erase}
 use Rattle.clf_sig.specs.Entry.{PlainSignature, simple_types}
 use Rattle.clf_sig.specs.Core.{PlainCore}
+use Rattle.clf_sig.specs.Signature.{plain_signature}
+use Rattle.clf_syntax.specs.declared.tree.Simple.{Simple}
+use Rattle.clf_syntax.specs.PlainSimple.{plain_simple}
 use Rattle.clf_rules.specs.WellFormed.{WellFormedSignature}
 use Rattle.store_laws.specs.Additions.{Addition, new, meta_types, given}
 use Rattle.store_laws.proofs.Lists.{types-append}
@@ -201,3 +204,23 @@ module _ (sig : PlainSignature) (formed : WellFormedSignature sig) (body : Desug
     is_scene = is_scene;
     families = λ m a e. all-at (HasFamilies sig) (fs ++ more) all_families m a (sym (metas-are scene (fs ++ more) additions_are m) ∙ e);
   }
+
+-- ---- the simple types past those of the signature
+
+dropped : {X : Type 0} (xs ys : List X) (n : ℕ) → n ≡ length xs → drop n (xs ++ ys) ≡ ys
+dropped [] ys zero e = refl
+dropped [] ys (suc n) e = absurd (omega arith)
+dropped (x ∷ xs) ys zero e = absurd (omega arith)
+dropped (x ∷ xs) ys (suc n) e = dropped xs ys n (omega arith)
+
+map_drop : {X Y : Type 0} (f : X → Y) (n : ℕ) (xs : List X) → map f (drop n xs) ≡ drop n (map f xs)
+map_drop f zero xs = refl
+map_drop f (suc n) [] = refl
+map_drop f (suc n) (x ∷ xs) = map_drop f n xs
+
+simples_length : (entries : List _) → length (simple_types (plain_signature entries)) ≡ length entries
+simples_length [] = refl
+simples_length (e ∷ entries) = ap suc (simples_length entries)
+
+pub drop_simples : (entries : List _) (ss : List Simple) (us : List SimpleType) (n : ℕ) → n ≡ length entries → map plain_simple ss ≡ simple_types (plain_signature entries) ++ us → map plain_simple (drop n ss) ≡ us
+drop_simples entries ss us n e h = map_drop plain_simple n ss ∙ ap (drop n) h ∙ dropped (simple_types (plain_signature entries)) us n (e ∙ sym (simples_length entries))
