@@ -87,6 +87,25 @@ fn simple_of(alloc: Global, variable: &Implicit) -> Result<Simple, AllocError>
     }
 }
 
+/// Types of these simple types, whose indices are new metavariables.
+fn types_of(
+    alloc: Global,
+    sig: &Signature,
+    store: &mut Store,
+    simples: &[Simple],
+) -> Result<Items<Ty>, Want>
+    ensures made { IfOk result (λ types.
+        map plain_ty types
+        ≡ types_from (indices_of (plain_signature sig.now)) (count store.old) (map plain_simple simples.now)) }
+    ensures grown { OnOk result (IsGrownBy store.old store.new
+        (new_in_each (indices_of (plain_signature sig.now)) (map plain_simple simples.now))) }
+    ensures wanting { IfErr result IsWant }
+{
+    let mut types = Items::new(alloc);
+    add_types(sig, store, simples, &mut types)?;
+    Ok(types)
+}
+
 /// Adds types of these simple types, whose indices are new metavariables.
 pub fn add_types(
     sig: &Signature,

@@ -36,15 +36,15 @@ returns-clause-scene c =
     let us = map simple_or_unit (map plain_implicit xs) in
     let whole : c.in_ok-core.field-0.whole ≡ true = grind (arith, c.if-not-whole.false, c.in_ok-core.whole-is) in
     let known : are_known xs ≡ true = grind (arith, c.if-not-are_known.false, c.are_known.ensures) in
-    let rest : map plain_simple (drop c.len.result c.in_ok-simples.simples) ≡ us = drop_simples c.args.sig.now c.in_ok-simples.simples us c.len.result c.len.ensures.len c.in_ok-simples.ensures in
-    let scene : Scene = record { core = c.in_ok-core.field-0.core; types = c.add_types.new.types; store = c.add_types.new.store } in
+    let rest : map plain_simple (drop c.len.result c.as_slice-2.result.now) ≡ us = drop_simples c.args.sig.now c.as_slice-2.result.now us c.len.result c.len.ensures.len (ap (map plain_simple) c.as_slice-2.ensures ∙ c.in_ok-simples.ensures) in
+    let scene : Scene = record { core = c.in_ok-core.field-0.core; types = c.in_ok-types.types; store = c.types_of.new.store } in
     scene_read sig c.requires.formed body xs c.requires.all scene (record {
       old = c.in_ok-store.store;
       between = c.read_filled.new.store;
-      constants_are = c.in_ok-store.ensures.constants ∙ c.in_ok-simples.ensures;
+      constants_are = c.in_ok-store.ensures.constants ∙ ap (map plain_simple) c.as_slice.ensures ∙ c.in_ok-simples.ensures;
       nothing = c.in_ok-store.ensures.additions;
       typed = known;
       reads = λ vs e. c.in_ok-core.ensures.read vs e whole;
-      types = c.in_ok-add_types.ensures.made ∙ ap (types_from (indices_of sig) (count c.read_filled.new.store)) rest;
-      grown = subst (λ ts. IsGrownBy c.read_filled.new.store c.add_types.new.store (new_in_each (indices_of sig) ts)) rest c.in_ok-add_types.ensures.grown;
+      types = c.in_ok-types.ensures.made ∙ ap (types_from (indices_of sig) (count c.read_filled.new.store)) rest;
+      grown = subst (λ ts. IsGrownBy c.read_filled.new.store c.types_of.new.store (new_in_each (indices_of sig) ts)) rest c.in_ok-types.ensures.grown;
     })
