@@ -48,13 +48,7 @@ pub fn read(
         drop(core);
         return Err(why);
     }
-    let mut types = Items::new(alloc);
-    add_types(
-        sig,
-        &mut store,
-        &simples.as_slice()[sig.len()..],
-        &mut types,
-    )?;
+    let types = types_of(alloc, sig, &mut store, &simples.as_slice()[sig.len()..])?;
     Ok(Scene { core, types, store })
 }
 

@@ -22,9 +22,9 @@ returns-then-not-whole-clause-declined c =
     let item = desugared_item c.args.plain.now in
     let xs = c.args.variables.now in
     let none : HasNoTree sig item.body = elim c.then-not-whole.branch [
-      then-not-whole-via-then-not-whole w ↦ place_done sig item xs c.requires.all c.in_ok-store.store c.read_filled.new.store (plain_core c.in_ok-core.field-0.core) c.in_ok-core.field-0.whole
+      | then-not-whole-via-then-not-whole w ↦ place_done sig item xs c.requires.all c.in_ok-store.store c.read_filled.new.store (plain_core c.in_ok-core.field-0.core) c.in_ok-core.field-0.whole
           c.in_ok-store.ensures.additions c.in_ok-core.ensures.made (grind (arith, w.if-not-whole.true, c.in_ok-core.whole-is))
-    | then-not-whole-via-else-not-whole+then-not-are_known w ↦ variable_done sig item xs c.requires.all (one-untyped xs (grind (arith, w.if-not-are_known.true, w.are_known.ensures)))
+      | then-not-whole-via-else-not-whole+then-not-are_known w ↦ variable_done sig item xs c.requires.all (one-untyped xs (grind (arith, w.if-not-are_known.true, w.are_known.ensures)))
     ] in
     ill_typed_for sig item xs c.misfit-why.result none c.misfit-why.ensures
 
