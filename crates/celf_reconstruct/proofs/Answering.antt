@@ -1,5 +1,5 @@
 -- What is answered of what is found.
-use Rattle.std.proofs.Common.{ℕ, zero, suc, ◌+◌, ◌≡◌, ◌<◌, ◌++◌, Bool, true, false, refl, sym, ap, subst, ◌∙◌, ◌⊎◌, ⊎_elim, Option, Some, None, Err, List, [], ◌∷◌, length, map, option_map, arith, slice_get, Contains}
+use Rattle.std.proofs.Common.{Result, ℕ, zero, suc, ◌+◌, ◌≡◌, ◌<◌, ◌++◌, Bool, true, false, refl, sym, ap, subst, ◌∙◌, ◌⊎◌, ⊎_elim, Option, Some, None, Err, List, [], ◌∷◌, length, map, option_map, arith, slice_get, Contains}
 use Rattle.std.specs.List.{range_with_len, slice_index_or}
 use Rattle.std.proofs.lemmas.List.Elements.{Contains-append_cases}
 use Rattle.std.proofs.lemmas.List.FromFn.{length-range_with_len, get_or-range_with_len}
@@ -18,7 +18,8 @@ use Rattle.clf_sig.specs.Core.{PlainCore, declares, queries, traces, equates, ch
 use Rattle.pattern_laws.specs.Instantiations.{Types}
 use Rattle.celf_sugar.specs.PlainTree.{DesugaredBody, DesugaredItem}
 use Rattle.celf_implicit.specs.declared.variable.Implicit.{Implicit}
-use Rattle.celf_implicit.specs.Answers.{AreAll, plain_implicit}
+use Rattle.celf_implicit.specs.declared.variable.Variable.{Variable}
+use Rattle.celf_implicit.specs.Answers.{AreAll, IsAnswer, plain_implicit}
 use Rattle.celf_implicit.specs.Rounds.{determined}
 use Rattle.celf_explicit.specs.Explicit.{entry_of}
 use Rattle.celf_elaboration.specs.Declarations.{declared_heads}
@@ -43,8 +44,8 @@ use Rattle.celf_reconstruct.specs.Trees.{determined_name, read_name, IsItemTree}
 use Rattle.celf_reconstruct.specs.Left.{metavariables_with, IsNamed}
 use Rattle.celf_reconstruct.specs.Posed.{IsDeclaration, IsNamedTree, IsPosed, as_read, as_named}
 use Rattle.celf_reconstruct.specs.Naming.{types_in, AreSimples, IsNamedScene}
-use Rattle.celf_reconstruct.specs.Reconstructed.{IsFound, IsCheck, IsSearch, IsTest, AreBinders, IsDeclared, Reconstructs, found_check, found_declaration, name_of, variable_name, Declines, no_tree, left_loose, in_a_circle, IsReconstruction}
-use Rattle.celf_reconstruct.specs.Steps.{Declined, IsFor, IsIllTyped, AreVariables, HasScene, HasFound, AreWithin, name_in, variable_of, IsCircular, IsWithinReach}
+use Rattle.celf_reconstruct.specs.Reconstructed.{IsFound, IsCheck, IsSearch, IsTest, AreBinders, IsDeclared, Reconstructs, found_check, found_declaration, name_of, variable_name, Declines, no_type, no_tree, left_loose, in_a_circle, IsReconstruction}
+use Rattle.celf_reconstruct.specs.Steps.{Declined, SaysUndetermined, IsFor, IsIllTyped, AreVariables, HasScene, HasFound, AreWithin, name_in, variable_of, IsCircular, IsWithinReach}
 use Rattle.celf_reconstruct.proofs.Families.{HasUntypedOne}
 use Rattle.celf_reconstruct.proofs.NoTree.{HasNoTree, untyped_variable, untyped_place, nothing_filled, no-tree}
 
@@ -305,3 +306,16 @@ still_declared {sig = sig} {body = body} {vs = vs} {core = core} some f = by som
 
 pub plain_length : (ss : List Simple) → length (map plain_simple ss) ≡ length ss
 plain_length ss = map-length plain_simple ss
+
+-- ---- what implicit variables come to
+
+undetermined_for : (sig : PlainSignature) (item : DesugaredItem) (fault : OrWide Variable) (why : OrWide Why) → IsAnswer sig item (Err fault) → SaysUndetermined fault why → Declined sig item why
+undetermined_for sig item (Fault v) (Fault why) h e = subst (Declines sig item.body) (sym e) (no_type h)
+undetermined_for sig item (Fault v) NoMemory h e = tt
+undetermined_for sig item (Fault v) (TooFar w) h e = e
+undetermined_for sig item NoMemory why h e = subst (Declined sig item) (sym e) tt
+undetermined_for sig item (TooFar w) why h e = subst (Declined sig item) (sym e) h
+
+pub undetermined_done : (sig : PlainSignature) (item : DesugaredItem) (r : Result (List Implicit) (OrWide Variable)) (fault : OrWide Variable) (why : OrWide Why) → r ≡ Err fault → IsAnswer sig item r
+    → SaysUndetermined fault why → Declined sig item why
+undetermined_done sig item r fault why e h u = undetermined_for sig item fault why (subst (IsAnswer sig item) e h) u

@@ -16,13 +16,14 @@ use Rattle.pattern_laws.specs.Patterns.{HasFinalResult}
 use Rattle.typing_laws.specs.SimpleTyping.{families_of}
 use Rattle.celf_sugar.specs.PlainTree.{DesugaredBody, DesugaredItem}
 use Rattle.celf_implicit.specs.declared.variable.Implicit.{Implicit}
+use Rattle.celf_implicit.specs.declared.variable.Variable.{Variable}
 use Rattle.celf_implicit.specs.Rounds.{determined}
 use Rattle.celf_elaboration.specs.Names.{TypedVariable}
 use Rattle.celf_filled.specs.Scopes.{plain_named}
 use Rattle.filled_laws.specs.Families.{HasFamilies}
 use Rattle.celf_front.specs.Fronted.{IsInCircle}
 use Rattle.celf_replies.specs.declared.reply.Why.{Why}
-use Rattle.celf_replies.specs.Reply.{PlainMismatch, PlainWhy, plain_why, ill_typed, circular}
+use Rattle.celf_replies.specs.Reply.{PlainMismatch, PlainWhy, plain_why, undetermined as undetermined_name, ill_typed, circular}
 use Rattle.celf_solve.specs.declared.scene.Scene.{Scene}
 use Rattle.celf_solve.specs.declared.scene.Found.{Found}
 use Rattle.gathered_laws.specs.Formed.{CoreIsFormed}
@@ -110,3 +111,9 @@ IsCircular sig xs types binders why = (circle : List ℕ) × IsInCircle (length 
 pub record IsWithinReach (sig : PlainSignature) (body : DesugaredBody) : Type 0 where
   pub no_search : IsSearch body → ⊥
   pub no_variables : IsTest body → determined sig body ≡ []
+
+-- It says of a variable that is nowhere determined that it is so, and that memory or a number is wanting where it is.
+abbrev pub SaysUndetermined : OrWide Variable → OrWide Why → Type 0
+SaysUndetermined (Fault v) fault = IsFor (λ why. why ≡ undetermined_name v.name) fault
+SaysUndetermined NoMemory fault = fault ≡ NoMemory
+SaysUndetermined (TooFar w) fault = fault ≡ TooFar w

@@ -4,9 +4,8 @@ ghost use Rattle.clf_sig.specs.Signature.{plain_signature};
 ghost use Rattle.clf_rules.specs.WellFormed.{WellFormedSignature};
 ghost use Rattle.celf_sugar.specs.Plain.{desugared_item};
 ghost use Rattle.celf_implicit.specs.Answers.{AreAll};
-ghost use Rattle.celf_replies.specs.Reply.{plain_why, undetermined as undetermined_name};
 ghost use Rattle.celf_reconstruct.specs.Reconstructed.{IsBeyond, IsReconstruction};
-ghost use Rattle.celf_reconstruct.specs.Steps.{IsWithinReach};
+ghost use Rattle.celf_reconstruct.specs.Steps.{IsWithinReach, SaysUndetermined};
 
 use crate::answered::answer;
 use crate::read::read;
@@ -32,18 +31,22 @@ pub fn reconstruct(alloc: Global, sig: &Signature, plain: &Plain) -> Result<Core
 {
     match implicit_variables(alloc, sig, plain) {
         Ok(variables) => with_variables(alloc, sig, plain, variables),
-        Err(OrWide::Fault(variable)) => Err(OrWide::Fault(untyped(variable))),
-        Err(OrWide::NoMemory) => Err(OrWide::NoMemory),
-        Err(OrWide::TooFar(wide)) => Err(OrWide::TooFar(wide)),
+        Err(fault) => Err(untyped(fault)),
     }
 }
 
-/// That an implicit variable is nowhere determined.
-fn untyped(variable: Variable) -> Why
-    ensures { plain_why result ≡ undetermined_name variable.name }
+/// That an implicit variable is nowhere determined, or that memory or a number is wanting.
+fn untyped(fault: OrWide<Variable>) -> OrWide<Why>
+    ensures { SaysUndetermined fault result }
 {
-    let Variable { name, span: _ } = variable;
-    Why::Undetermined(name)
+    match fault {
+        OrWide::Fault(variable) => {
+            let Variable { name, span: _ } = variable;
+            OrWide::Fault(Why::Undetermined(name))
+        }
+        OrWide::NoMemory => OrWide::NoMemory,
+        OrWide::TooFar(wide) => OrWide::TooFar(wide),
+    }
 }
 
 /// The core of an item with these implicit variables.
