@@ -5,4 +5,5 @@ pub use Rattle.clf_rules.specs.Refusal
 pub use Rattle.clf_kernel.specs.Answers
 pub mod Reply
 pub mod Causes
+pub mod Found
 pub mod Text

@@ -6,7 +6,8 @@ use Rattle.clf_printer.specs.Depth.{scope_depth, type_depth, class_depth}
 use Rattle.clf_printer.specs.Entry.{entry_text}
 use Rattle.clf_printer.specs.Judgment.{judgment_text}
 use Rattle.celf_replies.specs.Causes.{cause_text, path_text}
-use Rattle.celf_replies.specs.Reply.{PlainWhy, bad_byte, long_name, unexpected, directive, too_deep, kind_place, not_async, redex, out_of_range, bad_implicit, duplicate, full, unknown_name, kernel, not_yet, PlainReply, entry, checked, equal, different, refused}
+use Rattle.celf_replies.specs.Found.{mismatch_text, unresolved_text, circle_text}
+use Rattle.celf_replies.specs.Reply.{PlainWhy, bad_byte, long_name, unexpected, directive, too_deep, kind_place, not_async, redex, out_of_range, bad_implicit, duplicate, full, unknown_name, kernel, undetermined, ill_typed, unresolved, loose, circular, rejected, not_yet, PlainReply, entry, checked, equal, different, refused}
 
 -- what is said of a refusal after its byte
 abbrev pub why_text : PlainSignature → PlainWhy → List ℕ
@@ -25,6 +26,12 @@ why_text sig (duplicate name) = codes "duplicate " ++ name
 why_text sig full = codes "signature full"
 why_text sig (unknown_name name) = codes "unknown name " ++ name
 why_text sig (kernel path cause) = cause_text sig cause ++ codes " at " ++ path_text path
+why_text sig (undetermined name) = codes "undetermined " ++ name
+why_text sig (ill_typed m) = codes "ill typed: " ++ mismatch_text sig m
+why_text sig (unresolved ss) = codes "unresolved " ++ unresolved_text sig ss
+why_text sig (loose count) = codes "loose metavariables " ++ decimal count
+why_text sig (circular names) = codes "circular " ++ circle_text names
+why_text sig (rejected path cause) = codes "rejected: " ++ (cause_text sig cause ++ codes " at " ++ path_text path)
 why_text sig not_yet = codes "not yet"
 
 abbrev pub refusal_text : PlainSignature → ℕ → PlainWhy → List ℕ

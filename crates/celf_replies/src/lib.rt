@@ -2,8 +2,9 @@
 #![tactic(auto)]
 
 mod cause;
+mod found;
 mod reply;
 mod text;
 
-pub use reply::{Reply, Why};
+pub use reply::{Mismatch, Reply, Sides, Why};
 pub use text::reply_text;

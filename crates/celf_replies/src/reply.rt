@@ -3,6 +3,43 @@
 use clf_kernel::Refusal;
 use clf_syntax::{Name, Obj, Ty};
 
+/// The two sides of an equation, under so many variables.
+#[derive(Drop)]
+pub struct Sides {
+    pub under: u32,
+    pub left: Obj,
+    pub right: Obj,
+}
+
+/// What does not go together in an item, whatever is put for that of it which is not written: as much of it as is told.
+#[derive(Drop)]
+pub enum Mismatch {
+    /// A lambda stands at a type that is no function, or an argument is given to what has no such type.
+    NotFunction,
+    /// A pair stands at a type that is no pair, or a part is taken of what has no such type.
+    NotPair,
+    /// `<>` stands at another type than `<T>`.
+    NotTop,
+    /// Braces stand at a type that is no monad, or a step runs what has no such type.
+    NotMonad,
+    /// A name with its arguments stands at a type that is no family, or has itself no family as its type.
+    NotAtomic,
+    /// A part that is not written cannot be found, as its place has no simple type.
+    NotClosed,
+    /// A lambda, an argument or an entry has another mode than its type.
+    ModeDiffers,
+    /// A pattern or a tuple has another number of entries than its type.
+    Width,
+    /// An object of one family stands where one of another is wanted.
+    FamilyDiffers { found: u32, wanted: u32 },
+    /// What is in front of the arguments is no variable in scope, no constant, or no family, as it has to be.
+    UnknownHead,
+    /// A family has another number of arguments than its kind.
+    FamilyArity,
+    /// These two would have to be joined, and nothing that is put for their metavariables makes them so.
+    IndexDiffers(Sides),
+}
+
 /// Why an item is refused, with what the refusal keeps.
 #[derive(Drop)]
 pub enum Why {
@@ -34,6 +71,19 @@ pub enum Why {
     UnknownName(Name),
     /// The rules do not derive the item. The path leads from the item to the part that they refuse.
     Kernel(Refusal),
+    /// No place of the item says which type this implicit variable has.
+    Undetermined(Name),
+    /// Nothing that is put for what is not written makes the item well formed.
+    IllTyped(Mismatch),
+    /// What is not written depends on these equations, which are postponed for good.
+    Unresolved(Vec<Sides>),
+    /// So many metavariables are left in an item that can have none.
+    Loose { count: u32 },
+    /// The type of each of these variables mentions the next one, and the last one's the first; some have no name.
+    Circular(Vec<Option<Name>>),
+    /// The rules do not derive the item with all found that was not written. The path leads to the part that they
+    /// refuse.
+    Rejected(Refusal),
     /// Items like this one are not answered yet.
     NotYet,
 }

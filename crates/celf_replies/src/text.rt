@@ -1,16 +1,19 @@
 //! The text of replies.
-ghost use Rattle.std.specs.Prelude.{◌≡◌, ◌++◌, codes, IfOk, IfErr, OnOk};
+ghost use Rattle.std.specs.Prelude.{◌≡◌, ◌++◌, codes, map, IfOk, IfErr, OnOk};
+ghost use Rattle.std.specs.Fmt.{decimal};
 ghost use Rattle.clf_syntax.specs.Plain.{plain_obj};
 ghost use Rattle.clf_syntax.specs.PlainTypes.{plain_ty};
 ghost use Rattle.clf_sig.specs.Signature.{plain_signature};
 ghost use Rattle.clf_kernel.specs.Answers.{plain_cause};
 ghost use Rattle.clf_printer.specs.Entry.{entry_text as entry_text_of};
-ghost use Rattle.celf_replies.specs.Reply.{plain_why, plain_reply, entry as entry_reply, checked, kernel};
+ghost use Rattle.celf_replies.specs.Reply.{plain_why, plain_mismatch, plain_sides, plain_reply, entry as entry_reply, checked, kernel, ill_typed};
+ghost use Rattle.celf_replies.specs.Found.{unresolved_text};
 ghost use Rattle.celf_replies.specs.Text as spec;
 ghost use Rattle.clf_syntax.specs.Wide.{IsWant};
 
 use crate::cause::{push_cause, push_path};
-use crate::reply::{Reply, Why};
+use crate::found::{push_circle, push_mismatch, push_unresolved};
+use crate::reply::{Mismatch, Reply, Sides, Why};
 use clf_kernel::Refusal;
 use clf_printer::{entry_text, object_text, push_number, type_text};
 use clf_sig::Signature;
@@ -72,13 +75,13 @@ fn refusal_line(alloc: Global, sig: &Signature, at: u32, why: &Why) -> Result<Ve
     let mut line = Vec::from_slice(alloc, b"refused at ")?;
     push_number(&mut line, u64::from(at))?;
     line.extend_from_slice(b": ")?;
-    push_why(&mut line, sig, why)?;
+    push_why(alloc, &mut line, sig, why)?;
     line.extend_from_slice(b".\n")?;
     Ok(line)
 }
 
 /// Writes why an item is refused.
-fn push_why(out: &mut Vec<u8>, sig: &Signature, why: &Why) -> Result<(), AllocError>
+fn push_why(alloc: Global, out: &mut Vec<u8>, sig: &Signature, why: &Why) -> Result<(), AllocError>
     ensures { OnOk result
         (out.new.items ≡ out.old.items ++ spec.why_text (plain_signature sig.now) (plain_why why.now)) }
 {
@@ -98,6 +101,20 @@ fn push_why(out: &mut Vec<u8>, sig: &Signature, why: &Why) -> Result<(), AllocEr
         Why::Full => out.extend_from_slice(b"signature full"),
         Why::UnknownName(name) => push_named(out, b"unknown name ", name),
         Why::Kernel(refusal) => push_kernel(out, sig, refusal),
+        Why::Undetermined(name) => push_named(out, b"undetermined ", name),
+        Why::IllTyped(mismatch) => push_ill_typed(alloc, out, sig, mismatch),
+        Why::Unresolved(equations) => {
+            push_left(alloc, out, b"unresolved ", sig, equations.as_slice())
+        },
+        Why::Loose { count } => push_count(out, b"loose metavariables ", *count),
+        Why::Circular(names) => {
+            out.extend_from_slice(b"circular ")?;
+            push_circle(out, names.as_slice())
+        }
+        Why::Rejected(refusal) => {
+            out.extend_from_slice(b"rejected: ")?;
+            push_kernel(out, sig, refusal)
+        }
         Why::NotYet => out.extend_from_slice(b"not yet"),
     }
 }
@@ -108,6 +125,43 @@ fn push_named(out: &mut Vec<u8>, words: &[u8], name: &Name) -> Result<(), AllocE
 {
     out.extend_from_slice(words)?;
     out.extend_from_slice(name.as_str().as_bytes())
+}
+
+/// Writes that nothing makes an item well formed.
+fn push_ill_typed(
+    alloc: Global,
+    out: &mut Vec<u8>,
+    sig: &Signature,
+    mismatch: &Mismatch,
+) -> Result<(), AllocError>
+    ensures { OnOk result (out.new.items
+        ≡ out.old.items ++ spec.why_text (plain_signature sig.now) (ill_typed (plain_mismatch mismatch.now))) }
+{
+    out.extend_from_slice(b"ill typed: ")?;
+    push_mismatch(alloc, out, sig, mismatch)
+}
+
+/// Writes words and the equations that are left.
+fn push_left(
+    alloc: Global,
+    out: &mut Vec<u8>,
+    words: &[u8],
+    sig: &Signature,
+    equations: &[Sides],
+) -> Result<(), AllocError>
+    ensures { OnOk result (out.new.items
+        ≡ out.old.items ++ (words.now ++ unresolved_text (plain_signature sig.now) (map plain_sides equations.now))) }
+{
+    out.extend_from_slice(words)?;
+    push_unresolved(alloc, out, sig, equations)
+}
+
+/// Writes words and a number.
+fn push_count(out: &mut Vec<u8>, words: &[u8], count: u32) -> Result<(), AllocError>
+    ensures { OnOk result (out.new.items ≡ out.old.items ++ (words.now ++ decimal count)) }
+{
+    out.extend_from_slice(words)?;
+    push_number(out, u64::from(count))
 }
 
 /// Writes why the rules refuse an item, with the path to the part that they refuse.

@@ -1,5 +1,5 @@
 -- From what the functions below `answer_item` find of an item to its reply.
-use Rattle.std.proofs.Common.{ℕ, ◌≡◌, ◌≢◌, true, false, refl, sym, ap, ◌∙◌, subst, Option, Some, None, is_some, option_map, List, [], ◌∷◌, ◌++◌, length, Result, Ok, Err, inl, inr}
+use Rattle.std.proofs.Common.{ℕ, ◌≡◌, ◌≢◌, true, false, refl, sym, ap, ◌∙◌, subst, Option, Some, None, is_some, option_map, List, [], ◌∷◌, ◌++◌, length, map, Result, Ok, Err, inl, inr}
 use Rattle.std.specs.Prelude.{IfOk, OnOk, IfErr}
 use Rattle.std.proofs.lemmas.List.{length-map}
 use Rattle.clf_syntax.specs.Word.{is_declarable}
@@ -23,7 +23,7 @@ use Rattle.celf_surface.specs.Surface.{WrittenBody, WrittenItem, declare, query,
 use Rattle.celf_parser.specs.Place.{HasDeclarableName}
 use Rattle.celf_sugar.specs.declared.fault.SugarFault.{SugarFault}
 use Rattle.celf_sugar.specs.declared.fault.SugarFault.TheVariants.{NoMemory as NoRoom}
-use Rattle.celf_sugar.specs.PlainTree.{DesugaredItem}
+use Rattle.celf_sugar.specs.PlainTree.{DesugaredBody, DesugaredItem}
 use Rattle.celf_sugar.specs.Sugar.{body, desugared}
 use Rattle.celf_sugar.specs.Faults.{first_fault}
 use Rattle.celf_sugar.specs.Answers.{IsFirst}
@@ -35,10 +35,12 @@ use Rattle.celf_run.specs.declared.options.Options.{Options}
 use Rattle.clf_sig.specs.Core.{PlainCore, declares, queries, traces, equates, checks}
 use Rattle.celf_unknown.specs.Fault.{standing}
 use Rattle.celf_explicit.specs.Explicit.{explicit}
+use Rattle.celf_reconstruct.specs.Reconstructed.{Reconstructs, found_check, found_declaration}
 use Rattle.celf_run.specs.Source.{written}
-use Rattle.celf_run.specs.Allowed.{holding, declared_name, NameBarred, is_duplicate, is_full, NamePasses, Barred, by_unknown, is_explicit, IsTyped, in_class, in_type, in_object, in_common_type, in_first, in_second, by_rules, not_answered, accepted, same, differing, PlainAllowed, declined, answered, Allowed, sugar_fault, plainly, sugar_refusal}
-use Rattle.celf_run.specs.Answering.{MayBeDeclared, MayBeAdded, AnswersCore, fits, explained, beyond, refused_by_rules, FormsClosed, JudgesClosed, IsReplyToFault, ExplainsCore, Compares}
+use Rattle.celf_run.specs.Allowed.{Held, holding, declared_name, NameBarred, is_duplicate, is_full, NamePasses, Barred, by_unknown, HasHidden, is_explicit, is_found, Passes, IsTyped, IsBeyondReach, Fits, typed, in_class, in_type, in_object, in_common_type, in_first, in_second, by_rules, by_rules_found, not_answered, accepted, same, differing, PlainAllowed, declined, answered, Allowed, sugar_fault, plainly, sugar_refusal}
+use Rattle.celf_run.specs.Answering.{MayBeDeclared, MayBeAdded, AnswersCore, fits, explained, beyond, refused_by_rules, FormsClosed, JudgesClosed, IsReplyToFault, ExplainsCore, Compares, reply_of_found}
 use Rattle.celf_run.proofs.Cores.{unnamed, written-fits, declared-fits}
+use Rattle.celf_run.proofs.Leads.{declared-for}
 
 none_of : {A : Type 0} (r : Option A) → is_some r ≡ false → r ≡ None
 none_of None h = refl
@@ -181,14 +183,55 @@ compared-told options sig at n o a (Err want) t u told = tt
 pub core-allowed : (options : Options) (old new : PlainSignature) (item : DesugaredItem) (core : PlainCore) (reply : PlainReply) → NamePasses old item → first_unknown old item ≡ None
     → explicit old item ≡ Some core → AnswersCore options (holding old) item.span.start core reply (holding new) → PlainAllowed options (holding old) item reply (holding new)
 core-allowed options old new item core reply passes known h (fits f) = answered (record { name = passes; known = known }) (is_explicit h) f
-core-allowed options old new item core reply passes known h (explained x) = declined (record { name = passes; known = known }) (by_rules (is_explicit h) x)
-core-allowed options old new item core reply passes known h (beyond x) = declined (record { name = passes; known = known }) (not_answered (is_explicit h) x)
+core-allowed options old new item core reply passes known h (explained x) = declined (record { name = passes; known = known }) (by_rules h x)
+core-allowed options old new item core reply passes known h (beyond x) = declined (record { name = passes; known = known }) (not_answered h x)
 
 pub core-answers : (options : Options) (old new : PlainSignature) (item : DesugaredItem) (core : PlainCore) (r : Result Reply Want) → NamePasses old item → first_unknown old item ≡ None
     → explicit old item ≡ Some core → IfOk r (λ reply. AnswersCore options (holding old) item.span.start core (plain_reply reply) (holding new))
     → IfOk r (λ reply. PlainAllowed options (holding old) item (plain_reply reply) (holding new))
 core-answers options old new item core (Ok reply) passes known h a = core-allowed options old new item core (plain_reply reply) passes known h a
 core-answers options old new item core (Err e) passes known h a = tt
+
+-- ---- cores that are found
+
+pub found-may-be-added : (sig : PlainSignature) (item : DesugaredItem) (core : PlainCore) → MayBeDeclared item → NamePasses sig item → Reconstructs sig item.body core → MayBeAdded sig core
+found-may-be-added sig item (declares name e) may passes (found_check c f n) = absurd c
+found-may-be-added sig item (declares name e) may passes (found_declaration {vs = vs} {unnamed = unnamed} {written = count} {class = class} {types = types} {binders = binders} f n b d) =
+    let is = declared-for sig item.body vs unnamed name count class types binders e f b d may.implicit in
+    let new = passes-new sig item name passes is.0 in
+    (new, (λ l. passes full (is_full is.0 new l)), may.name name is.0, is.1)
+found-may-be-added sig item (queries a) may passes r = tt
+found-may-be-added sig item (traces t) may passes r = tt
+found-may-be-added sig item (equates n o a) may passes r = tt
+found-may-be-added sig item (checks n a) may passes r = tt
+
+-- No query and no trace is found.
+found-in-reach : (sig : PlainSignature) (body : DesugaredBody) (core : PlainCore) → Reconstructs sig body core → IsBeyondReach core → ⊥
+found-in-reach sig body (declares name e) r b = b
+found-in-reach sig body (queries a) (found_check c f n) b = c
+found-in-reach sig body (traces t) (found_check c f n) b = c
+found-in-reach sig body (equates n o a) r b = b
+found-in-reach sig body (checks n a) r b = b
+
+-- What fits is no refusal, and so is said as it is.
+fits-said : (options : Options) (held new : Held) (core : PlainCore) (reply : PlainReply) → Fits options held core reply new → Fits options held core (reply_of_found reply) new
+fits-said options held new core reply (accepted may) = accepted may
+fits-said options held new core reply (typed t) = typed t
+fits-said options held new core reply (same t u j) = same t u j
+fits-said options held new core reply (differing t u j) = differing t u j
+
+found-allowed : (options : Options) (old new : PlainSignature) (item : DesugaredItem) (core : PlainCore) (reply : PlainReply) → Passes old item → HasHidden old item
+    → Reconstructs old item.body core → AnswersCore options (holding old) item.span.start core reply (holding new) → PlainAllowed options (holding old) item (reply_of_found reply) (holding new)
+found-allowed options old new item core reply p hidden r (fits f) = answered p (is_found hidden r) (fits-said options (holding old) (holding new) core reply f)
+found-allowed options old new item core reply p hidden r (explained x) = declined p (by_rules_found hidden r x)
+found-allowed options old new item core reply p hidden r (beyond x) = absurd (found-in-reach old item.body core r x)
+
+-- What the core that is found comes to answers its item, said as of what is found.
+pub found-answers : (options : Options) (old new : PlainSignature) (item : DesugaredItem) (core : PlainCore) (reply said : PlainReply) → Passes old item → HasHidden old item
+    → Reconstructs old item.body core → AnswersCore options (holding old) item.span.start core reply (holding new) → said ≡ reply_of_found reply
+    → PlainAllowed options (holding old) item said (holding new)
+found-answers options old new item core reply said p hidden r a is =
+    subst (λ (x : PlainReply). PlainAllowed options (holding old) item x (holding new)) (sym is) (found-allowed options old new item core reply p hidden r a)
 
 -- ---- items
 

@@ -22,10 +22,10 @@ use Rattle.celf_sugar.specs.Faults.{first_fault}
 use Rattle.celf_unknown.specs.Unknown.{first_unknown}
 use Rattle.celf_explicit.specs.Explicit.{explicit}
 use Rattle.celf_parser.specs.Place.{HasDeclarableName}
-use Rattle.celf_replies.specs.Reply.{PlainWhy, duplicate, full, unknown_name, not_yet, PlainReply, entry, checked, equal as equal_reply, different as different_reply, refused}
+use Rattle.celf_replies.specs.Reply.{PlainWhy, duplicate, full, unknown_name, PlainReply, entry, checked, equal as equal_reply, different as different_reply, refused}
 use Rattle.celf_run.specs.declared.options.Options.{Options}
 use Rattle.celf_run.specs.Source.{written, faulty}
-use Rattle.celf_run.specs.Allowed.{Held, holding, declared_name, NameBarred, is_duplicate, is_full, NamePasses, by_name, by_unknown, IsTyped, IsUntyped, IsIllFormed, IsExplained, in_class, in_type, in_object, in_common_type, in_first, in_second, not_explicit, typed, same as same_objects, differing, PlainAllowed, barred, declined, Allowed, at_fault, sugar_fault, plainly, sugar_refusal}
+use Rattle.celf_run.specs.Allowed.{Held, holding, declared_name, NameBarred, is_duplicate, is_full, NamePasses, by_name, by_unknown, IsTyped, IsUntyped, IsIllFormed, IsExplained, in_class, in_type, in_object, in_common_type, in_first, in_second, NothingHidden, typed, same as same_objects, differing, PlainAllowed, barred, Allowed, at_fault, sugar_fault, plainly, sugar_refusal}
 use Rattle.celf_run.specs.Answering.{MayBeDeclared, MayBeAdded, AnswersCore, fits, explained, beyond, refused_by_rules, refused_as_beyond}
 use Rattle.celf_run.specs.Laws.{EachTaskHasReply}
 use Rattle.celf_run.proofs.Decisions.{decide-number, Decided}
@@ -128,32 +128,31 @@ core-reply options sig at (equates n o a) w may = equation-reply options sig at 
 core-reply options sig at (checks n a) w may = check-reply options sig at n a w (type-told sig a w)
 
 known-reply : (options : Options) (sig : PlainSignature) (item : DesugaredItem) → WellFormedSignature sig → MayBeDeclared item → NamePasses sig item → first_unknown sig item ≡ None
-    → (c : Option PlainCore) → explicit sig item ≡ c → HasReply options sig item
-known-reply options sig item w may passes known (Some core) h =
+    → NothingHidden sig item → (c : Option PlainCore) → explicit sig item ≡ c → HasReply options sig item
+known-reply options sig item w may passes known all (Some core) h =
     let r = core-reply options sig item.span.start core w (may-be-added sig item core may passes h) in
     (r.0, holding r.1, core-allowed options sig r.1 item core r.0 passes known h r.2)
-known-reply options sig item w may passes known None h =
-    (refused (record { at = item.span.start; why = not_yet }), holding sig, declined (record { name = passes; known = known }) (not_explicit h))
+known-reply options sig item w may passes known all None h = absurd (all (record { name = passes; known = known }) h)
 
-named-reply : (options : Options) (sig : PlainSignature) (item : DesugaredItem) → WellFormedSignature sig → MayBeDeclared item → NamePasses sig item
+named-reply : (options : Options) (sig : PlainSignature) (item : DesugaredItem) → WellFormedSignature sig → MayBeDeclared item → NamePasses sig item → NothingHidden sig item
     → (u : Option PName) → first_unknown sig item ≡ u → HasReply options sig item
-named-reply options sig item w may passes None e = known-reply options sig item w may passes e (explicit sig item) refl
-named-reply options sig item w may passes (Some name) e =
+named-reply options sig item w may passes all None e = known-reply options sig item w may passes e all (explicit sig item) refl
+named-reply options sig item w may passes all (Some name) e =
     (refused (record { at = name.span.start; why = unknown_name name.name }), holding sig, barred (by_unknown passes e))
 
-plain-reply : (options : Options) (sig : PlainSignature) (item : DesugaredItem) → WellFormedSignature sig → MayBeDeclared item → NameTold sig item → HasReply options sig item
-plain-reply options sig item w may (inl (why, b)) = (refused (record { at = item.span.start; why = why }), holding sig, barred (by_name b))
-plain-reply options sig item w may (inr passes) = named-reply options sig item w may passes (first_unknown sig item) refl
+plain-reply : (options : Options) (sig : PlainSignature) (item : DesugaredItem) → WellFormedSignature sig → MayBeDeclared item → NothingHidden sig item → NameTold sig item → HasReply options sig item
+plain-reply options sig item w may all (inl (why, b)) = (refused (record { at = item.span.start; why = why }), holding sig, barred (by_name b))
+plain-reply options sig item w may all (inr passes) = named-reply options sig item w may passes all (first_unknown sig item) refl
 
-item-reply : (options : Options) (held : Held) (item : WrittenItem) → WellFormedSignature held.signature → HasDeclarableName item.body → (f : Option SugarFault) → first_fault item ≡ f
+item-reply : (options : Options) (held : Held) (item : WrittenItem) → WellFormedSignature held.signature → HasDeclarableName item.body → NothingHidden held.signature (desugared item) → (f : Option SugarFault) → first_fault item ≡ f
     → (reply : PlainReply) × (new : Held) × Allowed options held (written item) reply new
-item-reply options held item w h (Some f) e = (refused (sugar_refusal f), held, sugar_fault e)
-item-reply options held item w h None e =
+item-reply options held item w h all (Some f) e = (refused (sugar_refusal f), held, sugar_fault e)
+item-reply options held item w h all None e =
     let sig = held.signature in
     let plain = desugared item in
-    let r = plain-reply options sig plain w (may-be-declared item plain refl e h) (name-told sig plain (declared_name plain.body) refl) in
+    let r = plain-reply options sig plain w (may-be-declared item plain refl e h) all (name-told sig plain (declared_name plain.body) refl) in
     (r.0, r.1, plainly e r.2)
 
 pub each_task_has_reply : EachTaskHasReply
-each_task_has_reply options held (written item) w h = item-reply options held item w h (first_fault item) refl
-each_task_has_reply options held (faulty refusal) w h = (refused refusal, held, at_fault)
+each_task_has_reply options held (written item) w h all = item-reply options held item w h all (first_fault item) refl
+each_task_has_reply options held (faulty refusal) w h all = (refused refusal, held, at_fault)

@@ -1,4 +1,5 @@
 pub mod Cores
+pub mod Leads
 pub mod Lines
 pub mod Replies
 pub mod Answering

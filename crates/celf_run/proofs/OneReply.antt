@@ -9,9 +9,9 @@ use Rattle.clf_rules.specs.Refusal.{Cause}
 use Rattle.celf_sugar.specs.PlainTree.{DesugaredItem}
 use Rattle.celf_sugar.specs.Sugar.{desugared}
 use Rattle.celf_explicit.specs.Explicit.{explicit}
-use Rattle.celf_replies.specs.Reply.{PlainWhy, duplicate, unknown_name, kernel, PlainRefusal, PlainReply, refused}
+use Rattle.celf_replies.specs.Reply.{PlainWhy, duplicate, unknown_name, kernel, not_yet, PlainRefusal, PlainReply, refused}
 use Rattle.celf_run.specs.declared.options.Options.{Options}
-use Rattle.celf_run.specs.Allowed.{Held, NameBarred, is_duplicate, is_full, Barred, by_name, by_unknown, Passes, is_explicit, IsUntyped, IsIllFormed, IsExplained, in_class, in_type, in_object, in_common_type, in_first, in_second, IsBeyondReach, Declined, by_rules, not_explicit, not_answered, Fits, accepted, typed, same, differing, PlainAllowed, barred, declined, answered, at_fault, sugar_fault, plainly, sugar_refusal}
+use Rattle.celf_run.specs.Allowed.{Held, NameBarred, is_duplicate, is_full, Barred, by_name, by_unknown, Passes, is_explicit, IsUntyped, IsIllFormed, IsExplained, in_class, in_type, in_object, in_common_type, in_first, in_second, IsBeyondReach, HasCore, is_found, NothingHidden, Declined, by_rules, by_rules_found, not_found, not_answered, Fits, accepted, typed, same, differing, PlainAllowed, barred, declined, answered, at_fault, sugar_fault, plainly, sugar_refusal}
 use Rattle.celf_run.specs.Answering.{StandInFront}
 use Rattle.celf_run.specs.Laws.{ReplyIsOne}
 use Rattle.celf_run.proofs.Closed.{object-decided, type-decided, entry-decided}
@@ -101,20 +101,33 @@ beyond-unexplained sig (traces t) path cause b x = elim x [ ]
 beyond-unexplained sig (equates n o a) path cause b x = b
 beyond-unexplained sig (checks n a) path cause b x = b
 
-declined-one : (sig : PlainSignature) (item : DesugaredItem) (why because : PlainWhy) → WellFormedSignature sig → StandInFront item → Declined sig item why → Declined sig item because → why ≡ because
-declined-one sig item why because w stand (by_rules {core = core} {path = path} {cause = cause} (is_explicit h) x) (by_rules {core = core'} {path = path'} {cause = cause'} (is_explicit k) y) =
-    let same_core = some-one _ core' core k h in
-    explained-one sig core path path' cause cause' w (is-fit sig item core stand h) x (subst (λ (c : PlainCore). IsExplained sig c path' cause') same_core y)
-declined-one sig item why because w stand (by_rules {core = core} (is_explicit h) x) (not_explicit e) = absurd (not-both _ core e h)
-declined-one sig item why because w stand (by_rules {core = core} {path = path} {cause = cause} (is_explicit h) x) (not_answered {core = core'} (is_explicit k) b) =
-    absurd (beyond-unexplained sig core path cause (subst IsBeyondReach (some-one _ core' core k h) b) x)
-declined-one sig item why because w stand (not_explicit e) (by_rules {core = core} (is_explicit h) x) = absurd (not-both _ core e h)
-declined-one sig item why because w stand (not_explicit e) (not_explicit f) = refl
-declined-one sig item why because w stand (not_explicit e) (not_answered c b) = refl
-declined-one sig item why because w stand (not_answered {core = core'} (is_explicit k) b) (by_rules {core = core} {path = path} {cause = cause} (is_explicit h) x) =
-    absurd (beyond-unexplained sig core path cause (subst IsBeyondReach (some-one _ core' core k h) b) x)
-declined-one sig item why because w stand (not_answered c b) (not_explicit e) = refl
-declined-one sig item why because w stand (not_answered c b) (not_answered d b') = refl
+-- Why an explicit item is declined.
+data RefusesCore (sig : PlainSignature) (core : PlainCore) : PlainWhy → Type 0 where
+  refuses : {path : List ℕ} {cause : Cause} → IsExplained sig core path cause → RefusesCore sig core (kernel path cause)
+  out_of_reach : IsBeyondReach core → RefusesCore sig core not_yet
+
+abbrev IsRefused : PlainSignature → DesugaredItem → PlainWhy → Type 0
+IsRefused sig item why = (core : PlainCore) × (explicit sig item ≡ Some core) × RefusesCore sig core why
+
+explicitly-declined : (sig : PlainSignature) (item : DesugaredItem) (why : PlainWhy) → NothingHidden sig item → Passes sig item → Declined sig item why → IsRefused sig item why
+explicitly-declined sig item why all p (by_rules {core = core} h x) = (core, h, refuses x)
+explicitly-declined sig item why all p (by_rules_found hidden r x) = absurd (all p hidden)
+explicitly-declined sig item why all p (not_found hidden x) = absurd (all p hidden)
+explicitly-declined sig item why all p (not_answered {core = core} h b) = (core, h, out_of_reach b)
+
+explicitly-read : (sig : PlainSignature) (item : DesugaredItem) (core : PlainCore) → NothingHidden sig item → Passes sig item → HasCore sig item core → explicit sig item ≡ Some core
+explicitly-read sig item core all p (is_explicit h) = h
+explicitly-read sig item core all p (is_found hidden r) = absurd (all p hidden)
+
+refused-one : (sig : PlainSignature) (core : PlainCore) (why because : PlainWhy) → WellFormedSignature sig → IsFit core → RefusesCore sig core why → RefusesCore sig core because → why ≡ because
+refused-one sig core why because w fit (refuses {path = path} {cause = cause} x) (refuses {path = path'} {cause = cause'} y) = explained-one sig core path path' cause cause' w fit x y
+refused-one sig core why because w fit (refuses {path = path} {cause = cause} x) (out_of_reach b) = absurd (beyond-unexplained sig core path cause b x)
+refused-one sig core why because w fit (out_of_reach b) (refuses {path = path} {cause = cause} x) = absurd (beyond-unexplained sig core path cause b x)
+refused-one sig core why because w fit (out_of_reach b) (out_of_reach c) = refl
+
+declined-one : (sig : PlainSignature) (item : DesugaredItem) (why because : PlainWhy) → WellFormedSignature sig → StandInFront item → IsRefused sig item why → IsRefused sig item because → why ≡ because
+declined-one sig item why because w stand (core, h, x) (other, k, y) =
+    refused-one sig core why because w (is-fit sig item core stand h) x (subst (λ (c : PlainCore). RefusesCore sig c because) (some-one _ other core k h) y)
 
 refused-unfit : (options : Options) (held new : Held) (core : PlainCore) (path : List ℕ) (cause : Cause) (reply : PlainReply) → IsExplained held.signature core path cause
     → Fits options held core reply new → ⊥
@@ -137,13 +150,14 @@ beyond-unfit options held new (traces t) reply b x = elim x [ ]
 beyond-unfit options held new (equates n o a) reply b x = b
 beyond-unfit options held new (checks n a) reply b x = b
 
+core-unfit : (options : Options) (held new : Held) (core : PlainCore) (why : PlainWhy) (reply : PlainReply) → RefusesCore held.signature core why → Fits options held core reply new → ⊥
+core-unfit options held new core why reply (refuses {path = path} {cause = cause} x) f = refused-unfit options held new core path cause reply x f
+core-unfit options held new core why reply (out_of_reach b) f = beyond-unfit options held new core reply b f
+
 declined-unfit : (options : Options) (held new : Held) (item : DesugaredItem) (core : PlainCore) (why : PlainWhy) (reply : PlainReply)
-    → Declined held.signature item why → explicit held.signature item ≡ Some core → Fits options held core reply new → ⊥
-declined-unfit options held new item core why reply (by_rules {core = other} {path = path} {cause = cause} (is_explicit h) x) k f =
-    refused-unfit options held new core path cause reply (subst (λ (c : PlainCore). IsExplained held.signature c path cause) (some-one _ other core h k) x) f
-declined-unfit options held new item core why reply (not_explicit e) k f = not-both _ core e k
-declined-unfit options held new item core why reply (not_answered {core = other} (is_explicit h) b) k f =
-    beyond-unfit options held new core reply (subst IsBeyondReach (some-one _ other core h k) b) f
+    → IsRefused held.signature item why → explicit held.signature item ≡ Some core → Fits options held core reply new → ⊥
+declined-unfit options held new item core why reply (other, h, x) k f =
+    core-unfit options held new core why reply (subst (λ (c : PlainCore). RefusesCore held.signature c why) (some-one _ other core h k) x) f
 
 fits-one : (options : Options) (held new other : Held) (core : PlainCore) (reply further : PlainReply) → Fits options held core reply new → Fits options held core further other
     → (reply ≡ further) × (new ≡ other)
@@ -159,25 +173,31 @@ fits-one options held new other (traces t) reply further x y = elim x [ ]
 same-refusal : (options : Options) (held : Held) (r s : PlainRefusal) → r ≡ s → (refused r ≡ refused s) × (held ≡ held)
 same-refusal options held r s e = (ap refused e, refl)
 
-plain-one : (options : Options) (held new other : Held) (item : DesugaredItem) (reply further : PlainReply) → WellFormedSignature held.signature → StandInFront item
+plain-one : (options : Options) (held new other : Held) (item : DesugaredItem) (reply further : PlainReply) → WellFormedSignature held.signature → StandInFront item → NothingHidden held.signature item
     → PlainAllowed options held item reply new → PlainAllowed options held item further other → (reply ≡ further) × (new ≡ other)
-plain-one options held new other item reply further w stand (barred {refusal = refusal} x) (barred {refusal = s} y) = same-refusal options held refusal s (barred-one held.signature item refusal s x y)
-plain-one options held new other item reply further w stand (barred {refusal = refusal} x) (declined p d) = absurd (passes-free held.signature item refusal p x)
-plain-one options held new other item reply further w stand (barred {refusal = refusal} x) (answered p c f) = absurd (passes-free held.signature item refusal p x)
-plain-one options held new other item reply further w stand (declined p d) (barred {refusal = refusal} x) = absurd (passes-free held.signature item refusal p x)
-plain-one options held new other item reply further w stand (declined {why = why} p d) (declined {why = because} q e) =
-    same-refusal options held _ _ (ap (λ w. record { at = item.span.start; why = w }) (declined-one held.signature item why because w stand d e))
-plain-one options held new other item reply further w stand (declined {why = why} p d) (answered {core = core} q (is_explicit h) f) =
-    absurd (declined-unfit options held other item core why further d h f)
-plain-one options held new other item reply further w stand (answered p c f) (barred {refusal = refusal} x) = absurd (passes-free held.signature item refusal p x)
-plain-one options held new other item reply further w stand (answered {core = core} p (is_explicit h) f) (declined {why = why} q d) =
-    absurd (declined-unfit options held new item core why reply d h f)
-plain-one options held new other item reply further w stand (answered {core = core} p (is_explicit h) f) (answered {core = core'} q (is_explicit k) g) =
-    fits-one options held new other core reply further f (subst (λ (c : PlainCore). Fits options held c further other) (some-one _ core' core k h) g)
+plain-one options held new other item reply further w stand all (barred {refusal = refusal} x) (barred {refusal = s} y) = same-refusal options held refusal s (barred-one held.signature item refusal s x y)
+plain-one options held new other item reply further w stand all (barred {refusal = refusal} x) (declined p d) = absurd (passes-free held.signature item refusal p x)
+plain-one options held new other item reply further w stand all (barred {refusal = refusal} x) (answered p c f) = absurd (passes-free held.signature item refusal p x)
+plain-one options held new other item reply further w stand all (declined p d) (barred {refusal = refusal} x) = absurd (passes-free held.signature item refusal p x)
+plain-one options held new other item reply further w stand all (declined {why = why} p d) (declined {why = because} q e) =
+    let sig = held.signature in
+    same-refusal options held _ _ (ap (λ w. record { at = item.span.start; why = w })
+    (declined-one sig item why because w stand (explicitly-declined sig item why all p d) (explicitly-declined sig item because all q e)))
+plain-one options held new other item reply further w stand all (declined {why = why} p d) (answered {core = core} q c f) =
+    let sig = held.signature in
+    absurd (declined-unfit options held other item core why further (explicitly-declined sig item why all p d) (explicitly-read sig item core all q c) f)
+plain-one options held new other item reply further w stand all (answered p c f) (barred {refusal = refusal} x) = absurd (passes-free held.signature item refusal p x)
+plain-one options held new other item reply further w stand all (answered {core = core} p c f) (declined {why = why} q d) =
+    let sig = held.signature in
+    absurd (declined-unfit options held new item core why reply (explicitly-declined sig item why all q d) (explicitly-read sig item core all p c) f)
+plain-one options held new other item reply further w stand all (answered {core = core} p c f) (answered {core = core'} q d g) =
+    let sig = held.signature in
+    let same_core = some-one _ core' core (explicitly-read sig item core' all q d) (explicitly-read sig item core all p c) in
+    fits-one options held new other core reply further f (subst (λ (c : PlainCore). Fits options held c further other) same_core g)
 
 pub reply_is_one : ReplyIsOne
-reply_is_one options held new other task reply further w at_fault at_fault = (refl, refl)
-reply_is_one options held new other task reply further w (sugar_fault {fault = fault} e) (sugar_fault {fault = f} g) = same-refusal options held _ _ (ap sugar_refusal (some-one _ fault f e g))
-reply_is_one options held new other task reply further w (sugar_fault {fault = fault} e) (plainly clean p) = absurd (not-both _ fault clean e)
-reply_is_one options held new other task reply further w (plainly clean p) (sugar_fault {fault = fault} e) = absurd (not-both _ fault clean e)
-reply_is_one options held new other task reply further w (plainly {item = item} clean p) (plainly neat q) = plain-one options held new other (desugared item) reply further w (written-fits item clean) p q
+reply_is_one options held new other task reply further w all at_fault at_fault = (refl, refl)
+reply_is_one options held new other task reply further w all (sugar_fault {fault = fault} e) (sugar_fault {fault = f} g) = same-refusal options held _ _ (ap sugar_refusal (some-one _ fault f e g))
+reply_is_one options held new other task reply further w all (sugar_fault {fault = fault} e) (plainly clean p) = absurd (not-both _ fault clean e)
+reply_is_one options held new other task reply further w all (plainly clean p) (sugar_fault {fault = fault} e) = absurd (not-both _ fault clean e)
+reply_is_one options held new other task reply further w all (plainly {item = item} clean p) (plainly neat q) = plain-one options held new other (desugared item) reply further w (written-fits item clean) all p q

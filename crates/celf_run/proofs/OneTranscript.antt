@@ -7,7 +7,7 @@ use Rattle.celf_sugar.specs.PlainTree.{DesugaredItem}
 use Rattle.celf_replies.specs.Reply.{PlainReply, is_refusal}
 use Rattle.celf_run.specs.declared.options.Options.{Options}
 use Rattle.celf_run.specs.Source.{Source, Task}
-use Rattle.celf_run.specs.Allowed.{Held, Fits, accepted, typed, same, differing, PlainAllowed, barred, declined, answered, Allowed, at_fault, sugar_fault, plainly}
+use Rattle.celf_run.specs.Allowed.{Held, Fits, accepted, typed, same, differing, PlainAllowed, barred, declined, answered, Allowed, at_fault, sugar_fault, plainly, AsksForNothing}
 use Rattle.celf_run.specs.Transcript.{Turn, Transcribes, over, goes_on, stops}
 use Rattle.celf_run.specs.Laws.{TranscriptIsOne}
 use Rattle.celf_run.proofs.OneReply.{reply_is_one}
@@ -41,37 +41,37 @@ record SameTurn (behind other : Source) (new further : Held) (reply because : Pl
   told : reply ≡ because
 
 turn-one : (options : Options) (source behind other : Source) (held new further : Held) (reply because : PlainReply) → WellFormedSignature held.signature
-    → Turn options source held reply behind new → Turn options source held because other further → SameTurn behind other new further reply because
-turn-one options source behind other held new further reply because b t u =
+    → (t : Turn options source held reply behind new) → AsksForNothing held t.task → Turn options source held because other further → SameTurn behind other new further reply because
+turn-one options source behind other held new further reply because b t all u =
     let next = next_is_one source behind other t.task u.task t.next u.next in
-    let one = reply_is_one options held new further t.task reply because b t.allowed (subst (λ (k : Task). Allowed options held k because further) (sym next.0) u.allowed) in
+    let one = reply_is_one options held new further t.task reply because b all t.allowed (subst (λ (k : Task). Allowed options held k because further) (sym next.0) u.allowed) in
     record { source = next.1; held = one.1; told = one.0 }
 
 different : (b : Bool) → b ≡ false → b ≡ true → ⊥
 different b e f = cc
 
 pub transcript_is_one : TranscriptIsOne
-transcript_is_one options source held last end bytes others status because b (over x) (over y) = (refl, refl, refl)
-transcript_is_one options source held last end bytes others status because b (over x) (goes_on {behind = behind} t r g) = absurd (nothing_is_next source behind t.task x t.next)
-transcript_is_one options source held last end bytes others status because b (over x) (stops {behind = behind} t r) = absurd (nothing_is_next source behind t.task x t.next)
-transcript_is_one options source held last end bytes others status because b (goes_on {behind = behind} t r g) (over x) = absurd (nothing_is_next source behind t.task x t.next)
-transcript_is_one options source held last end bytes others status because b (stops {behind = behind} t r) (over x) = absurd (nothing_is_next source behind t.task x t.next)
-transcript_is_one options source held last end bytes others status because b (goes_on {behind = behind} {new = new} {reply = reply} t r g) (stops {behind = behind'} {new = new'} {reply = reply'} u s) =
-    let same = turn-one options source behind behind' held new new' reply reply' b t u in
+transcript_is_one options source held last end bytes others status because b (over x) all (over y) = (refl, refl, refl)
+transcript_is_one options source held last end bytes others status because b (over x) all (goes_on {behind = behind} t r g) = absurd (nothing_is_next source behind t.task x t.next)
+transcript_is_one options source held last end bytes others status because b (over x) all (stops {behind = behind} t r) = absurd (nothing_is_next source behind t.task x t.next)
+transcript_is_one options source held last end bytes others status because b (goes_on {behind = behind} t r g) all (over x) = absurd (nothing_is_next source behind t.task x t.next)
+transcript_is_one options source held last end bytes others status because b (stops {behind = behind} t r) all (over x) = absurd (nothing_is_next source behind t.task x t.next)
+transcript_is_one options source held last end bytes others status because b (goes_on {behind = behind} {new = new} {reply = reply} t r g) all (stops {behind = behind'} {new = new'} {reply = reply'} u s) =
+    let same = turn-one options source behind behind' held new new' reply reply' b t all.0 u in
     absurd (different (is_refusal reply) r (ap is_refusal same.told ∙ s))
-transcript_is_one options source held last end bytes others status because b (stops {behind = behind} {new = new} {reply = reply} t r) (goes_on {behind = behind'} {new = new'} {reply = reply'} u s g) =
-    let same = turn-one options source behind behind' held new new' reply reply' b t u in
+transcript_is_one options source held last end bytes others status because b (stops {behind = behind} {new = new} {reply = reply} t r) all (goes_on {behind = behind'} {new = new'} {reply = reply'} u s g) =
+    let same = turn-one options source behind behind' held new new' reply reply' b t all u in
     absurd (different (is_refusal reply) (ap is_refusal same.told ∙ s) r)
-transcript_is_one options source held last end bytes others status because b (stops {behind = behind} {new = new} {reply = reply} t r) (stops {behind = behind'} {new = new'} {reply = reply'} u s) =
-    let same = turn-one options source behind behind' held new new' reply reply' b t u in
+transcript_is_one options source held last end bytes others status because b (stops {behind = behind} {new = new} {reply = reply} t r) all (stops {behind = behind'} {new = new'} {reply = reply'} u s) =
+    let same = turn-one options source behind behind' held new new' reply reply' b t all u in
     let held_is = same.held in
     let reply_is = same.told in
     rw (held_is, reply_is) (refl, refl, refl)
-transcript_is_one options source held last end bytes others status because b (goes_on {behind = behind} {new = new} {reply = reply} {rest = rest} t r g) (goes_on {behind = behind'} {new = new'} {reply = reply'} {rest = rest'} u s h) =
-    let same = turn-one options source behind behind' held new new' reply reply' b t u in
+transcript_is_one options source held last end bytes others status because b (goes_on {behind = behind} {new = new} {reply = reply} {rest = rest} t r g) all (goes_on {behind = behind'} {new = new'} {reply = reply'} {rest = rest'} u s h) =
+    let same = turn-one options source behind behind' held new new' reply reply' b t all.0 u in
     let there = subst (λ (x : Source). Transcribes options x new' rest' because end) (sym same.source) h in
     let here = subst (λ (x : Held). Transcribes options behind x rest' because end) (sym same.held) there in
-    let more = transcript_is_one options behind new last end rest rest' status because (allowed-formed options held new t.task reply b t.allowed) g here in
+    let more = transcript_is_one options behind new last end rest rest' status because (allowed-formed options held new t.task reply b t.allowed) g all.1 here in
     let held_is = same.held in
     let reply_is = same.told in
     let rest_is = more.0 in

@@ -7,6 +7,7 @@ use Rattle.clf_rules.specs.WellFormed.{WellFormedSignature}
 use Rattle.clf_printer.specs.Depth.{class_depth}
 use Rattle.clf_printer.specs.Metas.{appearing_class}
 use Rattle.celf_surface.specs.Surface.{WrittenItem}
+use Rattle.celf_sugar.specs.PlainTree.{DesugaredBody}
 use Rattle.celf_sugar.specs.Sugar.{desugared}
 use Rattle.celf_explicit.specs.Explicit.{explicit}
 use Rattle.celf_meaning.specs.ReadingBack.{ReadsAs}
@@ -14,9 +15,10 @@ use Rattle.celf_reading.proofs.Named.{class-formed-printable}
 use Rattle.celf_reading.proofs.LinesBack.{entry_reads_back, check_lines_read_back}
 use Rattle.celf_replies.specs.Reply.{PlainReply, entry, checked, equal, different, refused}
 use Rattle.celf_replies.specs.Text.{IsNumbered}
+use Rattle.celf_reconstruct.specs.Reconstructed.{Reconstructs, found_check, found_declaration}
 use Rattle.celf_run.specs.declared.options.Options.{Options}
 use Rattle.celf_run.specs.Source.{Task}
-use Rattle.celf_run.specs.Allowed.{Held, Fits, accepted, typed, same, differing, is_explicit, PlainAllowed, barred, declined, answered, Allowed, at_fault, sugar_fault, plainly}
+use Rattle.celf_run.specs.Allowed.{Held, HasCore, is_explicit, is_found, Fits, accepted, typed, same, differing, PlainAllowed, barred, declined, answered, Allowed, at_fault, sugar_fault, plainly}
 use Rattle.celf_run.specs.Transcript.{ReadsBack}
 use Rattle.celf_run.proofs.Cores.{declared-small}
 use Rattle.celf_run.proofs.Lines.{get-behind, entry-line}
@@ -25,12 +27,39 @@ use Rattle.celf_run.proofs.Lines.{get-behind, entry-line}
 numbered-entry : (sig : PlainSignature) (name : List ℕ) (e : PlainEntry) → IsNumbered (sig ++ (name, e) ∷ []) (entry (length sig)) → class_depth e.class < 2 ^ 64
 numbered-entry sig name e n = n e (ap (option_map (λ (d : Declaration). d.1)) (get-behind sig (name, e)))
 
+-- A declared entry has fewer than 2 ^ 32 implicit arguments.
+abbrev IsSmall : PlainCore → Type 0
+IsSmall (declares name e) = e.implicit < 2 ^ 32
+IsSmall (queries a) = Unit {0}
+IsSmall (traces t) = Unit {0}
+IsSmall (equates n o a) = Unit {0}
+IsSmall (checks n a) = Unit {0}
+
+explicit-small : (sig : PlainSignature) (item : WrittenItem) (core : PlainCore) → explicit sig (desugared item) ≡ Some core → IsSmall core
+explicit-small sig item (declares name e) h = declared-small sig item name e h
+explicit-small sig item (queries a) h = tt
+explicit-small sig item (traces t) h = tt
+explicit-small sig item (equates n o a) h = tt
+explicit-small sig item (checks n a) h = tt
+
+found-small : (sig : PlainSignature) (body : DesugaredBody) (core : PlainCore) → Reconstructs sig body core → IsSmall core
+found-small sig body (declares name e) (found_check c f n) = absurd c
+found-small sig body (declares name e) (found_declaration f n b d) = d.counted
+found-small sig body (queries a) r = tt
+found-small sig body (traces t) r = tt
+found-small sig body (equates n o a) r = tt
+found-small sig body (checks n a) r = tt
+
+core-small : (sig : PlainSignature) (item : WrittenItem) (core : PlainCore) → HasCore sig (desugared item) core → IsSmall core
+core-small sig item core (is_explicit h) = explicit-small sig item core h
+core-small sig item core (is_found hidden r) = found-small sig (desugared item).body core r
+
 fits-reads_back : (options : Options) (held new : Held) (item : WrittenItem) (core : PlainCore) (reply : PlainReply) → WellFormedSignature held.signature
-    → explicit held.signature (desugared item) ≡ Some core → Fits options held core reply new → IsNumbered new.signature reply → ReadsBack options held reply new
+    → IsSmall core → Fits options held core reply new → IsNumbered new.signature reply → ReadsBack options held reply new
 fits-reads_back options held new item (declares name e) (entry k) w h (accepted may) n =
     let sig = held.signature in
     let small = numbered-entry sig name e n in
-    let back = entry_reads_back sig (appearing_class [] e.class) name e w may.0 may.2 (declared-small sig item name e h) small in
+    let back = entry_reads_back sig (appearing_class [] e.class) name e w may.0 may.2 h small in
     (name, e, refl, subst (λ (l : List ℕ). ReadsAs sig l (declares name e)) (sym (entry-line sig name e (class-formed-printable sig w e.class small may.2.0))) back)
 fits-reads_back options held new item (checks o a) (checked o' a') w h (typed t) n = check_lines_read_back held.signature o a w t.formed t.has n.0 n.1
 fits-reads_back options held new item (equates o p a) reply w h (same t u j) n = tt
@@ -50,7 +79,7 @@ plain-reads_back : (options : Options) (held new : Held) (item : WrittenItem) (r
     → PlainAllowed options held (desugared item) reply new → IsNumbered new.signature reply → ReadsBack options held reply new
 plain-reads_back options held new item reply w (barred x) n = tt
 plain-reads_back options held new item reply w (declined p x) n = tt
-plain-reads_back options held new item reply w (answered {core = core} p (is_explicit h) f) n = fits-reads_back options held new item core reply w h f n
+plain-reads_back options held new item reply w (answered {core = core} p c f) n = fits-reads_back options held new item core reply w (core-small held.signature item core c) f n
 
 -- Over a well-formed signature the lines of an allowed reply read back, where the numbers of its variables are written whole.
 pub allowed-reads_back : (options : Options) (held new : Held) (task : Task) (reply : PlainReply) → WellFormedSignature held.signature

@@ -16,10 +16,11 @@ use Rattle.celf_sugar.specs.Faults.{first_fault, fault_start}
 use Rattle.celf_sugar.specs.Sugar.{desugared}
 use Rattle.celf_sugar.specs.PlainTree.{DesugaredBody, declare, query, trace, equal, check, DesugaredItem}
 use Rattle.celf_unknown.specs.Unknown.{first_unknown}
-use Rattle.celf_replies.specs.Reply.{PlainWhy, kind_place, not_async, redex, out_of_range, bad_implicit, duplicate, full, unknown_name, kernel, not_yet, PlainRefusal, PlainReply, entry, checked, equal as equal_reply, different as different_reply, refused}
+use Rattle.celf_replies.specs.Reply.{PlainWhy, kind_place, not_async, redex, out_of_range, bad_implicit, duplicate, full, unknown_name, kernel, rejected, not_yet, PlainRefusal, PlainReply, entry, checked, equal as equal_reply, different as different_reply, refused}
 use Rattle.celf_run.specs.declared.options.Options.{Options}
 use Rattle.clf_sig.specs.Core.{PlainCore, declares, queries, traces, equates, checks}
 use Rattle.celf_explicit.specs.Explicit.{explicit}
+use Rattle.celf_reconstruct.specs.Reconstructed.{Reconstructs, Declines}
 use Rattle.celf_run.specs.Source.{Task, written, faulty}
 
 -- what a run holds between two tasks
@@ -59,9 +60,14 @@ pub record Passes (sig : PlainSignature) (item : DesugaredItem) : Type 0 where
   pub name : NamePasses sig item
   pub known : first_unknown sig item ≡ None
 
--- The item has this core.
+-- Something is to be found for the item: it is not explicit.
+abbrev pub HasHidden : PlainSignature → DesugaredItem → Type 0
+HasHidden sig item = explicit sig item ≡ None
+
+-- The item has this core: it is explicit, or something is found for all that is not written.
 pub data HasCore (sig : PlainSignature) (item : DesugaredItem) : PlainCore → Type 0 where
   is_explicit : {core : PlainCore} → explicit sig item ≡ Some core → HasCore sig item core
+  is_found : {core : PlainCore} → HasHidden sig item → Reconstructs sig item.body core → HasCore sig item core
 
 -- The rules form the type and give it to the object.
 pub record IsTyped (sig : PlainSignature) (n : PlainObject) (a : PlainType) : Type 0 where
@@ -99,11 +105,13 @@ IsBeyondReach (traces t) = Unit {0}
 IsBeyondReach (equates n o a) = ⊥
 IsBeyondReach (checks n a) = ⊥
 
--- Why an item that passes is declined: by the rules, or since it is out of reach so far, as every item is that is not explicit.
+-- Why an item that passes is declined: by the rules, or since nothing can be found for what is not written, or since it is out of reach so far.
 pub data Declined (sig : PlainSignature) (item : DesugaredItem) : PlainWhy → Type 0 where
-  by_rules : {core : PlainCore} {path : List ℕ} {cause : Cause} → HasCore sig item core → IsExplained sig core path cause → Declined sig item (kernel path cause)
-  not_explicit : explicit sig item ≡ None → Declined sig item not_yet
-  not_answered : {core : PlainCore} → HasCore sig item core → IsBeyondReach core → Declined sig item not_yet
+  by_rules : {core : PlainCore} {path : List ℕ} {cause : Cause} → explicit sig item ≡ Some core → IsExplained sig core path cause → Declined sig item (kernel path cause)
+  by_rules_found : {core : PlainCore} {path : List ℕ} {cause : Cause} → HasHidden sig item → Reconstructs sig item.body core → IsExplained sig core path cause
+      → Declined sig item (rejected path cause)
+  not_found : {why : PlainWhy} → HasHidden sig item → Declines sig item.body why → Declined sig item why
+  not_answered : {core : PlainCore} → explicit sig item ≡ Some core → IsBeyondReach core → Declined sig item not_yet
 
 -- The reply fits the core, and this is held after it.
 pub data Fits (options : Options) (held : Held) : PlainCore → PlainReply → Held → Type 0 where
@@ -125,6 +133,10 @@ pub data PlainAllowed (options : Options) (held : Held) (item : DesugaredItem) :
   answered : {core : PlainCore} {reply : PlainReply} {new : Held} → Passes held.signature item → HasCore held.signature item core → Fits options held core reply new
       → PlainAllowed options held item reply new
 
+-- Nothing is to be found for an item that passes: it is explicit.
+abbrev pub NothingHidden : PlainSignature → DesugaredItem → Type 0
+NothingHidden sig item = Passes sig item → HasHidden sig item → ⊥
+
 -- What is said of a fault beyond the grammar. No item has lack of memory as its fault.
 abbrev pub sugar_why : SugarFault → PlainWhy
 sugar_why (KindPlace s) = kind_place
@@ -143,3 +155,8 @@ pub data Allowed (options : Options) (held : Held) : Task → PlainReply → Hel
   sugar_fault : {item : WrittenItem} {fault : SugarFault} → first_fault item ≡ Some fault → Allowed options held (written item) (refused (sugar_refusal fault)) held
   plainly : {item : WrittenItem} {reply : PlainReply} {new : Held} → first_fault item ≡ None → PlainAllowed options held (desugared item) reply new
       → Allowed options held (written item) reply new
+
+-- Nothing is to be found for what is written of the task, where it is an item that is read to its end.
+abbrev pub AsksForNothing : Held → Task → Type 0
+AsksForNothing held (written item) = NothingHidden held.signature (desugared item)
+AsksForNothing held (faulty refusal) = Unit {0}

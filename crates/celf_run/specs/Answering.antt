@@ -18,7 +18,7 @@ use Rattle.trace_equal.specs.Exchange.{Joined}
 use Rattle.celf_sugar.specs.PlainTree.{DesugaredClass, declare, DesugaredItem}
 use Rattle.celf_sugar.specs.ClassLeading.{class_leading}
 use Rattle.celf_replies.specs.declared.reply.Reply.{Reply}
-use Rattle.celf_replies.specs.Reply.{PlainWhy, kernel, not_yet, unknown_name, PlainRefusal, PlainReply, equal, different, plain_reply, refused}
+use Rattle.celf_replies.specs.Reply.{PlainWhy, bad_byte, long_name, unexpected, directive, too_deep, kind_place, not_async, redex, out_of_range, bad_implicit, duplicate, full, unknown_name, kernel, undetermined, ill_typed, unresolved, loose, circular, rejected, not_yet, PlainRefusal, PlainReply, entry, checked, equal, different, plain_reply, refused}
 use Rattle.celf_run.specs.declared.options.Options.{Options}
 use Rattle.clf_sig.specs.Core.{PlainCore, declares, queries, traces, equates, checks}
 use Rattle.celf_run.specs.Allowed.{Held, declared_name, NameBarred, NamePasses, IsUntyped, IsIllFormed, IsExplained, IsBeyondReach, Fits}
@@ -45,7 +45,11 @@ MayBeAdded sig (traces t) = Unit {0}
 MayBeAdded sig (equates n o a) = Unit {0}
 MayBeAdded sig (checks n a) = Unit {0}
 
--- the refusal of an item that begins at a byte, by the rules
+-- the refusal of an item that begins at a byte
+abbrev pub refused_for : ℕ → PlainWhy → PlainReply
+refused_for at why = refused (record { at = at; why = why })
+
+-- by the rules
 abbrev pub refused_by_rules : ℕ → List ℕ → Cause → PlainReply
 refused_by_rules at path cause = refused (record { at = at; why = kernel path cause })
 
@@ -87,6 +91,37 @@ ExplainsCore sig core part (TooFar w) = IsWide w
 -- The reply tells whether two objects are joined.
 abbrev pub Compares : PlainObject → PlainObject → PlainReply → Type 0
 Compares n o reply = ((reply ≡ equal) × Joined n o) ⊎ ((reply ≡ different) × (Joined n o → ⊥))
+
+-- what is said of a refusal by the rules where something was found
+abbrev pub why_of_found : PlainWhy → PlainWhy
+why_of_found (kernel path cause) = rejected path cause
+why_of_found bad_byte = bad_byte
+why_of_found long_name = long_name
+why_of_found (unexpected end) = unexpected end
+why_of_found directive = directive
+why_of_found too_deep = too_deep
+why_of_found kind_place = kind_place
+why_of_found not_async = not_async
+why_of_found redex = redex
+why_of_found out_of_range = out_of_range
+why_of_found bad_implicit = bad_implicit
+why_of_found (duplicate name) = duplicate name
+why_of_found full = full
+why_of_found (unknown_name name) = unknown_name name
+why_of_found (undetermined name) = undetermined name
+why_of_found (ill_typed m) = ill_typed m
+why_of_found (unresolved ss) = unresolved ss
+why_of_found (loose count) = loose count
+why_of_found (circular names) = circular names
+why_of_found (rejected path cause) = rejected path cause
+why_of_found not_yet = not_yet
+
+abbrev pub reply_of_found : PlainReply → PlainReply
+reply_of_found (entry k) = entry k
+reply_of_found (checked n a) = checked n a
+reply_of_found equal = equal
+reply_of_found different = different
+reply_of_found (refused r) = refused (record { at = r.at; why = why_of_found r.why })
 
 -- What a core of an item that begins at a byte comes to: a reply that fits, the refusal by the rules, or that it is out of reach.
 pub data AnswersCore (options : Options) (held : Held) (at : ℕ) (core : PlainCore) : PlainReply → Held → Type 0 where

@@ -12,6 +12,7 @@ ghost use Rattle.celf_run.specs.Source.{written};
 ghost use Rattle.clf_syntax.specs.Wide.{IsWant};
 
 use crate::fault::sugar_refusal;
+use crate::found::answer_found;
 use crate::judged::answer_core;
 use crate::name::barred_name;
 use crate::options::Options;
@@ -98,10 +99,7 @@ fn answer_named(
     let at = plain.span.start;
     match explicit(alloc, sig, plain) {
         Ok(Some(core)) => answer_core(alloc, sig, options, at, core),
-        Ok(None) => Ok(Reply::Refused {
-            at,
-            why: Why::NotYet,
-        }),
+        Ok(None) => answer_found(alloc, sig, options, plain),
         Err(OrWide::Fault(unknown)) => Ok(unknown_name(unknown)),
         Err(OrWide::NoMemory) => Err(Want::NoMemory),
         Err(OrWide::TooFar(wide)) => Err(Want::TooFar(wide)),

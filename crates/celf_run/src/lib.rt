@@ -3,6 +3,7 @@
 
 mod answer;
 mod fault;
+mod found;
 mod judged;
 mod laws;
 mod name;

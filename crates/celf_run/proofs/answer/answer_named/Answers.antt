@@ -6,7 +6,7 @@ use Rattle.clf_sig.specs.Signature.{plain_signature}
 use Rattle.clf_sig.specs.Core.{plain_core}
 use Rattle.celf_sugar.specs.Plain.{desugared_item}
 use Rattle.celf_replies.specs.Reply.{PlainReply, plain_reply, refused}
-use Rattle.celf_run.specs.Allowed.{holding, PlainAllowed, barred, declined, not_explicit}
+use Rattle.celf_run.specs.Allowed.{holding, PlainAllowed, barred}
 use Rattle.celf_run.specs.Answering.{unknown_refusal}
 use Rattle.celf_run.proofs.Answering.{may-be-added, core-answers, unknown-barred}
 use Rattle.celf_run.proofs.answer.answer_named.Goals as goal
@@ -24,9 +24,11 @@ returns-in-Ok-Some-clause-allowed c =
     core-answers c.args.options.now sig (plain_signature c.answer_core.new.sig) item (plain_core c.in-Ok-Some.core) c.answer_core.result c.requires.passes c.in-Ok-Some.ensures.0
     (sym c.in-Ok-Some.ensures.1 ∙ ap (option_map plain_core) c.in-Ok-Some.field-0-is) c.answer_core.ensures.answered
 
-pub returns-in-Ok-None-clause-allowed : goal.returns-in-Ok-None-clause-allowed
-returns-in-Ok-None-clause-allowed c =
-    declined (record { name = c.requires.passes; known = c.in-Ok-None.ensures.0 }) (not_explicit (sym c.in-Ok-None.ensures.1 ∙ ap (option_map plain_core) c.in-Ok-None.field-0-is))
+pub answer_found-requires-clause-known : goal.answer_found-requires-clause-known
+answer_found-requires-clause-known c = c.in-Ok-None.ensures.0
+
+pub answer_found-requires-clause-hidden : goal.answer_found-requires-clause-hidden
+answer_found-requires-clause-hidden c = sym c.in-Ok-None.ensures.1 ∙ ap (option_map plain_core) c.in-Ok-None.field-0-is
 
 pub returns-in-Err-Fault-clause-allowed : goal.returns-in-Err-Fault-clause-allowed
 returns-in-Err-Fault-clause-allowed c =

@@ -1,0 +1,13 @@
+pub mod Ranges
+pub mod Families
+pub mod Variables
+pub mod Reading
+pub mod Settling
+pub mod Appearing
+pub mod NameSteps
+pub mod NamedBy
+pub mod NamedScene
+pub mod WholeObjects
+pub mod WholeItems
+pub mod NoTree
+pub mod Answering

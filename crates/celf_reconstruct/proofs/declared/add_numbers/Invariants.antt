@@ -1,0 +1,6 @@
+-- What is added, with what is still to be added, is the whole.
+use Rattle.std.proofs.Common.{◌≡◌, ◌++◌, drop}
+use Rattle.celf_reconstruct.proofs.declared.add_numbers.Given as goal
+
+abbrev pub invariant-loop-number : goal.invariant-loop-number
+invariant-loop-number l = l.numbers ++ drop l.number-index l.more ≡ l.fn.numbers ++ l.more

@@ -1,0 +1,11 @@
+pub use Rattle.celf_elaboration.specs.Items
+pub use Rattle.celf_replies.specs.Reply
+pub use Rattle.celf_solve.specs.Settled
+pub use Rattle.filled_laws.specs.Laws
+pub mod Trees
+pub mod Left
+pub mod Posed
+pub mod Reconstructed
+pub mod Known
+pub mod Steps
+pub mod Naming
