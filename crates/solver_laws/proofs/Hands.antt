@@ -1,10 +1,11 @@
--- Equations in hand: they are typed, mention nothing solved, and are solved by all that solves the given ones; and they go on with the solutions.
+-- Equations in hand: they are typed, mention nothing solved, and are solved by all that solves the given ones; and they go on with the solutions, as those that are held do.
 use Rattle.std.specs.Prelude.{ℕ, true, false, ◌≡◌, ◌||◌, Bool, [], ◌∷◌, length, Some, refl}
-use Rattle.std.proofs.Common.{sym, subst}
+use Rattle.std.proofs.Common.{sym, subst, ◌∙◌}
 use Rattle.clf_syntax.specs.Tree.{PlainObject, PlainNeutral}
 use Rattle.clf_syntax.specs.TypeTree.{SimpleType}
 use Rattle.clf_syntax.specs.Simple.{Assignment, SimplyTyped}
 use Rattle.hered_subst.specs.Substitution.{under}
+use Rattle.hered_subst.proofs.Determined.{determined}
 use Rattle.subst_laws.specs.Environments.{Instantiation, instant, ComposedInstantiation}
 use Rattle.subst_laws.proofs.Environs.{instant_is_environment}
 use Rattle.subst_laws.proofs.Results.{composition}
@@ -16,13 +17,14 @@ use Rattle.pattern_laws.proofs.Instances.{typed_scoped, composed_scoped}
 use Rattle.unify_laws.specs.Parts.{PartAt, part_here, part_function, part_fst, part_snd}
 use Rattle.unify_laws.specs.Problems.{Problem, Grows, Consequence}
 use Rattle.unify_laws.proofs.Consequences.{listed_solved}
+use Rattle.unify_laws.proofs.Preserved.{equations_more}
 use Rattle.reach_laws.specs.Rest.{IsAssignment, PartOf, part_itself, part_body, part_left, part_right, part_argument, EquationUnder}
 use Rattle.reach_laws.proofs.PartsUnder.{part_typed, parts_stay, some_result}
 use Rattle.reach_laws.proofs.Rests.{typed_listed, typed_under, part_solved, each_solved, put_in_types}
 use Rattle.answer_laws.proofs.InTurn.{part_of_part}
-use Rattle.solver_laws.specs.Solving.{Solving, InHand, unsolved_types}
+use Rattle.solver_laws.specs.Solving.{Solving, InHand, Held, unsolved_types}
 use Rattle.solver_laws.proofs.Grown.{part_grown}
-use Rattle.solver_laws.proofs.Open.{open_typed, open_silent, equation_open}
+use Rattle.solver_laws.proofs.Open.{open_typed, open_silent, equation_open, put_in_twice}
 
 first_false : (a b : Bool) → a || b ≡ false → a ≡ false
 first_false true b e = absurd (cc)
@@ -87,12 +89,31 @@ absorbed constants metas s v first second both ls x y z a p i k = (composition n
     (typed_scoped (closed constants metas) (closed constants metas) v ((instant_is_environment (closed constants metas)).0 (closed constants metas) v second) ls)
     (composed_scoped (closed constants metas) s v v ((instant_is_environment (closed constants metas)).1 s v v both) ls)).object x y z a p i k
 
+-- What v makes of an equation after s, where it does what s does and then itself, it makes of the equation.
+under_absorbed : (constants metas : Types) (s v : Instantiation) → IsAssignment constants metas s → IsAssignment constants metas v → ComposedInstantiation (closed constants metas) s v v
+    → (e d u : Equation) → TypedEquation constants metas e → EquationUnder s e d → EquationUnder v d u → EquationUnder v e u
+under_absorbed constants metas s v first second both e d u t i k = record {
+  locals = k.locals ∙ i.locals;
+  type = k.type ∙ i.type;
+  left = absorbed constants metas s v first second both e.locals e.left d.left u.left e.type t.0 i.left (subst (λ ls. Instantiated (length ls) v d.left u.left) i.locals k.left);
+  right = absorbed constants metas s v first second both e.locals e.right d.right u.right e.type t.1 i.right (subst (λ ls. Instantiated (length ls) v d.right u.right) i.locals k.right);
+}
+
+-- An assignment makes one equation of each.
+pub result_under : (constants metas : Types) (v : Instantiation) → IsAssignment constants metas v → (e : Equation) → TypedEquation constants metas e → (d : Equation) × EquationUnder v e d
+result_under constants metas v f e t = let (x, i, _) = some_result constants metas v f e.locals e.left e.type t.0 in let (y, k, _) = some_result constants metas v f e.locals e.right e.type t.1 in
+    (record { locals = e.locals; left = x; right = y; type = e.type }, record { locals = refl; type = refl; left = i; right = k })
+
+same_equation : (d u : Equation) → d.locals ≡ u.locals → d.left ≡ u.left → d.right ≡ u.right → d.type ≡ u.type → d ≡ u
+same_equation d u a b c e = rw (a, b, c, e) refl
+
+pub one_under : (s : Instantiation) (e d u : Equation) → EquationUnder s e d → EquationUnder s e u → d ≡ u
+one_under s e d u i k = same_equation d u (i.locals ∙ sym k.locals) (determined i.left k.left) (determined i.right k.right) (i.type ∙ sym k.type)
+
 -- What is in hand goes on with more solutions.
-pub hand_moves : (constants : Types) (start now then : Problem) (s v : Instantiation) → Solving constants start now s → Solving constants start then v → Grows now.metas then.metas
+hand_moves : (constants : Types) (start now then : Problem) (s v : Instantiation) → Solving constants start now s → Solving constants start then v → Grows now.metas then.metas
     → ComposedInstantiation (closed constants then.metas) s v v → IsAssignment constants then.metas s → (e d : Equation) → InHand constants start now s e → EquationUnder v e d → InHand constants start then v d
-hand_moves constants start now then s v before after grows both first e d h u = of
-    (some_result constants then.metas v after.put_in.assigns h.after.locals h.after.left h.after.type typed_after.0)
-    (some_result constants then.metas v after.put_in.assigns h.after.locals h.after.right h.after.type typed_after.1)
+hand_moves constants start now then s v before after grows both first e d h u = of (result_under constants then.metas v after.put_in.assigns h.after typed_after)
   where
     typed_given : TypedEquation constants then.metas h.equation
     typed_given = typed_listed constants then.metas h.equation start.equations h.listed (given_typed constants start then v after)
@@ -100,23 +121,49 @@ hand_moves constants start now then s v before after grows both first e d h u = 
     typed_after : TypedEquation constants then.metas h.after
     typed_after = (typed_under constants then.metas s first (h.equation ∷ []) (h.after ∷ []) (typed_given, tt) (h.is_under, tt)).0
 
-    in_turn : (x y z : PlainObject) → SimplyTyped (scoped h.equation.locals (closed constants then.metas)) x h.equation.type → Instantiated (length h.equation.locals) s x y → Instantiated (length h.after.locals) v y z → Instantiated (length h.equation.locals) v x z
-    in_turn x y z p i k = absorbed constants then.metas s v first after.put_in.assigns both h.equation.locals x y z h.equation.type p i (subst (λ ls. Instantiated (length ls) v y z) h.is_under.locals k)
-
-    of : (x : PlainObject) × Instantiated (length h.after.locals) v h.after.left x × SimplyTyped (scoped h.after.locals (closed constants then.metas)) x h.after.type
-        → (y : PlainObject) × Instantiated (length h.after.locals) v h.after.right y × SimplyTyped (scoped h.after.locals (closed constants then.metas)) y h.after.type
-        → InHand constants start then v d
-    of (x, ix, _) (y, iy, _) = record {
+    of : (x : Equation) × EquationUnder v h.after x → InHand constants start then v d
+    of (x, i) = record {
       equation = h.equation;
-      after = record { locals = h.after.locals; left = x; right = y; type = h.after.type };
+      after = x;
       listed = h.listed;
-      is_under = record {
-        locals = h.is_under.locals;
-        type = h.is_under.type;
-        left = in_turn h.equation.left h.after.left x typed_given.0 h.is_under.left ix;
-        right = in_turn h.equation.right h.after.right y typed_given.1 h.is_under.right iy;
-      };
-      is_part = (parts_stay constants then.metas h.after e (part_grown constants now.metas then.metas grows h.is_part) typed_after).1 v after.put_in.assigns
-          (record { locals = h.after.locals; left = x; right = y; type = h.after.type }) d
-          (record { locals = refl; type = refl; left = ix; right = iy }) u;
+      is_under = under_absorbed constants then.metas s v first after.put_in.assigns both h.equation h.after x typed_given h.is_under i;
+      is_part = (parts_stay constants then.metas h.after e (part_grown constants now.metas then.metas grows h.is_part) typed_after).1 v after.put_in.assigns x d i u;
+    }
+
+-- ---- equations that are held
+
+module _ (constants : Types) (start now : Problem) (s : Instantiation) (solving : Solving constants start now s) where
+  -- The solutions leave what is in hand as it is.
+  pub hand_holds : (e : Equation) → InHand constants start now s e → Held constants start now s e
+  hand_holds e h = let (d, u) = result_under constants now.metas s solving.put_in.assigns e typed in record {
+    typed = typed;
+    after = d;
+    is_under = u;
+    in_hand = hand_moves constants start now now s s solving solving (λ m a f. f)
+        (put_in_twice constants now.metas now.given s solving.put_in.put_in (solving_gives constants start now s solving)) solving.put_in.assigns e d h u;
+  }
+    where
+      typed : TypedEquation constants now.metas e
+      typed = hand_typed constants start now s solving e h
+
+  pub held_hand : (e d : Equation) → Held constants start now s e → EquationUnder s e d → InHand constants start now s d
+  held_hand e d h u = subst (InHand constants start now s) (one_under s e h.after d h.is_under u) h.in_hand
+
+-- What is held goes on with more solutions.
+pub held_moves : (constants : Types) (start now then : Problem) (s v : Instantiation) → Solving constants start now s → Solving constants start then v → Grows now.metas then.metas
+    → ComposedInstantiation (closed constants then.metas) s v v → IsAssignment constants then.metas s → (e : Equation) → Held constants start now s e → Held constants start then v e
+held_moves constants start now then s v before after grows both first e h = of (result_under constants then.metas v after.put_in.assigns h.after typed_after)
+  where
+    typed : TypedEquation constants then.metas e
+    typed = (equations_more constants now.metas then.metas grows (e ∷ []) (h.typed, tt)).0
+
+    typed_after : TypedEquation constants then.metas h.after
+    typed_after = (typed_under constants then.metas s first (e ∷ []) (h.after ∷ []) (typed, tt) (h.is_under, tt)).0
+
+    of : (u : Equation) × EquationUnder v h.after u → Held constants start then v e
+    of (u, i) = record {
+      typed = typed;
+      after = u;
+      is_under = under_absorbed constants then.metas s v first after.put_in.assigns both e h.after u typed h.is_under i;
+      in_hand = hand_moves constants start now then s v before after grows both first h.after u h.in_hand i;
     }

@@ -7,25 +7,24 @@ use Rattle.clf_syntax.specs.Tree.{PlainObject, atomic, head_alone}
 use Rattle.clf_syntax.specs.TypeTree.{SimpleType}
 use Rattle.subst_laws.specs.Environments.{Instantiation}
 use Rattle.store_laws.specs.Additions.{Addition, new, meta_types, given, set}
-use Rattle.store_laws.specs.PutIn.{IsClosed}
 use Rattle.pattern_laws.specs.Instantiations.{Types}
 use Rattle.pattern_laws.specs.Equations.{Equation, Listed}
 use Rattle.pattern_laws.specs.Patterns.{on, lams, arrows, masked}
 use Rattle.unify_laws.specs.Problems.{Problem, Grows, WellTyped}
 use Rattle.unify_laws.proofs.Preserved.{progress_start, grows_new}
 use Rattle.unify_laws.proofs.Steps.{none_back}
-use Rattle.reach_laws.specs.Rest.{part_itself, EachUnder}
+use Rattle.reach_laws.specs.Rest.{part_itself}
 use Rattle.reach_laws.specs.Unified.{OnlyAdds}
 use Rattle.reach_laws.proofs.Tight.{tight}
-use Rattle.answer_laws.proofs.InTurn.{listed_back}
-use Rattle.solver_laws.specs.Solving.{Solving, InHand, problem_of, Ready, ArePutIn, Working}
+use Rattle.reach_laws.proofs.Rests.{typed_listed}
+use Rattle.solver_laws.specs.Solving.{Solving, InHand, Held, problem_of, Ready, Working}
 use Rattle.solver_laws.specs.Steps.{assigned_more, narrowed_more}
-use Rattle.solver_laws.specs.Laws.{MayNarrow, WorkStarts, WorkBegins, WorkAssigns, WorkNarrows, WorkReduces, WorkEnds, WorkClashes}
+use Rattle.solver_laws.specs.Laws.{MayNarrow, WorkStarts, WorkBegins, WorkTakes, WorkAssigns, WorkNarrows, WorkReduces, WorkEnds, WorkClashes}
 use Rattle.solver_laws.proofs.Grown.{some_none}
-use Rattle.solver_laws.proofs.Hands.{solving_gives, hand_open, hand_follows, part_in_hand, hand_moves}
+use Rattle.solver_laws.proofs.Hands.{hand_open, hand_follows, part_in_hand, result_under, hand_holds, held_hand, held_moves}
 use Rattle.solver_laws.proofs.Taking.{problem, Goes, solving_assigns, solving_narrows}
 use Rattle.solver_laws.proofs.Stores.{types_in, types_new, types_solved, given_new, given_solved, no_type_yet, Whole, whole}
-use Rattle.solver_laws.proofs.Allowed.{gives_closed, assign_is_allowed, narrow_is_allowed}
+use Rattle.solver_laws.proofs.Allowed.{assign_is_allowed, narrow_is_allowed}
 
 well_typed : (constants : List SimpleType) (zs : List Addition) (es : List Equation) → Ready constants zs es → WellTyped (slice_get constants) (problem_of zs es)
 well_typed constants zs es ready = (ready.typed, (whole constants zs ready.store).given_types, ready.final)
@@ -43,35 +42,34 @@ work_starts constants zs es ready = (
     w : Whole constants zs
     w = whole constants zs ready.store
 
-solving_closed : (constants : Types) (start now : Problem) (s : Instantiation) → Solving constants start now s → IsClosed s
-solving_closed constants start now s solving = gives_closed constants now.metas s (solving_gives constants start now s solving)
-
 pub work_begins : WorkBegins
-work_begins constants before zs es ready s solving ds put = (under, record { solving = solving; hands = hands })
+work_begins constants before zs es ready s solving = record { solving = solving; held = held }
   where
-    under : EachUnder s es ds
-    under = put s solving.put_in.put_in (solving_closed (slice_get constants) (problem_of before es) (problem_of zs es) s solving)
+    held : (e : Equation) → Listed e es → Held (slice_get constants) (problem_of before es) (problem_of zs es) s e
+    held e l = let t = typed_listed (slice_get constants) (types_in zs) e es l ready.typed in let (d, u) = result_under (slice_get constants) (types_in zs) s solving.put_in.assigns e t in
+        record { typed = t; after = d; is_under = u; in_hand = record { equation = e; after = d; listed = l; is_under = u; is_part = part_itself } }
 
-    hands : (d : Equation) → Listed d ds → InHand (slice_get constants) (problem_of before es) (problem_of zs es) s d
-    hands d l = let (e, k, u) = listed_back s d l es under in record { equation = e; after = d; listed = k; is_under = u; is_part = part_itself }
+pub work_takes : WorkTakes
+work_takes constants before zs es ws s working e d l u = held_hand (slice_get constants) (problem_of before es) (problem_of zs es) s working.solving e d (working.held e l) u
 
 pub work_reduces : WorkReduces
 work_reduces constants before zs es ws us s working f = record {
   solving = working.solving;
-  hands = (λ e l. let (d, k, p) = f e l in part_in_hand (slice_get constants) (problem_of before es) (problem_of zs es) s working.solving d e (working.hands d k) p);
+  held = (λ e l. ⊎_elim (λ k. working.held e k)
+      (λ p. hand_holds (slice_get constants) (problem_of before es) (problem_of zs es) s working.solving e
+      (part_in_hand (slice_get constants) (problem_of before es) (problem_of zs es) s working.solving p.0 e p.1 p.2)) (f e l));
 }
 
--- A step goes on with what is in hand.
+-- A step goes on with what is held.
 goes_on : (constants : List SimpleType) (before zs more : List Addition) (es ws : List Equation) (s : Instantiation) → Working constants before zs es s ws → Grows (types_in zs) (types_in more)
-    → Goes (slice_get constants) (problem_of before es) (problem_of more es) s → (us : List Equation) → ArePutIn more ws us → (v : Instantiation) × Working constants before more es v us
-goes_on constants before zs more es ws s working grows goes us put = (goes.then, record { solving = goes.solving; hands = hands })
-  where
-    under : EachUnder goes.then ws us
-    under = put goes.then goes.solving.put_in.put_in (solving_closed (slice_get constants) (problem_of before es) (problem_of more es) goes.then goes.solving)
-
-    hands : (d : Equation) → Listed d us → InHand (slice_get constants) (problem_of before es) (problem_of more es) goes.then d
-    hands d l = let (e, k, u) = listed_back goes.then d l ws under in
-        hand_moves (slice_get constants) (problem_of before es) (problem_of zs es) (problem_of more es) s goes.then working.solving goes.solving grows goes.both goes.earlier e d (working.hands e k) u
+    → Goes (slice_get constants) (problem_of before es) (problem_of more es) s → (v : Instantiation) × Working constants before more es v ws
+goes_on constants before zs more es ws s working grows goes = (
+  goes.then,
+  record {
+    solving = goes.solving;
+    held = (λ e l. held_moves (slice_get constants) (problem_of before es) (problem_of zs es) (problem_of more es) s goes.then working.solving goes.solving grows goes.both goes.earlier e (working.held e l));
+  },
+)
 
 same_problem : {metas more : Types} {given then : Instantiation} (es : List Equation) → metas ≡ more → given ≡ then → problem metas given es ≡ problem more then es
 same_problem es e f = rw (e, f) refl
@@ -80,22 +78,22 @@ grows_same : {metas more : Types} → metas ≡ more → Grows more metas
 grows_same e m a f = ap (λ h. h m) e ∙ f
 
 pub work_assigns : WorkAssigns
-work_assigns constants before zs es ws ready s working e l m o c us put = goes_on constants before zs (assigned_more zs m o) es ws s working
+work_assigns constants before zs es ws ready s working e hand m o c = goes_on constants before zs (assigned_more zs m o) es ws s working
     (grows_same (types_solved zs m o))
     (subst (λ p. Goes (slice_get constants) (problem_of before es) p s) (sym (same_problem es (types_solved zs m o) (given_solved zs m o unsolved)))
-    (solving_assigns (slice_get constants) (problem_of before es) (types_in zs) (given zs) es s working.solving e (working.hands e l) m o c)) us put
+    (solving_assigns (slice_get constants) (problem_of before es) (types_in zs) (given zs) es s working.solving e hand m o c))
   where
     unsolved : given zs m ≡ None
-    unsolved = (assign_is_allowed constants zs es ready e (hand_open (slice_get constants) (problem_of before es) (problem_of zs es) s working.solving e (working.hands e l)) m o c).unsolved
+    unsolved = (assign_is_allowed constants zs es ready e (hand_open (slice_get constants) (problem_of before es) (problem_of zs es) s working.solving e hand) m o c).unsolved
 
 pub work_narrows : WorkNarrows
-work_narrows constants before zs es ws ready s working e l k mask ps c h us put = goes_on constants before zs (narrowed_more zs k mask ps c) es ws s working
+work_narrows constants before zs es ws ready s working e hand k mask ps c h = goes_on constants before zs (narrowed_more zs k mask ps c) es ws s working
     (λ m a f. grows_same types m a (grows_new (types_in zs) (length (meta_types zs)) (arrows (masked 0 mask ps) c) (no_type_yet zs) m a f))
     (subst (λ p. Goes (slice_get constants) (problem_of before es) p s) (sym (same_problem es types solutions))
-    (solving_narrows (slice_get constants) (problem_of before es) (types_in zs) (given zs) es s working.solving e (working.hands e l) k (length (meta_types zs)) mask ps c h (no_type_yet zs) allowed.there)) us put
+    (solving_narrows (slice_get constants) (problem_of before es) (types_in zs) (given zs) es s working.solving e hand k (length (meta_types zs)) mask ps c h (no_type_yet zs) allowed.there))
   where
     allowed : MayNarrow constants zs k mask ps c es
-    allowed = narrow_is_allowed constants zs es ready e (hand_open (slice_get constants) (problem_of before es) (problem_of zs es) s working.solving e (working.hands e l)) k mask ps c h
+    allowed = narrow_is_allowed constants zs es ready e (hand_open (slice_get constants) (problem_of before es) (problem_of zs es) s working.solving e hand) k mask ps c h
 
     solution : PlainObject
     solution = lams ps (atomic (on (masked 0 mask ps) (head_alone (Meta (length (meta_types zs))))))
@@ -128,13 +126,13 @@ work_ends constants before zs es ready s solving ds left under rest = record {
 }
 
 pub work_clashes : WorkClashes
-work_clashes constants before zs es ws s working e p l part clash = record {
-  adds = only_adds (slice_get constants) (problem_of before es) (problem_of zs es) s working.solving;
-  none = none_back (slice_get constants) (problem_of before es) (problem_of zs es) working.solving.progress.keeps
-      (λ parameters t sol. clash.unsolved parameters t sol.0 (hand_follows (slice_get constants) (problem_of before es) (problem_of zs es) s working.solving p hand parameters t sol));
+work_clashes constants before zs es s solving e p in_hand part clash = record {
+  adds = only_adds (slice_get constants) (problem_of before es) (problem_of zs es) s solving;
+  none = none_back (slice_get constants) (problem_of before es) (problem_of zs es) solving.progress.keeps
+      (λ parameters t sol. clash.unsolved parameters t sol.0 (hand_follows (slice_get constants) (problem_of before es) (problem_of zs es) s solving p hand parameters t sol));
   at = record {
     assignment = s;
-    assigns = working.solving.put_in.assigns;
+    assigns = solving.put_in.assigns;
     equation = hand.equation;
     after = hand.after;
     part = p;
@@ -150,4 +148,4 @@ work_clashes constants before zs es ws s working e p l part clash = record {
 }
   where
     hand : InHand (slice_get constants) (problem_of before es) (problem_of zs es) s p
-    hand = part_in_hand (slice_get constants) (problem_of before es) (problem_of zs es) s working.solving e p (working.hands e l) part
+    hand = part_in_hand (slice_get constants) (problem_of before es) (problem_of zs es) s solving e p in_hand part

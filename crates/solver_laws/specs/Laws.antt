@@ -1,5 +1,5 @@
 -- Laws that the loop of unification rests on, as statements; the functions of the crate's `laws` state them.
-use Rattle.std.specs.Prelude.{ℕ, Bool, ◌≡◌, ◌<◌, List, [], ◌∷◌, ◌++◌, length, None}
+use Rattle.std.specs.Prelude.{ℕ, Bool, ◌≡◌, ◌<◌, ◌⊎◌, List, [], ◌∷◌, ◌++◌, length, None}
 use Rattle.std.specs.List.{slice_get}
 use Rattle.clf_syntax.specs.Tree.{PlainObject}
 use Rattle.clf_syntax.specs.TypeTree.{SimpleType}
@@ -8,9 +8,9 @@ use Rattle.store_laws.specs.Additions.{Addition, new, meta_types, given}
 use Rattle.pattern_laws.specs.Instantiations.{Types}
 use Rattle.pattern_laws.specs.Equations.{Equation, Listed, TypedEquation}
 use Rattle.pattern_laws.specs.Patterns.{Place, arrows, masked}
-use Rattle.reach_laws.specs.Rest.{PartOf, EachUnder, Rest}
+use Rattle.reach_laws.specs.Rest.{PartOf, EquationUnder, EachUnder, Rest}
 use Rattle.reach_laws.specs.Unified.{Unified, Clashed}
-use Rattle.solver_laws.specs.Solving.{Solving, problem_of, store_weight, unsolved_types, Ready, Open, ArePutIn, Working}
+use Rattle.solver_laws.specs.Solving.{Solving, InHand, problem_of, store_weight, unsolved_types, Ready, Open, ArePutIn, Working}
 use Rattle.solver_laws.specs.Steps.{AssignsEither, NarrowsEither, assigned_more, narrowed_more}
 use Rattle.solver_laws.specs.Reduced.{Reduced, LeftOver, Clashes}
 
@@ -50,24 +50,33 @@ WorkStarts = (constants : List SimpleType) (zs : List Addition) (es : List Equat
 -- At each time it may begin anew with them.
 abbrev pub WorkBegins : Type 0
 WorkBegins = (constants : List SimpleType) (before zs : List Addition) (es : List Equation) → Ready constants zs es → (s : Instantiation) → Solving (slice_get constants) (problem_of before es) (problem_of zs es) s
-    → (ds : List Equation) → ArePutIn zs es ds → EachUnder s es ds × Working constants before zs es s ds
+    → Working constants before zs es s es
 
--- The step that gives a solution goes on with the work.
+-- With all solutions put in, what is held is in hand.
+abbrev pub WorkTakes : Type 0
+WorkTakes = (constants : List SimpleType) (before zs : List Addition) (es ws : List Equation) (s : Instantiation) → Working constants before zs es s ws
+    → (e d : Equation) → Listed e ws → EquationUnder s e d → InHand (slice_get constants) (problem_of before es) (problem_of zs es) s d
+
+-- The step that gives a solution, by an equation in hand, goes on with the work.
 abbrev pub WorkAssigns : Type 0
 WorkAssigns = (constants : List SimpleType) (before zs : List Addition) (es ws : List Equation) → Ready constants zs es → (s : Instantiation) → Working constants before zs es s ws
-    → (e : Equation) → Listed e ws → (m : ℕ) (o : PlainObject) → AssignsEither (slice_get constants) (slice_get (meta_types zs)) e m o
-    → (us : List Equation) → ArePutIn (assigned_more zs m o) ws us → (v : Instantiation) × Working constants before (assigned_more zs m o) es v us
+    → (e : Equation) → InHand (slice_get constants) (problem_of before es) (problem_of zs es) s e
+    → (m : ℕ) (o : PlainObject) → AssignsEither (slice_get constants) (slice_get (meta_types zs)) e m o
+    → (v : Instantiation) × Working constants before (assigned_more zs m o) es v ws
 
 -- So does the step that takes arguments.
 abbrev pub WorkNarrows : Type 0
 WorkNarrows = (constants : List SimpleType) (before zs : List Addition) (es ws : List Equation) → Ready constants zs es → (s : Instantiation) → Working constants before zs es s ws
-    → (e : Equation) → Listed e ws → (k : ℕ) (mask : List Bool) (ps : List Place) (c : SimpleType) → NarrowsEither (slice_get constants) (slice_get (meta_types zs)) e k mask ps c
-    → (us : List Equation) → ArePutIn (narrowed_more zs k mask ps c) ws us → (v : Instantiation) × Working constants before (narrowed_more zs k mask ps c) es v us
+    → (e : Equation) → InHand (slice_get constants) (problem_of before es) (problem_of zs es) s e
+    → (k : ℕ) (mask : List Bool) (ps : List Place) (c : SimpleType) → NarrowsEither (slice_get constants) (slice_get (meta_types zs)) e k mask ps c
+    → (v : Instantiation) × Working constants before (narrowed_more zs k mask ps c) es v ws
 
--- The work goes on with parts of what is in hand.
+-- The work goes on with some of what is held, and with parts of what is in hand.
 abbrev pub WorkReduces : Type 0
 WorkReduces = (constants : List SimpleType) (before zs : List Addition) (es ws us : List Equation) (s : Instantiation) → Working constants before zs es s ws
-    → ((e : Equation) → Listed e us → (d : Equation) × Listed d ws × PartOf (slice_get constants) (slice_get (meta_types zs)) d e) → Working constants before zs es s us
+    → ((e : Equation) → Listed e us → Listed e ws
+        ⊎ ((d : Equation) × InHand (slice_get constants) (problem_of before es) (problem_of zs es) s d × PartOf (slice_get constants) (slice_get (meta_types zs)) d e))
+    → Working constants before zs es s us
 
 -- A pass in which nothing is solved ends the work with the rest of the given equations.
 abbrev pub WorkEnds : Type 0
@@ -76,8 +85,9 @@ WorkEnds = (constants : List SimpleType) (before zs : List Addition) (es : List 
 
 -- A clash of a part of what is in hand ends it too.
 abbrev pub WorkClashes : Type 0
-WorkClashes = (constants : List SimpleType) (before zs : List Addition) (es ws : List Equation) (s : Instantiation) → Working constants before zs es s ws
-    → (e p : Equation) → Listed e ws → PartOf (slice_get constants) (slice_get (meta_types zs)) e p → Clashes (slice_get constants) (slice_get (meta_types zs)) p
+WorkClashes = (constants : List SimpleType) (before zs : List Addition) (es : List Equation) (s : Instantiation) → Solving (slice_get constants) (problem_of before es) (problem_of zs es) s
+    → (e p : Equation) → InHand (slice_get constants) (problem_of before es) (problem_of zs es) s e
+    → PartOf (slice_get constants) (slice_get (meta_types zs)) e p → Clashes (slice_get constants) (slice_get (meta_types zs)) p
     → Clashed (slice_get constants) (problem_of before es) (problem_of zs es) (length p.locals) p.left p.right
 
 -- Equations are taken apart one by one: nothing is done yet; those of which the last one is taken come down to what comes of that one; and what is left over at the end is the rest.

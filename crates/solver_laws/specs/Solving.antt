@@ -9,7 +9,7 @@ use Rattle.store_laws.specs.PutIn.{PutIn, IsClosed}
 use Rattle.store_laws.specs.Store.{IsStore}
 use Rattle.store_laws.proofs.Closing.{Gives}
 use Rattle.pattern_laws.specs.Instantiations.{Types, closed}
-use Rattle.pattern_laws.specs.Equations.{Equation, Listed, TypedEquations}
+use Rattle.pattern_laws.specs.Equations.{Equation, Listed, TypedEquation, TypedEquations}
 use Rattle.pattern_laws.specs.Patterns.{HasFinalResult}
 use Rattle.unify_laws.specs.Problems.{Problem}
 use Rattle.unify_laws.specs.Progress.{Progress}
@@ -67,7 +67,14 @@ Open constants zs es = TypedEquations (slice_get constants) (unsolved_types (sli
 abbrev pub ArePutIn : List Addition → List Equation → List Equation → Type 0
 ArePutIn zs es ds = (s : Instantiation) → PutIn (given zs) s → IsClosed s → EachUnder s es ds
 
--- In the work on the equations es, the store was `before` and is now `zs`; s is its solutions with all solutions put in, and the equations ws are in hand.
+-- With all solutions put in, the equation is in hand.
+pub record Held (constants : Types) (start now : Problem) (s : Instantiation) (e : Equation) : Type 0 where
+  pub typed : TypedEquation constants now.metas e
+  pub after : Equation
+  pub is_under : EquationUnder s e after
+  pub in_hand : InHand constants start now s after
+
+-- In the work on the equations es, the store was `before` and is now `zs`; s is its solutions with all solutions put in, and the equations ws are held.
 pub record Working (constants : List SimpleType) (before zs : List Addition) (es : List Equation) (s : Instantiation) (ws : List Equation) : Type 0 where
   pub solving : Solving (slice_get constants) (problem_of before es) (problem_of zs es) s
-  pub hands : (e : Equation) → Listed e ws → InHand (slice_get constants) (problem_of before es) (problem_of zs es) s e
+  pub held : (e : Equation) → Listed e ws → Held (slice_get constants) (problem_of before es) (problem_of zs es) s e

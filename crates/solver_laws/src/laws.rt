@@ -1,5 +1,5 @@
 //! Laws that the loop of unification rests on, stated by functions that do nothing.
-ghost use Rattle.solver_laws.specs.Laws.{AssignIsAllowed, NarrowIsAllowed, PutInIsOpen, WorkAssigns, WorkBegins, WorkClashes, WorkEnds, WorkIsReduced, WorkNarrows, WorkReduces, WorkStarts};
+ghost use Rattle.solver_laws.specs.Laws.{AssignIsAllowed, NarrowIsAllowed, PutInIsOpen, WorkAssigns, WorkBegins, WorkClashes, WorkEnds, WorkIsReduced, WorkNarrows, WorkReduces, WorkStarts, WorkTakes};
 
 /// When a step may be taken, and what is put in after it.
 pub fn steps()
@@ -12,6 +12,7 @@ pub fn steps()
 pub fn work()
     ensures starts { WorkStarts }
     ensures begins { WorkBegins }
+    ensures takes { WorkTakes }
     ensures assigns { WorkAssigns }
     ensures narrows { WorkNarrows }
     ensures reduces { WorkReduces }

@@ -1,4 +1,4 @@
-use Rattle.solver_laws.proofs.Works.{work_starts, work_begins, work_assigns, work_narrows, work_reduces, work_ends, work_clashes}
+use Rattle.solver_laws.proofs.Works.{work_starts, work_begins, work_takes, work_assigns, work_narrows, work_reduces, work_ends, work_clashes}
 use Rattle.solver_laws.proofs.Reducing.{work_is_reduced}
 use Rattle.solver_laws.proofs.laws.work.Goals as goal
 
@@ -7,6 +7,9 @@ returns-clause-starts c = work_starts
 
 pub returns-clause-begins : goal.returns-clause-begins
 returns-clause-begins c = work_begins
+
+pub returns-clause-takes : goal.returns-clause-takes
+returns-clause-takes c = work_takes
 
 pub returns-clause-assigns : goal.returns-clause-assigns
 returns-clause-assigns c = work_assigns
