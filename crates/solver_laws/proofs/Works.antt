@@ -1,5 +1,5 @@
 -- The work of unification begins, goes on with each step, and ends.
-use Rattle.std.specs.Prelude.{◌≡◌, List, [], ◌∷◌, ◌++◌, length, None, refl}
+use Rattle.std.specs.Prelude.{ℕ, Bool, ◌≡◌, List, [], ◌∷◌, ◌++◌, length, None, refl}
 use Rattle.std.proofs.Common.{ap, sym, subst, ◌∙◌, inl, inr, ⊎_elim}
 use Rattle.std.specs.List.{slice_get}
 use Rattle.clf_syntax.specs.declared.tree.Head.TheVariants.{Meta}
@@ -7,9 +7,10 @@ use Rattle.clf_syntax.specs.Tree.{PlainObject, atomic, head_alone}
 use Rattle.clf_syntax.specs.TypeTree.{SimpleType}
 use Rattle.subst_laws.specs.Environments.{Instantiation}
 use Rattle.store_laws.specs.Additions.{Addition, new, meta_types, given, set}
+use Rattle.store_laws.specs.PutIn.{IsClosed}
 use Rattle.pattern_laws.specs.Instantiations.{Types}
 use Rattle.pattern_laws.specs.Equations.{Equation, Listed}
-use Rattle.pattern_laws.specs.Patterns.{on, lams, arrows, masked}
+use Rattle.pattern_laws.specs.Patterns.{Place, on, lams, arrows, masked}
 use Rattle.unify_laws.specs.Problems.{Problem, Grows, WellTyped}
 use Rattle.unify_laws.proofs.Preserved.{progress_start, grows_new}
 use Rattle.unify_laws.proofs.Steps.{none_back}
@@ -21,10 +22,10 @@ use Rattle.solver_laws.specs.Solving.{Solving, InHand, Held, problem_of, Ready, 
 use Rattle.solver_laws.specs.Steps.{assigned_more, narrowed_more}
 use Rattle.solver_laws.specs.Laws.{MayNarrow, WorkStarts, WorkBegins, WorkTakes, WorkAssigns, WorkNarrows, WorkReduces, WorkEnds, WorkClashes}
 use Rattle.solver_laws.proofs.Grown.{some_none}
-use Rattle.solver_laws.proofs.Hands.{hand_open, hand_follows, part_in_hand, result_under, hand_holds, held_hand, held_moves}
+use Rattle.solver_laws.proofs.Hands.{solving_gives, hand_open, hand_follows, part_in_hand, result_under, hand_holds, held_hand, held_moves}
 use Rattle.solver_laws.proofs.Taking.{problem, Goes, solving_assigns, solving_narrows}
 use Rattle.solver_laws.proofs.Stores.{types_in, types_new, types_solved, given_new, given_solved, no_type_yet, Whole, whole}
-use Rattle.solver_laws.proofs.Allowed.{assign_is_allowed, narrow_is_allowed}
+use Rattle.solver_laws.proofs.Allowed.{gives_closed, assign_is_allowed, narrow_is_allowed}
 
 well_typed : (constants : List SimpleType) (zs : List Addition) (es : List Equation) → Ready constants zs es → WellTyped (slice_get constants) (problem_of zs es)
 well_typed constants zs es ready = (ready.typed, (whole constants zs ready.store).given_types, ready.final)
@@ -41,6 +42,9 @@ work_starts constants zs es ready = (
   where
     w : Whole constants zs
     w = whole constants zs ready.store
+
+pub solving_closed : (constants : Types) (start now : Problem) (s : Instantiation) → Solving constants start now s → IsClosed s
+solving_closed constants start now s solving = gives_closed constants now.metas s (solving_gives constants start now s solving)
 
 pub work_begins : WorkBegins
 work_begins constants before zs es ready s solving = record { solving = solving; held = held }
@@ -77,9 +81,20 @@ same_problem es e f = rw (e, f) refl
 grows_same : {metas more : Types} → metas ≡ more → Grows more metas
 grows_same e m a f = ap (λ h. h m) e ∙ f
 
+pub assigned_grows : (zs : List Addition) (m : ℕ) (o : PlainObject) → Grows (types_in zs) (types_in (assigned_more zs m o))
+assigned_grows zs m o = grows_same (types_solved zs m o)
+
+narrowed_types : (zs : List Addition) (k : ℕ) (mask : List Bool) (ps : List Place) (c : SimpleType)
+    → types_in (narrowed_more zs k mask ps c) ≡ set (length (meta_types zs)) (arrows (masked 0 mask ps) c) (types_in zs)
+narrowed_types zs k mask ps c =
+    types_solved (zs ++ new (arrows (masked 0 mask ps) c) ∷ []) k (lams ps (atomic (on (masked 0 mask ps) (head_alone (Meta (length (meta_types zs))))))) ∙ types_new zs (arrows (masked 0 mask ps) c)
+
+pub narrowed_grows : (zs : List Addition) (k : ℕ) (mask : List Bool) (ps : List Place) (c : SimpleType) → Grows (types_in zs) (types_in (narrowed_more zs k mask ps c))
+narrowed_grows zs k mask ps c m a f = grows_same (narrowed_types zs k mask ps c) m a (grows_new (types_in zs) (length (meta_types zs)) (arrows (masked 0 mask ps) c) (no_type_yet zs) m a f)
+
 pub work_assigns : WorkAssigns
 work_assigns constants before zs es ws ready s working e hand m o c = goes_on constants before zs (assigned_more zs m o) es ws s working
-    (grows_same (types_solved zs m o))
+    (assigned_grows zs m o)
     (subst (λ p. Goes (slice_get constants) (problem_of before es) p s) (sym (same_problem es (types_solved zs m o) (given_solved zs m o unsolved)))
     (solving_assigns (slice_get constants) (problem_of before es) (types_in zs) (given zs) es s working.solving e hand m o c))
   where
@@ -88,8 +103,8 @@ work_assigns constants before zs es ws ready s working e hand m o c = goes_on co
 
 pub work_narrows : WorkNarrows
 work_narrows constants before zs es ws ready s working e hand k mask ps c h = goes_on constants before zs (narrowed_more zs k mask ps c) es ws s working
-    (λ m a f. grows_same types m a (grows_new (types_in zs) (length (meta_types zs)) (arrows (masked 0 mask ps) c) (no_type_yet zs) m a f))
-    (subst (λ p. Goes (slice_get constants) (problem_of before es) p s) (sym (same_problem es types solutions))
+    (narrowed_grows zs k mask ps c)
+    (subst (λ p. Goes (slice_get constants) (problem_of before es) p s) (sym (same_problem es (narrowed_types zs k mask ps c) solutions))
     (solving_narrows (slice_get constants) (problem_of before es) (types_in zs) (given zs) es s working.solving e hand k (length (meta_types zs)) mask ps c h (no_type_yet zs) allowed.there))
   where
     allowed : MayNarrow constants zs k mask ps c es
@@ -97,9 +112,6 @@ work_narrows constants before zs es ws ready s working e hand k mask ps c h = go
 
     solution : PlainObject
     solution = lams ps (atomic (on (masked 0 mask ps) (head_alone (Meta (length (meta_types zs))))))
-
-    types : types_in (narrowed_more zs k mask ps c) ≡ set (length (meta_types zs)) (arrows (masked 0 mask ps) c) (types_in zs)
-    types = types_solved (zs ++ new (arrows (masked 0 mask ps) c) ∷ []) k solution ∙ types_new zs (arrows (masked 0 mask ps) c)
 
     solutions : given (narrowed_more zs k mask ps c) ≡ set k solution (given zs)
     solutions = given_solved (zs ++ new (arrows (masked 0 mask ps) c) ∷ []) k solution allowed.still ∙ ap (set k solution) (given_new zs (arrows (masked 0 mask ps) c))
