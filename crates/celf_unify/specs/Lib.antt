@@ -10,4 +10,5 @@ pub mod Examined
 pub mod Judged
 pub mod Matching
 pub mod Passes
+pub mod Searched
 pub mod Answers

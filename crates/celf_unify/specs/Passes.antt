@@ -4,11 +4,11 @@ use Rattle.clf_syntax.specs.TypeTree.{SimpleType}
 use Rattle.clf_syntax.specs.Plain.{plain_obj}
 use Rattle.std.specs.List.{slice_get}
 use Rattle.subst_laws.specs.Environments.{Instantiation}
-use Rattle.store_laws.specs.Additions.{Addition, meta_types}
-use Rattle.pattern_laws.specs.Equations.{Equation, Listed}
+use Rattle.store_laws.specs.Additions.{Addition, meta_types, given}
+use Rattle.pattern_laws.specs.Equations.{Equation, Listed, TypedEquation}
 use Rattle.reach_laws.specs.Unified.{Unified, Clashed}
 use Rattle.flat_systems.specs.Systems.{FlatStore, FlatSystem}
-use Rattle.solver_laws.specs.Solving.{Solving, problem_of, store_weight, Ready, Open, Working}
+use Rattle.solver_laws.specs.Solving.{Solving, InHand, problem_of, store_weight, unsolved_types, Ready, Working}
 use Rattle.celf_constraints.specs.Equated.{plain_equation, equations_in}
 use Rattle.metavars.specs.Stored.{Stored, constants, additions}
 use Rattle.celf_unify.specs.declared.answer.Clash.{Clash}
@@ -23,12 +23,12 @@ use Rattle.celf_unify.specs.Gathered.{StepOf}
 abbrev pub IsReady : Stored → List Equation → Type 0
 IsReady s es = Ready (constants s) (additions s) es
 
--- In a store with these constants and additions the step follows from one of the equations that are still to be looked at, into which all solutions are put.
+-- In a store with these constants and additions the step follows from one of the equations that are still to be looked at, which mentions nothing solved.
 pub record MayAdvance (cs : List SimpleType) (zs : List Addition) (step : Step) (ws : List Equation) : Type 0 where
   pub ready : Ready cs zs ws
-  pub all_in : Open cs zs ws
   pub equation : Equation
   pub listed : Listed equation ws
+  pub is_open : TypedEquation (slice_get cs) (unsolved_types (slice_get (meta_types zs)) (given zs)) equation
   pub step_of : StepOf (slice_get cs) (slice_get (meta_types zs)) equation step
 
 abbrev pub MayRun : List SimpleType → List Addition → Gathered → Type 0
@@ -43,11 +43,19 @@ StillSolving cs before now es = (v : Instantiation) × Solving (slice_get cs) (p
 abbrev pub ClashedAt : List SimpleType → List Addition → List Addition → List Equation → Clash → Type 0
 ClashedAt cs before now es c = Clashed (slice_get cs) (problem_of before es) (problem_of now es) c.under (plain_obj c.left) (plain_obj c.right)
 
+-- The work stands before a step, which follows from an equation in hand; these are held.
+pub record StepStands (cs : List SimpleType) (before now : List Addition) (es : List Equation) (step : Step) (ws : List Equation) : Type 0 where
+  pub all_in : Instantiation
+  pub working : Working cs before now es all_in ws
+  pub equation : Equation
+  pub in_hand : InHand (slice_get cs) (problem_of before es) (problem_of now es) all_in equation
+  pub step_of : StepOf (slice_get cs) (slice_get (meta_types now)) equation step
+
 -- How the work stands.
 abbrev pub WorkStands : List SimpleType → List Addition → List Addition → List Equation → Gathered → Type 0
 WorkStands cs before now es (gathered.Left left) = StillSolving cs before now es
 WorkStands cs before now es (gathered.Clash c) = ClashedAt cs before now es c
-WorkStands cs before now es (gathered.Step step rest) = (v : Instantiation) × Working cs before now es v (map plain_equation rest.items)
+WorkStands cs before now es (gathered.Step step rest) = StepStands cs before now es step (map plain_equation rest.items)
 
 -- What comes of a flat system is flat, and nothing of it is left.
 abbrev pub FlatStands : List SimpleType → List Addition → Gathered → Type 0
@@ -55,12 +63,12 @@ FlatStands cs now (gathered.Left left) = FlatStore cs now × (equations_in left 
 FlatStands cs now (gathered.Clash c) = FlatStore cs now
 FlatStands cs now (gathered.Step step rest) = FlatSystem cs now (map plain_equation rest.items)
 
--- A step was taken. Whatever work it belongs to goes on.
-pub record Advances (s : Stored) (ws : List Equation) (t : Stored) (g : Gathered) : Type 0 where
+-- The step was taken. Whatever work it belongs to goes on.
+pub record Advances (s : Stored) (step : Step) (ws : List Equation) (t : Stored) (g : Gathered) : Type 0 where
   pub same : constants t ≡ constants s
   pub state : MayRun (constants s) (additions t) g
   pub lighter : store_weight (additions t) < store_weight (additions s)
-  pub goes : (before : List Addition) (es : List Equation) (v : Instantiation) → IsReady s es → Working (constants s) before (additions s) es v ws
+  pub goes : (before : List Addition) (es : List Equation) → IsReady s es → StepStands (constants s) before (additions s) es step ws
       → Ready (constants s) (additions t) es × WorkStands (constants s) before (additions t) es g
   pub flat : FlatSystem (constants s) (additions s) ws → FlatStands (constants s) (additions t) g
 
@@ -88,11 +96,11 @@ FlatEnds cs now pass.Again = FlatStore cs now
 FlatEnds cs now (pass.Left left) = FlatStore cs now × (equations_in left ≡ [])
 FlatEnds cs now (pass.Clash c) = FlatStore cs now
 
--- The rest of a pass in which something was solved.
-pub record Works (s : Stored) (ws : List Equation) (t : Stored) (p : Pass) : Type 0 where
+-- The rest of a pass, from a step on.
+pub record Works (s : Stored) (step : Step) (ws : List Equation) (t : Stored) (p : Pass) : Type 0 where
   pub same : constants t ≡ constants s
   pub lighter : store_weight (additions t) < store_weight (additions s)
-  pub goes : (before : List Addition) (es : List Equation) (v : Instantiation) → IsReady s es → Working (constants s) before (additions s) es v ws
+  pub goes : (before : List Addition) (es : List Equation) → IsReady s es → StepStands (constants s) before (additions s) es step ws
       → Ready (constants s) (additions t) es × PassAnswers (constants s) before (additions t) es p
   pub flat : FlatSystem (constants s) (additions s) ws → FlatEnds (constants s) (additions t) p
 

@@ -1,9 +1,7 @@
 //! Equations are taken apart while the store stays.
-ghost use Rattle.std.specs.Prelude.{◌≡◌, List, [], ◌∷◌, ◌++◌, map, reverse, IfErr, IfOk};
+ghost use Rattle.std.specs.Prelude.{◌≡◌, [], ◌∷◌, ◌++◌, map, reverse, IfErr, IfOk};
 ghost use Rattle.clf_syntax.specs.Wide.{IsWant};
 ghost use Rattle.celf_constraints.specs.Equated.{equations_in, plain_equation};
-ghost use Rattle.pattern_laws.specs.Equations.{Equation as PlainEquation};
-ghost use Rattle.metavars.specs.Stored.{Stored};
 ghost use Rattle.celf_unify.specs.Gathered.{IsTyped, Gathers};
 
 use crate::answer::Clash;
@@ -15,7 +13,7 @@ use clf_syntax::Want;
 use metavars::Store;
 use std::alloc::{AllocError, Global};
 
-/// What comes of equations: those that are left, a clash, or a step with the equations that are still to be looked at.
+/// What comes of equations: those that are left, a clash, or a step with the stack of those that are still to be looked at.
 #[derive(Drop)]
 pub enum Gathered {
     Left(Equations),
@@ -23,30 +21,9 @@ pub enum Gathered {
     Step(Step, Vec<Equation>),
 }
 
-/// Takes the equations apart, the first one first and the parts of one from left to right, until a step can be taken.
+/// Takes the equations of a stack apart, the last one first and the parts of one from left to right, until a step can be
+/// taken. No solution is put in.
 pub fn gather(alloc: Global, store: &Store, work: Vec<Equation>) -> Result<Gathered, Want>
-    requires typed { IsTyped store.now (map plain_equation work.items) }
-    ensures gathered { IfOk result (λ g. Gathers store.now (map plain_equation work.items) g) }
-    ensures wanting { IfErr result IsWant }
-{
-    let stack = turned(alloc, work)?;
-    let gathered = from_stack(alloc, store, stack)?;
-    Ok(in_order(alloc, gathered)?)
-}
-
-/// With what is still to be looked at in its order.
-fn in_order(alloc: Global, gathered: Gathered) -> Result<Gathered, AllocError>
-    ensures { IfOk result (λ g. (s : Stored) → (ws : List PlainEquation) → Gathers s ws gathered → Gathers s ws g) }
-{
-    match gathered {
-        Gathered::Left(left) => Ok(Gathered::Left(left)),
-        Gathered::Clash(clash) => Ok(Gathered::Clash(clash)),
-        Gathered::Step(step, rest) => Ok(Gathered::Step(step, turned(alloc, rest)?)),
-    }
-}
-
-/// Takes the equations of a stack apart, whose first one is the last in the list.
-fn from_stack(alloc: Global, store: &Store, work: Vec<Equation>) -> Result<Gathered, Want>
     requires typed { IsTyped store.now (map plain_equation work.items) }
     ensures gathered { IfOk result (λ g. Gathers store.now (map plain_equation work.items) g) }
     ensures wanting { IfErr result IsWant }
@@ -67,7 +44,7 @@ fn from_stack(alloc: Global, store: &Store, work: Vec<Equation>) -> Result<Gathe
 }
 
 /// Equations from the last one to the first.
-fn turned(alloc: Global, equations: Vec<Equation>) -> Result<Vec<Equation>, AllocError>
+pub fn turned(alloc: Global, equations: Vec<Equation>) -> Result<Vec<Equation>, AllocError>
     ensures { IfOk result (λ all. map plain_equation all.items ≡ reverse (map plain_equation equations.items)) }
 {
     let mut rest = equations;
@@ -79,7 +56,7 @@ fn turned(alloc: Global, equations: Vec<Equation>) -> Result<Vec<Equation>, Allo
 }
 
 /// More equations.
-fn with_each(equations: Vec<Equation>, parts: Vec<Equation>) -> Result<Vec<Equation>, AllocError>
+pub fn with_each(equations: Vec<Equation>, parts: Vec<Equation>) -> Result<Vec<Equation>, AllocError>
     ensures { IfOk result (λ more. map plain_equation more.items
         ≡ map plain_equation equations.items ++ map plain_equation parts.items) }
 {
@@ -91,7 +68,7 @@ fn with_each(equations: Vec<Equation>, parts: Vec<Equation>) -> Result<Vec<Equat
 }
 
 /// One more equation that is left.
-fn with_left(left: Equations, equation: Equation) -> Result<Equations, AllocError>
+pub fn with_left(left: Equations, equation: Equation) -> Result<Equations, AllocError>
     ensures { IfOk result (λ more. equations_in more ≡ equations_in left ++ plain_equation equation ∷ []) }
 {
     let mut more = left;

@@ -11,6 +11,7 @@ mod parts;
 mod pass;
 mod places;
 mod put_in;
+mod search;
 mod side;
 mod spines;
 mod step;

@@ -1,4 +1,4 @@
-//! All solutions put into equations.
+//! All solutions put into an equation.
 ghost use Rattle.std.specs.Prelude.{◌≡◌, [], ◌∷◌, ◌++◌, map, IfErr, IfOk};
 ghost use Rattle.clf_syntax.specs.Wide.{IsWant};
 ghost use Rattle.celf_constraints.specs.Equated.{plain_equation};
@@ -8,7 +8,6 @@ ghost use Rattle.hered_subst.specs.Substitution.{Substituted};
 ghost use Rattle.subst_laws.specs.Environments.{Instantiation, instant};
 ghost use Rattle.store_laws.specs.Additions.{given};
 ghost use Rattle.store_laws.specs.PutIn.{PutIn, IsClosed};
-ghost use Rattle.solver_laws.specs.Solving.{ArePutIn};
 ghost use Rattle.celf_unify.specs.Steps.{IsPutIn, IsTypedThere};
 ghost use Rattle.celf_unify.specs.Passes.{IsReady};
 
@@ -16,24 +15,6 @@ use celf_constraints::Equation;
 use clf_syntax::{Obj, OrWide, SimpleEntry, Want};
 use metavars::Store;
 use std::alloc::{AllocError, Global};
-
-/// The equations with all solutions put in.
-pub fn put_in_each(
-    alloc: Global,
-    store: &Store,
-    equations: &[Equation],
-) -> Result<Vec<Equation>, Want>
-    requires ready { IsReady store.now (map plain_equation equations.now) }
-    ensures put_in { IfOk result (λ work.
-        ArePutIn (additions store.now) (map plain_equation equations.now) (map plain_equation work.items)) }
-    ensures wanting { IfErr result IsWant }
-{
-    let mut work = Vec::new(alloc);
-    for equation in equations {
-        work = with_equation(work, put_in(alloc, store, equation)?)?;
-    }
-    Ok(work)
-}
 
 /// One equation more.
 pub fn with_equation(
@@ -49,7 +30,7 @@ pub fn with_equation(
 }
 
 /// An equation with all solutions put in.
-fn put_in(alloc: Global, store: &Store, equation: &Equation) -> Result<Equation, Want>
+pub fn put_in(alloc: Global, store: &Store, equation: &Equation) -> Result<Equation, Want>
     requires ready { IsReady store.now (plain_equation equation.now ∷ []) }
     ensures put_in { IfOk result
         (λ e. IsPutIn (additions store.now) (plain_equation equation.now) (plain_equation e)) }

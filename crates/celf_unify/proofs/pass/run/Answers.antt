@@ -14,7 +14,7 @@ returns-in-Clash-clause-runs c = run_clash c.args.store.now c.args.first c.loop-
 
 pub loop-state-preserved : goal.loop-state-preserved
 loop-state-preserved c = record {
-  may = state_advances c.args.store.now c.loop-state.store c.advance.new.store (map plain_equation c.in-Step.rest.items) c.in_ok-state-in-Step.state c.loop-state.invariant.same c.in_ok-state-in-Step.ensures.advanced;
+  may = state_advances c.args.store.now c.loop-state.store c.advance.new.store c.in-Step.step (map plain_equation c.in-Step.rest.items) c.in_ok-state-in-Step.state c.loop-state.invariant.same c.in_ok-state-in-Step.ensures.advanced;
   part = part_then c.args.store.now c.loop-state.store c.advance.new.store c.loop-state.invariant.part c.in_ok-state-in-Step.ensures.part;
   same = next.same;
   lighter = next.lighter;

@@ -4,7 +4,7 @@ use Rattle.pattern_laws.specs.Equations.{Equation, Listed}
 use Rattle.solver_laws.specs.Reduced.{Reduced, LeftOver, work_size}
 use Rattle.celf_constraints.specs.Equated.{plain_equation, equations_in}
 use Rattle.celf_unify.specs.Gathered.{consts_in, metas_in}
-use Rattle.celf_unify.proofs.gather.from_stack.Given as goal
+use Rattle.celf_unify.proofs.gather.gather.Given as goal
 
 abbrev pub invariant-loop-equation : goal.invariant-loop-equation
 invariant-loop-equation l = record {
