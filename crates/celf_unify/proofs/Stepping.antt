@@ -160,9 +160,12 @@ advanced s t step ws g a taken found may flat = record {
   same = same;
   state = subst (λ cs. MayRun cs (additions t) g) same may;
   lighter = made.lighter;
-  goes = (λ before es ready h. (made.ready es ready, let (w, on) = made.goes before es h.all_in ready h.working h.equation h.in_hand h.step_of in
-      stands (constants s) before (additions t) es ws w on g
-      (over w on.solving.put_in.put_in (solving_closed (slice_get (constants s)) (problem_of before es) (problem_of (additions t) es) w on.solving))));
+  goes = (λ before es ready h. (
+    made.ready es ready,
+    let (w, on) = made.goes before es h.all_in ready h.working h.equation h.in_hand h.step_of in
+        stands (constants s) before (additions t) es ws w on g
+        (over w on.solving.put_in.put_in (solving_closed (slice_get (constants s)) (problem_of before es) (problem_of (additions t) es) w on.solving)),
+  ));
   flat = (λ f. subst (λ cs. FlatStands cs (additions t) g) same (flat (subst (λ cs. FlatSystem cs (additions t) ws) (sym same) (made.flat f))));
 }
   where

@@ -56,7 +56,10 @@ pub fn turned(alloc: Global, equations: Vec<Equation>) -> Result<Vec<Equation>, 
 }
 
 /// More equations.
-pub fn with_each(equations: Vec<Equation>, parts: Vec<Equation>) -> Result<Vec<Equation>, AllocError>
+pub fn with_each(
+    equations: Vec<Equation>,
+    parts: Vec<Equation>,
+) -> Result<Vec<Equation>, AllocError>
     ensures { IfOk result (λ more. map plain_equation more.items
         ≡ map plain_equation equations.items ++ map plain_equation parts.items) }
 {

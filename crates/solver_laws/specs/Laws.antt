@@ -75,7 +75,7 @@ WorkNarrows = (constants : List SimpleType) (before zs : List Addition) (es ws :
 abbrev pub WorkReduces : Type 0
 WorkReduces = (constants : List SimpleType) (before zs : List Addition) (es ws us : List Equation) (s : Instantiation) → Working constants before zs es s ws
     → ((e : Equation) → Listed e us → Listed e ws
-        ⊎ ((d : Equation) × InHand (slice_get constants) (problem_of before es) (problem_of zs es) s d × PartOf (slice_get constants) (slice_get (meta_types zs)) d e))
+    ⊎ ((d : Equation) × InHand (slice_get constants) (problem_of before es) (problem_of zs es) s d × PartOf (slice_get constants) (slice_get (meta_types zs)) d e))
     → Working constants before zs es s us
 
 -- A pass in which nothing is solved ends the work with the rest of the given equations.
