@@ -1,5 +1,5 @@
 -- The loop that takes equations apart.
-use Rattle.std.specs.Prelude.{◌+◌, ◌≡◌, ◌<◌, List, [], ◌∷◌, ◌++◌, map, refl}
+use Rattle.std.specs.Prelude.{◌+◌, ◌≡◌, ◌<◌, List, [], ◌∷◌, ◌++◌, length, map, refl}
 use Rattle.std.proofs.Common.{ap, sym, subst, ◌∙◌, arith, ⊎_elim}
 use Rattle.std.proofs.lemmas.List.{map-append}
 use Rattle.pattern_laws.specs.Instantiations.{Types}
@@ -16,6 +16,10 @@ use Rattle.celf_unify.specs.declared.answer.Clash.{Clash}
 use Rattle.celf_unify.specs.declared.step.Step.{Step}
 use Rattle.celf_unify.specs.Gathered.{PartIn, ClashIn, StepOf, StepIn}
 use Rattle.celf_unify.specs.Examined.{ClashOf}
+
+pub none_left : (s : List Declared) → length s ≡ 0 → map plain_equation s ≡ []
+none_left [] h = refl
+none_left (e ∷ s) h = absurd (omega (arith, h))
 
 -- a stack and what was taken from it
 pub popped : (s t : List Declared) (e : Declared) → s ≡ t ++ e ∷ [] → map plain_equation s ≡ map plain_equation t ++ plain_equation e ∷ []

@@ -14,3 +14,8 @@ part_then s t u (e, (more, f)) (g, (rest, h)) = (g ∙ e, (more ++ rest, h ∙ a
 pub ok_more : {T E : Type 0} (P Q : T → Type 0) (r : Result T E) → ((t : T) → P t → Q t) → IfOk r P → IfOk r Q
 ok_more P Q (Ok t) f p = f t p
 ok_more P Q (Err e) f p = tt
+
+-- So it is with what follows of three facts of a value.
+pub ok_three : {T E : Type 0} (P Q R S : T → Type 0) (r : Result T E) → ((t : T) → P t → Q t → R t → S t) → IfOk r P → IfOk r Q → IfOk r R → IfOk r S
+ok_three P Q R S (Ok t) f p q r = f t p q r
+ok_three P Q R S (Err e) f p q r = tt

@@ -54,7 +54,7 @@ module _ (constants metas : Types) (v : Instantiation) (ws : List Equation) wher
 
   -- The last equation of a stack is taken, which v makes d.
   module _ (all work : List Equation) (e d : Equation) (popped_one : all ≡ work ++ e ∷ []) (inside : (x : Equation) → Listed x all → Listed x ws) (under : EquationUnder v e d) where
-    pub below : (x : Equation) → Listed x work → Listed x ws
+    below : (x : Equation) → Listed x work → Listed x ws
     below x l = inside x (subst (Listed x) (sym popped_one) (listed_more x work (e ∷ []) l))
 
     here : Listed e ws
@@ -88,9 +88,9 @@ module _ (constants metas : Types) (v : Instantiation) (ws : List Equation) wher
 
 -- ---- what may be done then
 
-module _ (cs : List SimpleType) (zs : List Addition) (ws : List Equation) (ready : Ready cs zs ws) (all work : List Equation) (e d : Equation)
-    (popped_one : all ≡ work ++ e ∷ []) (inside : (x : Equation) → Listed x all → Listed x ws) (put : IsPutIn zs e d) where
-  below_here : (x : Equation) → Listed x work → Listed x ws
+module _ (cs : List SimpleType) (zs : List Addition) (ws : List Equation) (ready : Ready cs zs ws) (all work : List Equation) (e : Equation)
+    (popped_one : all ≡ work ++ e ∷ []) (inside : (x : Equation) → Listed x all → Listed x ws) where
+  pub below_here : (x : Equation) → Listed x work → Listed x ws
   below_here x l = inside x (subst (Listed x) (sym popped_one) (listed_more x work (e ∷ []) l))
 
   here_too : Listed e ws
@@ -102,46 +102,54 @@ module _ (cs : List SimpleType) (zs : List Addition) (ws : List Equation) (ready
   pub ready_one : Ready cs zs (e ∷ [])
   ready_one = record { store = ready.store; final = ready.final; typed = (typed_at e here_too, tt) }
 
-  open_one : Open cs zs (d ∷ [])
-  open_one = put_in_is_open cs zs (e ∷ []) ready_one (d ∷ []) (λ s p c. (put s p c, tt))
+  module _ (d : Equation) (put : IsPutIn zs e d) where
+    open_one : Open cs zs (d ∷ [])
+    open_one = put_in_is_open cs zs (e ∷ []) ready_one (d ∷ []) (λ s p c. (put s p c, tt))
 
-  ready_put : Ready cs zs (d ∷ [])
-  ready_put = record { store = ready.store; final = ready.final; typed = typed_open cs zs (d ∷ []) open_one }
+    ready_put : Ready cs zs (d ∷ [])
+    ready_put = record { store = ready.store; final = ready.final; typed = typed_open cs zs (d ∷ []) open_one }
 
-  part_typed_in : (x : Equation) → PartIn (slice_get cs) (slice_get (meta_types zs)) (d ∷ []) x → TypedEquation (slice_get cs) (slice_get (meta_types zs)) x
-  part_typed_in x p = let (c, l, q) = p in part_typed (slice_get cs) (slice_get (meta_types zs)) q (typed_listed (slice_get cs) (slice_get (meta_types zs)) c (d ∷ []) l ready_put.typed)
+    part_typed_in : (x : Equation) → PartIn (slice_get cs) (slice_get (meta_types zs)) (d ∷ []) x → TypedEquation (slice_get cs) (slice_get (meta_types zs)) x
+    part_typed_in x p = let (c, l, q) = p in part_typed (slice_get cs) (slice_get (meta_types zs)) q (typed_listed (slice_get cs) (slice_get (meta_types zs)) c (d ∷ []) l ready_put.typed)
 
-  pub may_advance : (rest now : List Equation) (step : Step) → now ≡ work ++ rest → StepIn (slice_get cs) (slice_get (meta_types zs)) (d ∷ []) rest step → MayAdvance cs zs step now
-  may_advance rest now step f h = record {
-    ready = record {
-      store = ready.store;
-      final = ready.final;
-      typed = each_listed (slice_get cs) (slice_get (meta_types zs)) now
-          (λ x l. ⊎_elim (λ k. typed_at x (below_here x k)) (λ k. part_typed_in x (h.parts x k)) (listed_cases work rest x (subst (Listed x) f l)));
-    };
-    equation = h.equation;
-    listed = subst (Listed h.equation) (sym f) (listed_behind h.equation work rest h.listed);
-    is_open = (parts_open cs zs (d ∷ []) (h.equation ∷ []) open_one (λ x l. subst (PartIn (slice_get cs) (slice_get (meta_types zs)) (d ∷ [])) (the_one l) (h.parts h.equation h.listed))).0;
-    step_of = h.step_of;
-  }
-
-  -- ---- flat equations
-
-  module _ (flat : FlatSystem cs zs ws) where
-    flat_one : FlatSystem cs zs (e ∷ [])
-    flat_one = record { store = flat.store; equations = (λ x l. flat.equations x (subst (λ y. Listed y ws) (the_one l) here_too)) }
-
-    flat_put : FlatSystem cs zs (d ∷ [])
-    flat_put = flat_is_put_in cs zs (e ∷ []) ready_one flat_one (d ∷ []) (λ s p c. (put s p c, tt))
-
-    pub flat_left : (more : List Equation) → Rest (slice_get cs) (slice_get (meta_types zs)) (d ∷ []) more → more ≡ []
-    flat_left more h = nothing_flat_is_left cs zs (d ∷ []) more ready_put flat_put h
-
-    pub flat_step : (rest now : List Equation) (step : Step) → now ≡ work ++ rest → StepIn (slice_get cs) (slice_get (meta_types zs)) (d ∷ []) rest step → FlatSystem cs zs now
-    flat_step rest now step f h = record {
-      store = flat.store;
-      equations = (λ x l. ⊎_elim (λ k. flat.equations x (below_here x k)) (λ k. parts.equations x k) (listed_cases work rest x (subst (Listed x) f l)));
+    pub may_advance : (rest now : List Equation) (step : Step) → now ≡ work ++ rest → StepIn (slice_get cs) (slice_get (meta_types zs)) (d ∷ []) rest step → MayAdvance cs zs step now
+    may_advance rest now step f h = record {
+      ready = record {
+        store = ready.store;
+        final = ready.final;
+        typed = each_listed (slice_get cs) (slice_get (meta_types zs)) now
+            (λ x l. ⊎_elim (λ k. typed_at x (below_here x k)) (λ k. part_typed_in x (h.parts x k)) (listed_cases work rest x (subst (Listed x) f l)));
+      };
+      equation = h.equation;
+      listed = subst (Listed h.equation) (sym f) (listed_behind h.equation work rest h.listed);
+      is_open = (parts_open cs zs (d ∷ []) (h.equation ∷ []) open_one (λ x l. subst (PartIn (slice_get cs) (slice_get (meta_types zs)) (d ∷ [])) (the_one l) (h.parts h.equation h.listed))).0;
+      step_of = h.step_of;
     }
-      where
-        parts : FlatSystem cs zs rest
-        parts = flat_parts cs zs (d ∷ []) rest ready_put flat_put h.parts
+
+    -- ---- flat equations
+
+    module _ (flat : FlatSystem cs zs ws) where
+      flat_one : FlatSystem cs zs (e ∷ [])
+      flat_one = record { store = flat.store; equations = (λ x l. flat.equations x (subst (λ y. Listed y ws) (the_one l) here_too)) }
+
+      flat_put : FlatSystem cs zs (d ∷ [])
+      flat_put = flat_is_put_in cs zs (e ∷ []) ready_one flat_one (d ∷ []) (λ s p c. (put s p c, tt))
+
+      pub flat_left : (more : List Equation) → Rest (slice_get cs) (slice_get (meta_types zs)) (d ∷ []) more → more ≡ []
+      flat_left more h = nothing_flat_is_left cs zs (d ∷ []) more ready_put flat_put h
+
+      pub flat_step : (rest now : List Equation) (step : Step) → now ≡ work ++ rest → StepIn (slice_get cs) (slice_get (meta_types zs)) (d ∷ []) rest step → FlatSystem cs zs now
+      flat_step rest now step f h = record {
+        store = flat.store;
+        equations = (λ x l. ⊎_elim (λ k. flat.equations x (below_here x k)) (λ k. parts.equations x k) (listed_cases work rest x (subst (Listed x) f l)));
+      }
+        where
+          parts : FlatSystem cs zs rest
+          parts = flat_parts cs zs (d ∷ []) rest ready_put flat_put h.parts
+
+-- What is put into a ready equation is typed.
+pub typed_once : (s : Stored) (e d : Equation) → IsReady s (e ∷ []) → IsPutIn (additions s) e d → IsTyped s (d ∷ [])
+typed_once s e d ready put = record {
+  typed = typed_open (constants s) (additions s) (d ∷ []) (put_in_is_open (constants s) (additions s) (e ∷ []) ready (d ∷ []) (λ v p c. (put v p c, tt)));
+  final = ready.final;
+}

@@ -25,7 +25,7 @@ pub fn search(alloc: Global, store: &Store, stack: Vec<Equation>) -> Result<Gath
     let mut work = stack;
     let mut left = Equations::new(alloc);
     while let Some(equation) = work.pop() {
-        match gather_one(alloc, store, &equation)? {
+        match gather_one(alloc, store, equation)? {
             Gathered::Left(more) => left = with_all(left, more)?,
             Gathered::Clash(clash) => return Ok(Gathered::Clash(clash)),
             Gathered::Step(step, rest) => return Ok(Gathered::Step(step, with_each(work, rest)?)),
@@ -35,12 +35,13 @@ pub fn search(alloc: Global, store: &Store, stack: Vec<Equation>) -> Result<Gath
 }
 
 /// Takes one equation apart, with all solutions put in.
-fn gather_one(alloc: Global, store: &Store, equation: &Equation) -> Result<Gathered, Want>
-    requires ready { IsReady store.now (plain_equation equation.now ∷ []) }
-    ensures once { IfOk result (λ g. GathersOnce store.now (plain_equation equation.now) g) }
+fn gather_one(alloc: Global, store: &Store, equation: Equation) -> Result<Gathered, Want>
+    requires ready { IsReady store.now (plain_equation equation ∷ []) }
+    ensures once { IfOk result (λ g. GathersOnce store.now (plain_equation equation) g) }
     ensures wanting { IfErr result IsWant }
 {
-    let put = put_in(alloc, store, equation)?;
+    let put = put_in(alloc, store, &equation)?;
+    drop(equation);
     let work = with_equation(Vec::new(alloc), put)?;
     gather(alloc, store, work)
 }
