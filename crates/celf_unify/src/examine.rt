@@ -20,8 +20,8 @@ use metavars::Store;
 use std::alloc::Global;
 use trace_equal::equal;
 
-/// What comes of an equation: its parts, which are none where its sides are joined; itself, where it is stuck; a clash;
-/// or a step that it allows.
+/// What comes of an equation: its parts, the last one first, which are none where its sides are joined; itself, where it
+/// is stuck; a clash; or a step that it allows.
 #[derive(Drop)]
 pub enum Examined {
     Parts(Vec<Equation>),

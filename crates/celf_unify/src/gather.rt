@@ -32,7 +32,7 @@ pub fn gather(alloc: Global, store: &Store, work: Vec<Equation>) -> Result<Gathe
     let mut left = Equations::new(alloc);
     while let Some(equation) = work.pop() {
         match examine(alloc, store, equation)? {
-            Examined::Parts(parts) => work = with_each(work, turned(alloc, parts)?)?,
+            Examined::Parts(parts) => work = with_each(work, parts)?,
             Examined::Left(equation) => left = with_left(left, equation)?,
             Examined::Clash(clash) => return Ok(Gathered::Clash(clash)),
             Examined::Step(step, equation) => {

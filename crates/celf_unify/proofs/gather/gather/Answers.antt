@@ -5,7 +5,6 @@ use Rattle.celf_constraints.specs.Equated.{plain_equation, equations_in}
 use Rattle.celf_unify.specs.Gathered.{consts_in, metas_in}
 use Rattle.celf_unify.specs.Examined.{Examines}
 use Rattle.celf_unify.proofs.Gathering.{popped, parts_smaller, one_smaller, last_typed, with_parts, with_left_over, clash_in, step_in, over_more, none_over}
-use Rattle.celf_unify.proofs.Turning.{smaller_turned, reduced_as}
 use Rattle.celf_unify.proofs.gather.gather.Goals as goal
 
 pub loop-equation-init : goal.loop-equation-init
@@ -18,11 +17,14 @@ pub examine-requires : goal.examine-requires
 examine-requires c = record { typed = record { typed = (last_typed (consts_in c.args.store.now) (metas_in c.args.store.now) (map plain_equation c.args.work.items) (equations_in c.loop-equation.left) (map plain_equation c.loop-equation.work.items) (map plain_equation c.pop.new.self.items) (plain_equation c.in-Some.equation) c.loop-equation.invariant.reduced (popped c.loop-equation.work.items c.pop.new.self.items c.in-Some.equation c.in-Some.ensures.items) c.requires.typed.typed, tt); final = c.requires.typed.final } }
 
 pub loop-equation-smaller-in-Parts : goal.loop-equation-smaller-in-Parts
-loop-equation-smaller-in-Parts c = parts_smaller (map plain_equation c.loop-equation.work.items) (map plain_equation c.pop.new.self.items) (map plain_equation c.in_ok-turned-in-Parts.field-0.items) (map plain_equation c.in_ok-work-in-Parts.work.items) (plain_equation c.in-Some.equation) (popped c.loop-equation.work.items c.pop.new.self.items c.in-Some.equation c.in-Some.ensures.items) c.in_ok-work-in-Parts.ensures (smaller_turned (map plain_equation c.in-Parts.parts.items) (map plain_equation c.in_ok-turned-in-Parts.field-0.items) _ c.in_ok-turned-in-Parts.ensures (subst (λ x. Examines c.args.store.now (plain_equation c.in-Some.equation) x) c.in-Parts.is c.in_ok-parts.ensures.examined).smaller)
+loop-equation-smaller-in-Parts c = parts_smaller (map plain_equation c.loop-equation.work.items) (map plain_equation c.pop.new.self.items) (map plain_equation c.in-Parts.parts.items) (map plain_equation c.in_ok-work-in-Parts.work.items) (plain_equation c.in-Some.equation)
+    (popped c.loop-equation.work.items c.pop.new.self.items c.in-Some.equation c.in-Some.ensures.items) c.in_ok-work-in-Parts.ensures (subst (λ x. Examines c.args.store.now (plain_equation c.in-Some.equation) x) c.in-Parts.is c.in_ok-parts.ensures.examined).smaller
 
 pub loop-equation-preserved-in-Parts : goal.loop-equation-preserved-in-Parts
 loop-equation-preserved-in-Parts c = record {
-  reduced = with_parts (consts_in c.args.store.now) (metas_in c.args.store.now) (map plain_equation c.args.work.items) (equations_in c.loop-equation.left) (map plain_equation c.loop-equation.work.items) (map plain_equation c.pop.new.self.items) (plain_equation c.in-Some.equation) c.loop-equation.invariant.reduced (popped c.loop-equation.work.items c.pop.new.self.items c.in-Some.equation c.in-Some.ensures.items) (map plain_equation c.in_ok-turned-in-Parts.field-0.items) (map plain_equation c.in_ok-work-in-Parts.work.items) c.in_ok-work-in-Parts.ensures (reduced_as (consts_in c.args.store.now) (metas_in c.args.store.now) (plain_equation c.in-Some.equation ∷ []) (map plain_equation c.in-Parts.parts.items) (map plain_equation c.in_ok-turned-in-Parts.field-0.items) c.in_ok-turned-in-Parts.ensures (subst (λ x. Examines c.args.store.now (plain_equation c.in-Some.equation) x) c.in-Parts.is c.in_ok-parts.ensures.examined).reduced);
+  reduced = with_parts (consts_in c.args.store.now) (metas_in c.args.store.now) (map plain_equation c.args.work.items) (equations_in c.loop-equation.left) (map plain_equation c.loop-equation.work.items) (map plain_equation c.pop.new.self.items) (plain_equation c.in-Some.equation)
+      c.loop-equation.invariant.reduced (popped c.loop-equation.work.items c.pop.new.self.items c.in-Some.equation c.in-Some.ensures.items) (map plain_equation c.in-Parts.parts.items) (map plain_equation c.in_ok-work-in-Parts.work.items) c.in_ok-work-in-Parts.ensures
+      (subst (λ x. Examines c.args.store.now (plain_equation c.in-Some.equation) x) c.in-Parts.is c.in_ok-parts.ensures.examined).reduced;
   over = c.loop-equation.invariant.over;
 }
 
