@@ -1,7 +1,7 @@
 //! What unification answers, row by row. Objects and types are written as in `texts.rt`.
 //!
-//! The constants are z : nat, s : nat -> nat, k : {nat} -> nat and m : nat -> {nat}, as `a` to `d`; two locals of the
-//! type nat are around each equation, x1 as 1 and x2 as 0, and each equation is one at nat.
+//! The constants are z : nat, s : nat -> nat, k : {nat} -> nat, m : nat -> {nat} and p : nat -> nat -> nat, as `a` to
+//! `e`; two locals of the type nat are around each equation, x1 as 1 and x2 as 0, and each equation is one at nat.
 
 use crate::ready::solved;
 use crate::texts::{object, simple_type};
@@ -17,7 +17,8 @@ use std::alloc::Global;
 /// In order: the rows of the papers; the left one of two metavariables is solved by the right one; a metavariable is
 /// solved by a side that is no pattern; joined sides are dropped first; an argument of the type `<T>` is passed over,
 /// and kept where another one is taken; the order of the equations decides what is solved; what is left twice is listed
-/// twice; a foreign local in a monadic object is no clash; other heads clash.
+/// twice; a foreign local in a monadic object is no clash; other heads clash; of two arguments the first one comes first,
+/// where both clash, and where the first one solves what the second one mentions.
 const ROWS: &str = "\
 aa! ?1!=b1! S b0!L
 aa! ?a!=ba! L?a!=ba! _
@@ -36,7 +37,9 @@ aa!,a ?a!=*,*=?1! L?a!=?1! _,?a!
 aa! ?a!=ba!,?a!=ba! L?a!=ba!,?a!=ba! _
 a ?=c1D! L?=c1D! _
 a b1!=b0! #1=0 _
-a b1!=a #b1!=a _";
+a b1!=a #b1!=a _
+a e1!a!=e0!ba!! #1=0 _
+a e?!?!=ea!ba!! #a=ba! a";
 
 /// Whether both objects are those of a text, joined by `=`.
 fn are_sides(alloc: Global, left: &Obj, right: &Obj, text: &str) -> Option<bool> {
@@ -121,7 +124,7 @@ fn equations(alloc: Global, text: &str) -> Option<Equations> {
 
 fn holds(alloc: Global, row: &str) -> Option<bool> {
     let mut fields = row.split(' ');
-    let consts = types(alloc, "a,aa!,aMa!,aaM!")?;
+    let consts = types(alloc, "a,aa!,aMa!,aaM!,aaa!!")?;
     let metas = types(alloc, fields.next()?)?;
     let given = equations(alloc, fields.next()?)?;
     let outcome = solved(alloc, consts.as_slice(), metas.as_slice(), &given)?;
@@ -137,5 +140,5 @@ fn equations_are_solved(rt: HostRuntime) {
     for row in ROWS.lines() {
         assert!(rt; holds(rt.alloc(), row) == Some(true), "{row}");
     }
-    assert_eq!(rt; ROWS.lines().count(), 18);
+    assert_eq!(rt; ROWS.lines().count(), 20);
 }
