@@ -71,7 +71,7 @@ listed_cases [] k e m = inr m
 listed_cases (d ∷ l) k e m = later_case m (λ n. listed_cases l k e n)
 
 -- two equations after one assignment are one
-one_under : (s : Instantiation) (e c d : Equation) → EquationUnder s e c → EquationUnder s e d → c ≡ d
+pub one_under : (s : Instantiation) (e c d : Equation) → EquationUnder s e c → EquationUnder s e d → c ≡ d
 one_under s e c d u v = whole (u.locals ∙ sym v.locals) (determined u.left v.left) (determined u.right v.right) (u.type ∙ sym v.type)
   where
     whole : c.locals ≡ d.locals → c.left ≡ d.left → c.right ≡ d.right → c.type ≡ d.type → c ≡ d

@@ -8,12 +8,12 @@ use Rattle.pattern_laws.specs.Instantiations.{Types}
 use Rattle.pattern_laws.specs.Equations.{Equation, Listed, TypedEquations}
 use Rattle.reach_laws.specs.Rest.{IsAssignment, PartOf, EachUnder, Rest}
 use Rattle.reach_laws.proofs.Rests.{typed_listed}
-use Rattle.answer_laws.proofs.InTurn.{listed_under, listed_back}
+use Rattle.answer_laws.proofs.InTurn.{listed_under, listed_back, one_under}
 use Rattle.reach_laws.specs.Unified.{Unified}
 use Rattle.flat_systems.specs.Systems.{FlatStore, FlatSystem}
 use Rattle.flat_systems.proofs.Parts.{flat_grows}
 use Rattle.solver_laws.specs.Solving.{Solving, problem_of, store_weight, Ready, Working}
-use Rattle.solver_laws.proofs.Hands.{result_under, one_under}
+use Rattle.solver_laws.proofs.Hands.{result_under}
 use Rattle.solver_laws.proofs.Works.{solving_closed, work_starts, work_begins, work_reduces, work_ends}
 use Rattle.celf_constraints.specs.declared.equation.Equation.{Equation as Declared}
 use Rattle.celf_constraints.specs.declared.equation.Equations.{Equations}

@@ -1,34 +1,30 @@
 -- The loop that looks at one equation after another, with all solutions put in.
-use Rattle.std.specs.Prelude.{◌≡◌, List, [], ◌∷◌, ◌++◌, map, refl}
+use Rattle.std.specs.Prelude.{◌≡◌, List, [], ◌∷◌, ◌++◌}
 use Rattle.std.proofs.Common.{sym, subst, inl, inr, ⊎_elim}
 use Rattle.std.specs.List.{slice_get}
 use Rattle.clf_syntax.specs.TypeTree.{SimpleType}
 use Rattle.subst_laws.specs.Environments.{Instantiation}
-use Rattle.store_laws.specs.Additions.{Addition, meta_types, given}
+use Rattle.store_laws.specs.Additions.{Addition, meta_types}
 use Rattle.pattern_laws.specs.Instantiations.{Types}
-use Rattle.pattern_laws.specs.Equations.{Equation, Listed, listed_here, TypedEquation, TypedEquations}
-use Rattle.reach_laws.specs.Rest.{ComesDown, down_listed, EquationUnder, Rest, part_itself}
+use Rattle.pattern_laws.specs.Equations.{Equation, Listed, listed_here, TypedEquation}
+use Rattle.reach_laws.specs.Rest.{ComesDown, down_listed, EquationUnder, Rest}
 use Rattle.reach_laws.proofs.Down.{down_further, listed_more, listed_behind}
 use Rattle.reach_laws.proofs.PartsUnder.{part_typed}
 use Rattle.reach_laws.proofs.Rests.{typed_listed}
-use Rattle.answer_laws.proofs.InTurn.{listed_cases}
+use Rattle.answer_laws.proofs.InTurn.{listed_cases, one_under}
 use Rattle.flat_systems.specs.Systems.{FlatSystem}
 use Rattle.flat_systems.proofs.Wholes.{flat_is_put_in}
 use Rattle.flat_systems.proofs.Parts.{flat_parts}
 use Rattle.flat_systems.proofs.Left.{nothing_flat_is_left}
-use Rattle.solver_laws.specs.Solving.{unsolved_types, Ready, Open}
-use Rattle.solver_laws.specs.Reduced.{LeftOver}
+use Rattle.solver_laws.specs.Solving.{Ready, Open}
 use Rattle.solver_laws.proofs.Allowed.{put_in_is_open}
-use Rattle.solver_laws.proofs.Hands.{one_under}
-use Rattle.celf_constraints.specs.Equated.{plain_equation, equations_in}
 use Rattle.metavars.specs.Stored.{Stored, constants, additions}
 use Rattle.celf_unify.specs.declared.answer.Clash.{Clash}
 use Rattle.celf_unify.specs.declared.step.Step.{Step}
-use Rattle.celf_unify.specs.declared.gather.Gathered.{Gathered}
 use Rattle.celf_unify.specs.declared.gather.Gathered.TheVariants as gathered
 use Rattle.celf_unify.specs.Steps.{IsPutIn}
-use Rattle.celf_unify.specs.Gathered.{IsTyped, PartIn, ClashIn, StepIn, GathersOver}
-use Rattle.celf_unify.specs.Passes.{IsReady, MayAdvance, FlatStands}
+use Rattle.celf_unify.specs.Gathered.{IsTyped, PartIn, ClashIn, StepIn}
+use Rattle.celf_unify.specs.Passes.{IsReady, MayAdvance}
 use Rattle.celf_unify.specs.Searched.{PartAfter, LeftAfter, ClashAfter, StepAfter, SoFar}
 use Rattle.celf_unify.proofs.Stepping.{the_one, typed_open, parts_open, each_listed}
 

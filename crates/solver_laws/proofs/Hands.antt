@@ -5,7 +5,6 @@ use Rattle.clf_syntax.specs.Tree.{PlainObject, PlainNeutral}
 use Rattle.clf_syntax.specs.TypeTree.{SimpleType}
 use Rattle.clf_syntax.specs.Simple.{Assignment, SimplyTyped}
 use Rattle.hered_subst.specs.Substitution.{under}
-use Rattle.hered_subst.proofs.Determined.{determined}
 use Rattle.subst_laws.specs.Environments.{Instantiation, instant, ComposedInstantiation}
 use Rattle.subst_laws.proofs.Environs.{instant_is_environment}
 use Rattle.subst_laws.proofs.Results.{composition}
@@ -21,7 +20,7 @@ use Rattle.unify_laws.proofs.Preserved.{equations_more}
 use Rattle.reach_laws.specs.Rest.{IsAssignment, PartOf, part_itself, part_body, part_left, part_right, part_argument, EquationUnder}
 use Rattle.reach_laws.proofs.PartsUnder.{part_typed, parts_stay, some_result}
 use Rattle.reach_laws.proofs.Rests.{typed_listed, typed_under, part_solved, each_solved, put_in_types}
-use Rattle.answer_laws.proofs.InTurn.{part_of_part}
+use Rattle.answer_laws.proofs.InTurn.{part_of_part, one_under}
 use Rattle.solver_laws.specs.Solving.{Solving, InHand, Held, unsolved_types}
 use Rattle.solver_laws.proofs.Grown.{part_grown}
 use Rattle.solver_laws.proofs.Open.{open_typed, open_silent, equation_open, put_in_twice}
@@ -99,16 +98,10 @@ under_absorbed constants metas s v first second both e d u t i k = record {
   right = absorbed constants metas s v first second both e.locals e.right d.right u.right e.type t.1 i.right (subst (λ ls. Instantiated (length ls) v d.right u.right) i.locals k.right);
 }
 
--- An assignment makes one equation of each.
+-- An assignment makes an equation of each.
 pub result_under : (constants metas : Types) (v : Instantiation) → IsAssignment constants metas v → (e : Equation) → TypedEquation constants metas e → (d : Equation) × EquationUnder v e d
 result_under constants metas v f e t = let (x, i, _) = some_result constants metas v f e.locals e.left e.type t.0 in let (y, k, _) = some_result constants metas v f e.locals e.right e.type t.1 in
     (record { locals = e.locals; left = x; right = y; type = e.type }, record { locals = refl; type = refl; left = i; right = k })
-
-same_equation : (d u : Equation) → d.locals ≡ u.locals → d.left ≡ u.left → d.right ≡ u.right → d.type ≡ u.type → d ≡ u
-same_equation d u a b c e = rw (a, b, c, e) refl
-
-pub one_under : (s : Instantiation) (e d u : Equation) → EquationUnder s e d → EquationUnder s e u → d ≡ u
-one_under s e d u i k = same_equation d u (i.locals ∙ sym k.locals) (determined i.left k.left) (determined i.right k.right) (i.type ∙ sym k.type)
 
 -- What is in hand goes on with more solutions.
 hand_moves : (constants : Types) (start now then : Problem) (s v : Instantiation) → Solving constants start now s → Solving constants start then v → Grows now.metas then.metas

@@ -1,4 +1,4 @@
-use Rattle.std.proofs.Common.{map, Result, Ok, Err}
+use Rattle.std.proofs.Common.{map}
 use Rattle.celf_constraints.specs.Equated.{plain_equation}
 use Rattle.celf_unify.specs.Searched.{Searches, FlatSearches}
 use Rattle.metavars.specs.Stored.{constants, additions}

@@ -8,8 +8,10 @@ use Rattle.celf_unify.proofs.Passing.{stack_ready, pass_left, pass_clash, pass_w
 use Rattle.celf_unify.proofs.pass.one_pass.Goals as goal
 
 pub search-requires : goal.search-requires
-search-requires c = record { ready = stack_ready c.args.store.now (equations_in c.args.equations.now) (map plain_equation c.in_ok-stack.stack.items) c.requires.ready
-    (c.in_ok-stack.ensures ∙ ap reverse c.as_slice.ensures) }
+search-requires c = record {
+  ready = stack_ready c.args.store.now (equations_in c.args.equations.now) (map plain_equation c.in_ok-stack.stack.items) c.requires.ready
+      (c.in_ok-stack.ensures ∙ ap reverse c.as_slice.ensures);
+}
 
 pub after-requires : goal.after-requires
 after-requires c = record { may = subst (λ g. MayRun (constants c.args.store.now) (additions c.args.store.now) g) c.in-Step.is c.in_ok-left.ensures.may }

@@ -7,8 +7,10 @@ use Rattle.celf_unify.proofs.Searching.{typed_once}
 use Rattle.celf_unify.proofs.search.gather_one.Goals as goal
 
 pub gather-requires : goal.gather-requires
-gather-requires c = record { typed = subst (λ l. IsTyped c.args.store.now l) (sym (c.in_ok-work.ensures ∙ ap (λ xs. map plain_equation xs ++ plain_equation c.in_ok-put.put ∷ []) c.new.ensures.items))
-    (typed_once c.args.store.now (plain_equation c.args.equation) (plain_equation c.in_ok-put.put) c.requires.ready c.in_ok-put.ensures.put_in) }
+gather-requires c = record {
+  typed = subst (λ l. IsTyped c.args.store.now l) (sym (c.in_ok-work.ensures ∙ ap (λ xs. map plain_equation xs ++ plain_equation c.in_ok-put.put ∷ []) c.new.ensures.items))
+      (typed_once c.args.store.now (plain_equation c.args.equation) (plain_equation c.in_ok-put.put) c.requires.ready c.in_ok-put.ensures.put_in);
+}
 
 pub returns-clause-once : goal.returns-clause-once
 returns-clause-once c = ok_more

@@ -1,5 +1,4 @@
-use Rattle.std.proofs.Common.{map, ap, sym, subst, ◌∙◌, ◌++◌, [], ◌∷◌, refl}
-use Rattle.subst_laws.specs.Environments.{Instantiation}
+use Rattle.std.proofs.Common.{map, ap, sym, subst, ◌∙◌, ◌++◌, refl}
 use Rattle.celf_constraints.specs.Equated.{plain_equation, equations_in}
 use Rattle.metavars.specs.Stored.{constants, additions}
 use Rattle.celf_unify.specs.Gathered.{consts_in, metas_in}
