@@ -6,8 +6,8 @@ pub fn printed_lines_read_back()
     ensures { PrintedLinesReadBack }
 {}
 
-/// Over a well-formed signature each task has an allowed reply, where nothing is to be found for what is not written: so
-/// what `run` promises of such a text is not empty.
+/// Over a well-formed signature each task has an allowed reply, where nothing is to be found for what is not written:
+/// so what `run` promises of such a text is not empty.
 pub fn each_task_has_a_reply()
     ensures { EachTaskHasReply }
 {}
