@@ -6,13 +6,15 @@ pub fn printed_lines_read_back()
     ensures { PrintedLinesReadBack }
 {}
 
-/// Over a well-formed signature each task has an allowed reply: so what `run` promises is never empty.
+/// Over a well-formed signature each task has an allowed reply, where nothing is to be found for what is not written:
+/// so what `run` promises of such a text is not empty.
 pub fn each_task_has_a_reply()
     ensures { EachTaskHasReply }
 {}
 
-/// Over a well-formed signature a task has one reply. What comes next in a text is one task, and none where nothing but
-/// blanks and comments is left. So a text has one transcript.
+/// Over a well-formed signature a task has one reply, where nothing is to be found for what is not written. What comes
+/// next in a text is one task, and none where nothing but blanks and comments is left. So a text has one transcript,
+/// where it has one in which nothing is to be found.
 pub fn one_transcript()
     ensures reply { ReplyIsOne }
     ensures next { NextIsOne }

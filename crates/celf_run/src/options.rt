@@ -2,7 +2,7 @@
 ghost use Rattle.std.specs.Prelude.{◌≡◌};
 ghost use Rattle.celf_run.specs.Options.{default_options};
 
-/// What the command line may ask for beside the file.
+/// What the command line may ask for beside the file. No answer depends on it, as long as queries and traces have none.
 #[derive(Clone, Copy, Debug, PartialEq, Eq)]
 pub struct Options {
     /// How deep a search goes.
